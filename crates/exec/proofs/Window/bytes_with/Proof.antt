@@ -1,0 +1,10 @@
+-- `exec::Window::bytes_with` meets its contract.
+use Rattle.exec.proofs.Product.{below}
+use borrow.Author.Needs.{needs}
+use Rattle.exec.proofs.Window.bytes_with.Statement.{statement}
+use Rattle.exec.proofs.Window.bytes_with.Tie as tie
+
+pub bytes-with-spec : {M : Type 1} → statement M
+bytes-with-spec =
+    tie.close
+    (tie.spec (search needs) (search needs) (search needs) (search needs) (λ c. record { fits = below 32 (search needs) (search needs) }) (λ c. search needs) (λ c. simp (c .before .enum-told2 .given .1)))
