@@ -25,12 +25,12 @@ abbrev pub framesWindow : ℕ → Window
 framesWindow size = record { unit = Frames; size = size }
 
 -- Bytes costs the length, Frames costs 1
-abbrev pub cost : Units.Unit → ℕ → ℕ
+unfoldable pub cost : Units.Unit → ℕ → ℕ
 cost Bytes length = length
 cost Frames length = 1
 
 -- the bytes that a window of so many units holds with chunks of so many bytes
-abbrev pub bytesWith : Units.Unit → (size chunk : ℕ) → ℕ
+unfoldable pub bytesWith : Units.Unit → (size chunk : ℕ) → ℕ
 bytesWith Bytes size chunk = size
 bytesWith Frames size chunk = size * chunk
 

@@ -146,13 +146,13 @@ impl Window {
     }
 
     // The most data bytes that the window holds with chunks of `chunk` bytes.
-    pub fn bytes_with(self, chunk: u32) -> u64
+    pub fn bytes_with(self, chunk: u32) -> usize
         ensures { λ r. ⌜ r ≡ bytesWith (self .unit) (self .size) chunk ⌝ }
     {
         let unit = self.unit;
         match unit {
-            Unit::Bytes => self.size as u64,
-            Unit::Frames => (self.size as u64) * (chunk as u64),
+            Unit::Bytes => self.size as usize,
+            Unit::Frames => (self.size as usize) * (chunk as usize),
         }
     }
 }
@@ -256,7 +256,7 @@ impl Limits {
     }
 
     // The most data bytes that the input's window holds.
-    pub fn input_bytes(self) -> u64
+    pub fn input_bytes(self) -> usize
         ensures { λ r. ⌜ r ≡ inputBytes self ⌝ }
     {
         let input = self.input;
@@ -453,6 +453,18 @@ pub enum Receipt {
     Applied,
     Stale,
     Late,
+}
+
+// What a peer's message did, or why it is refused: the Rust's Result<Receipt, Violation>.
+pub enum Received {
+    Receipt(Receipt),
+    Refused(Refusal),
+}
+
+// No result, or why there is none: the Rust's Result<(), Violation>.
+pub enum Reply {
+    Ok,
+    Refused(Refusal),
 }
 
 // Why a call is refused: the Rust's Violation, then what the stores, the state, the records and the card add. A refused call
