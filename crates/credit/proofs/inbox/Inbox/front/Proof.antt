@@ -1,0 +1,9 @@
+-- `credit::inbox::Inbox::front` meets its contract.
+use Rattle.credit.proofs.Ways.{front-is}
+use Rattle.credit.specs.Inbox.{front}
+use borrow.Author.Needs.{needs}
+use Rattle.credit.proofs.inbox.Inbox.front.Statement.{statement}
+use Rattle.credit.proofs.inbox.Inbox.front.Tie as tie
+
+pub front-spec : {M : Type 1} → statement M
+front-spec = tie.close (tie.spec (search needs) (search needs) (search needs) (search needs) (λ c. front-is _ _ _ _ _ (c .before .input-bytes .ensures) (c .pending .ensures)))

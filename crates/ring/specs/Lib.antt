@@ -1,0 +1,8 @@
+-- What the contracts of `ring` cite (Runs, Ring, Frames), the laws that callers use (Lent, RingLaws, FrameLaws), and small examples.
+pub mod Runs
+pub mod Lent
+pub mod Ring
+pub mod RingLaws
+pub mod Frames
+pub mod FrameLaws
+pub mod Edges
