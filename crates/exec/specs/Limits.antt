@@ -65,7 +65,9 @@ outputPool false Output = PoolIndex.Refused Refusal.Pool
 abbrev pub poolOf : Limits → Stream → ℕ
 poolOf l x = cond (l .shared) 0 (index x)
 
--- a data message is neither empty nor longer than a chunk
+-- a data message that is empty or longer than a chunk is refused
+abbrev pub offChunk : Limits → ℕ → Bool
+offChunk l length = eqb length 0 || ltb (l .chunk) length
+
 unfoldable pub checkChunk : Limits → ℕ → ChunkLength
-checkChunk l length =
-    cond (eqb length 0 || ltb (l .chunk) length) (ChunkLength.Refused Refusal.Chunk) (ChunkLength.Is length)
+checkChunk l length = cond (offChunk l length) (ChunkLength.Refused Refusal.Chunk) (ChunkLength.Is length)

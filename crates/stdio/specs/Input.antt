@@ -1,0 +1,229 @@
+-- The workload's input: what each call does to it and to the stores.
+use Prim.Native.Nat.{ℕ, _+_, _-_, _^_, _≤_, _<_, min}
+use mathlib.Core.Path.{_≡_}
+use mathlib.Core.Bool.{Bool, true, false, cond, not, _&&_, _||_}
+use mathlib.Core.List.{List, []}
+use lib.Dec.{ltb, eqb}
+use lib.ListN.{length}
+use Rattle.exec.specs.declared.Limits.{Limits}
+use Rattle.exec.specs.declared.Receipt.the-variants.{Applied, Late}
+use Rattle.exec.specs.declared.Received.{Received}
+use Rattle.exec.specs.declared.Received.the-variants.{Receipt, Refused}
+use Rattle.exec.specs.declared.Refusal.the-variants as Refusal
+use Rattle.exec.specs.Limits.{cost, inputBytes, offChunk}
+use Rattle.ring.specs.Ring.{ringWrite}
+use Rattle.credit.specs.declared.inbox.Inbox.{Inbox}
+use Rattle.credit.specs.declared.receiver.Granted.{Granted}
+use Rattle.credit.specs.Inbox.{newInbox, inboxBase, pushed, lengthsPushed, front, poppedBox, popFreed, lengthsPopped}
+use Rattle.credit.specs.Need.{byteNeed, lengthNeed}
+use Rattle.credit.specs.RangeLaws.{InRange}
+use Rattle.credit.specs.Receiver.{newGranted, opened, freed}
+use Rattle.stdio.specs.declared.input.Crediting.{Crediting}
+use Rattle.stdio.specs.declared.input.Input.{Input}
+use Rattle.stdio.specs.declared.input.Receiving.{Receiving}
+
+abbrev pub newInput : ℕ → Input
+newInput size = record {
+  inbox = newInbox;
+  window = newGranted size;
+  «peer_ended» = false;
+  closed = false;
+  «close_requested» = false;
+  «closed_message» = false;
+}
+
+-- ---- credit of the input
+
+abbrev pub inputAccepts : Input → Bool
+inputAccepts i = not (i .closed) && not (i .«peer_ended»)
+
+abbrev pub canGrant : Input → Bool
+canGrant i = inputAccepts i && ltb 0 (i .window .returnable)
+
+abbrev pub grantedIn : Input → Input
+grantedIn i = record {
+  inbox = i .inbox;
+  window = opened (i .window);
+  «peer_ended» = i .«peer_ended»;
+  closed = i .closed;
+  «close_requested» = i .«close_requested»;
+  «closed_message» = i .«closed_message»;
+}
+
+abbrev pub takeCredit : Input → Crediting
+takeCredit i = record { input = grantedIn i; units = i .window .returnable }
+
+-- ---- closing
+
+-- other than by the runner's request: what waits is dropped, and the peer told unless it ended the input or is gone
+abbrev pub closeInput : Input → Bool → Input
+closeInput i detached = cond (i .closed) i (record {
+  inbox = newInbox;
+  window = i .window;
+  «peer_ended» = i .«peer_ended»;
+  closed = true;
+  «close_requested» = i .«close_requested»;
+  «closed_message» = not (i .«peer_ended») && not detached;
+})
+
+-- by the runner's request, once the peer ended the input and the workload took every byte
+abbrev pub isTaken : Input → Bool
+isTaken i = (i .«peer_ended» && not (i .closed)) && eqb (i .inbox .length) 0
+
+abbrev pub closeWhenTaken : Input → Input
+closeWhenTaken i = record {
+  inbox = i .inbox;
+  window = i .window;
+  «peer_ended» = i .«peer_ended»;
+  closed = isTaken i || i .closed;
+  «close_requested» = isTaken i || i .«close_requested»;
+  «closed_message» = i .«closed_message»;
+}
+
+-- ---- bytes from the peer: Ended, Chunk, Window, then closed, where the charge stands and the answer is Late
+
+unfoldable pub receiveAnswer : Limits → Input → ℕ → Received
+receiveAnswer l i n =
+    cond (i .«peer_ended») (Refused Refusal.Ended)
+    (cond (offChunk l n) (Refused Refusal.Chunk)
+    (cond (ltb (i .window .open) (cost (l .input .unit) n)) (Refused Refusal.Window)
+    (cond (i .closed) (Receipt Late) (Receipt Applied))))
+
+-- the message is charged
+abbrev pub isPaid : Limits → Input → ℕ → Bool
+isPaid l i n = not ((i .«peer_ended» || offChunk l n) || ltb (i .window .open) (cost (l .input .unit) n))
+
+pub record Paid (l : Limits) (i : Input) (n : ℕ) : Type 0 where
+  pub goes-on : i .«peer_ended» ≡ false
+  pub chunk : offChunk l n ≡ false
+  pub window : ltb (i .window .open) (cost (l .input .unit) n) ≡ false
+
+-- and kept
+abbrev pub isKept : Limits → Input → ℕ → Bool
+isKept l i n = isPaid l i n && not (i .closed)
+
+unfoldable pub receiveInput : Limits → Input → ℕ → Input
+receiveInput l i n = record {
+  inbox = cond (isKept l i n) (pushed (l .input .unit) n (i .inbox)) (i .inbox);
+  window = record {
+    «open» = cond (isPaid l i n) (i .window .open - cost (l .input .unit) n) (i .window .open);
+    returnable = i .window .returnable;
+  };
+  «peer_ended» = i .«peer_ended»;
+  closed = i .closed;
+  «close_requested» = i .«close_requested»;
+  «closed_message» = i .«closed_message»;
+}
+
+unfoldable pub receiveBytes : Limits → Input → (bytes store : List ℕ) → List ℕ
+receiveBytes l i bytes store =
+    cond (isKept l i (length bytes))
+    (ringWrite (inboxBase l) (inputBytes l) (i .inbox .start) (i .inbox .length) bytes (length bytes) store)
+    store
+
+unfoldable pub receiveLengths : Limits → Input → ℕ → List ℕ → List ℕ
+receiveLengths l i n lengths =
+    cond (isKept l i n) (lengthsPushed (l .input .unit) (l .input .size) n (i .inbox) lengths) lengths
+
+-- what is left: the input with its answer, and both stores
+pub record ReceiveAfter : Type 0 where
+  pub receiving : Receiving
+  pub bytes : List ℕ
+  pub lengths : List ℕ
+
+abbrev pub receiveAfter : Receiving → (store lengths : List ℕ) → ReceiveAfter
+receiveAfter r store lengths = record { receiving = r; bytes = store; lengths = lengths }
+
+abbrev pub receive : Limits → Input → (bytes store lengths : List ℕ) → ReceiveAfter
+receive l i bytes store lengths =
+    receiveAfter
+    (record { input = receiveInput l i (length bytes); received = receiveAnswer l i (length bytes) })
+    (receiveBytes l i bytes store)
+    (receiveLengths l i (length bytes) lengths)
+
+-- the input is in range, and the stores do
+pub record Lent (l : Limits) (i : Input) (store lengths : List ℕ) : Type 0 where
+  pub range : InRange l (i .window) (i .inbox)
+  pub bytes : byteNeed l ≤ length store
+  pub slots : lengthNeed l ≤ length lengths
+
+-- ---- the peer's end of the input
+
+abbrev pub peerEnds : Input → Input
+peerEnds i = record {
+  inbox = i .inbox;
+  window = i .window;
+  «peer_ended» = true;
+  closed = i .closed;
+  «close_requested» = i .«close_requested»;
+  «closed_message» = i .«closed_message»;
+}
+
+unfoldable pub endAnswer : Input → Received
+endAnswer i = cond (i .«peer_ended») (Refused Refusal.Ended) (cond (i .closed) (Receipt Late) (Receipt Applied))
+
+unfoldable pub endInput : Input → Input
+endInput i = cond (i .«peer_ended») i (closeWhenTaken (peerEnds i))
+
+abbrev pub inputEnded : Input → Receiving
+inputEnded i = record { input = endInput i; received = endAnswer i }
+
+-- ---- bytes to the workload
+
+unfoldable pub pendingInput : Limits → Input → List ℕ → List ℕ
+pendingInput l i store = cond (i .closed) [] (front l (i .inbox) store)
+
+abbrev pub popIn : Limits → ℕ → List ℕ → Input → Input
+popIn l count lengths i = record {
+  inbox = poppedBox l (min count (i .inbox .length)) (popFreed l (i .inbox) count lengths) (i .inbox);
+  window = freed (i .window) (popFreed l (i .inbox) count lengths);
+  «peer_ended» = i .«peer_ended»;
+  closed = i .closed;
+  «close_requested» = i .«close_requested»;
+  «closed_message» = i .«closed_message»;
+}
+
+unfoldable pub writtenInput : Limits → Input → ℕ → List ℕ → Input
+writtenInput l i count lengths = cond (i .closed) i (closeWhenTaken (popIn l count lengths i))
+
+unfoldable pub writtenLengths : Limits → Input → ℕ → List ℕ → List ℕ
+writtenLengths l i count lengths =
+    cond (i .closed) lengths
+    (lengthsPopped (l .input .unit) (l .input .size) (min count (i .inbox .length)) (i .inbox) lengths)
+
+-- what is left: the input, and the length store
+pub record WrittenAfter : Type 0 where
+  pub input : Input
+  pub lengths : List ℕ
+
+abbrev pub writtenAfter : Input → List ℕ → WrittenAfter
+writtenAfter i lengths = record { input = i; lengths = lengths }
+
+abbrev pub written : Limits → Input → ℕ → List ℕ → WrittenAfter
+written l i count lengths = writtenAfter (writtenInput l i count lengths) (writtenLengths l i count lengths)
+
+pub record Writable (l : Limits) (i : Input) (lengths : List ℕ) : Type 0 where
+  pub range : InRange l (i .window) (i .inbox)
+  pub slots : lengthNeed l ≤ length lengths
+
+-- ---- what was returned
+
+abbrev pub messageTold : Input → Input
+messageTold i = record {
+  inbox = i .inbox;
+  window = i .window;
+  «peer_ended» = i .«peer_ended»;
+  closed = i .closed;
+  «close_requested» = i .«close_requested»;
+  «closed_message» = false;
+}
+
+abbrev pub closeAsked : Input → Input
+closeAsked i = record {
+  inbox = i .inbox;
+  window = i .window;
+  «peer_ended» = i .«peer_ended»;
+  closed = i .closed;
+  «close_requested» = false;
+  «closed_message» = i .«closed_message»;
+}

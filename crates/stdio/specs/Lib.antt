@@ -1,0 +1,2 @@
+-- What the contracts of `stdio` cite, and the laws that callers use.
+pub mod Input
