@@ -1,2 +1,4 @@
 -- What the contracts of `stdio` cite, and the laws that callers use.
 pub mod Input
+pub mod Output
+pub mod Outputs

@@ -1,2 +1,5 @@
-// The streams of a workload, as the runner reads, sends, receives and writes them (runner.rs of the Rust, Output and Input).
+// The streams of a workload, as the runner holds them: what each call does to one of them, by value, with the bytes in lent
+// stores.
 pub mod input;
+pub mod output;
+pub mod outputs;

@@ -1,0 +1,14 @@
+-- `stdio::outputs::both_delivered` meets its contract.
+use borrow.Author.Needs.{needs}
+use Rattle.stdio.proofs.outputs.both_delivered.Statement.{statement}
+use Rattle.stdio.proofs.outputs.both_delivered.Tie as tie
+
+pub both-delivered-spec : {M : Type 1} → statement M
+both-delivered-spec =
+    tie.close
+    (tie.spec
+    (search needs)
+    (search needs)
+    (λ c κs. search needs)
+    (λ c κs. search needs)
+    (λ c. simp (c .is-delivered2 .ensures, c .before .is-delivered .ensures)))

@@ -1,0 +1,290 @@
+-- One output stream: what each call does to it, to its ring in the byte store, and to the buffer that it sends to.
+use Prim.Native.Nat.{ℕ, _+_, _-_, _≤_, _<_, min}
+use mathlib.Core.Path.{_≡_, refl}
+use mathlib.Core.Bool.{Bool, true, false, cond, not, _&&_, _||_}
+use mathlib.Core.List.{List, _++_}
+use native.Mathlib.Omega.{arith}
+use borrow.Author.Tests.{leb-true, ltb-true, eqb-true}
+use lib.Dec.{leb, ltb, eqb}
+use lib.ListN.{length, drop}
+use Rattle.credit.specs.Range.{ringFits}
+use Rattle.ring.specs.Ring.{wrap, ringRead, ringWrite}
+use Rattle.stdio.specs.declared.output.Intake.{Intake}
+use Rattle.stdio.specs.declared.output.Output.{Output}
+
+abbrev pub newOutput : Output
+newOutput = record {
+  start = 0;
+  queued = 0;
+  closed = false;
+  «hung_up» = false;
+  ended = false;
+  discarding = false;
+  «discard_requested» = false;
+  truncated = false;
+}
+
+abbrev pub isDone : Output → Bool
+isDone o = o .closed && not (ltb 0 (o .queued))
+
+-- a process may hold it open
+abbrev pub isHeld : Output → Bool
+isHeld o = not (o .closed) && not (o .«hung_up»)
+
+-- done, with its end told or nobody to tell
+abbrev pub isDelivered : Bool → Output → Bool
+isDelivered detached o = isDone o && (o .ended || detached)
+
+-- ---- the runner's own changes
+
+-- the queue dropped, and the rest of the stream to be discarded if it is open
+abbrev pub graceEnded : Output → Output
+graceEnded o = record {
+  start = 0;
+  queued = 0;
+  closed = o .closed;
+  «hung_up» = o .«hung_up»;
+  ended = o .ended;
+  discarding = o .discarding || not (o .closed);
+  «discard_requested» = (not (o .closed) && not (o .discarding)) || o .«discard_requested»;
+  truncated = ltb 0 (o .queued) || o .truncated;
+}
+
+-- the queue dropped, and the stream closed, truncated if it was open
+abbrev pub givenUp : Output → Output
+givenUp o = record {
+  start = 0;
+  queued = 0;
+  closed = true;
+  «hung_up» = o .«hung_up»;
+  ended = o .ended;
+  discarding = o .discarding;
+  «discard_requested» = o .«discard_requested»;
+  truncated = not (o .closed) || (ltb 0 (o .queued) || o .truncated);
+}
+
+-- closed and truncated, unless the stream closed or hung up
+abbrev pub abandoned : Output → Output
+abandoned o = record {
+  start = o .start;
+  queued = o .queued;
+  closed = o .closed || not (o .«hung_up»);
+  «hung_up» = o .«hung_up»;
+  ended = o .ended;
+  discarding = o .discarding;
+  «discard_requested» = o .«discard_requested»;
+  truncated = not (o .closed || o .«hung_up») || o .truncated;
+}
+
+-- the end was told
+abbrev pub endedOut : Output → Output
+endedOut o = record {
+  start = o .start;
+  queued = o .queued;
+  closed = o .closed;
+  «hung_up» = o .«hung_up»;
+  ended = true;
+  discarding = o .discarding;
+  «discard_requested» = o .«discard_requested»;
+  truncated = o .truncated;
+}
+
+-- the request to discard was handed out
+abbrev pub askedOut : Output → Output
+askedOut o = record {
+  start = o .start;
+  queued = o .queued;
+  closed = o .closed;
+  «hung_up» = o .«hung_up»;
+  ended = o .ended;
+  discarding = o .discarding;
+  «discard_requested» = false;
+  truncated = o .truncated;
+}
+
+-- ---- what the adapter reports
+
+-- every writer closed the stream
+abbrev pub closedOut : Output → Output
+closedOut o = record {
+  start = o .start;
+  queued = o .queued;
+  closed = true;
+  «hung_up» = o .«hung_up»;
+  ended = o .ended;
+  discarding = o .discarding;
+  «discard_requested» = o .«discard_requested»;
+  truncated = o .truncated;
+}
+
+-- reading the stream failed
+abbrev pub failedOut : Output → Output
+failedOut o = record {
+  start = o .start;
+  queued = o .queued;
+  closed = true;
+  «hung_up» = o .«hung_up»;
+  ended = o .ended;
+  discarding = o .discarding;
+  «discard_requested» = o .«discard_requested»;
+  truncated = true;
+}
+
+-- every writer closed it, though it is not read to its end
+abbrev pub hungUp : Output → Output
+hungUp o = record {
+  start = o .start;
+  queued = o .queued;
+  closed = o .closed;
+  «hung_up» = true;
+  ended = o .ended;
+  discarding = o .discarding;
+  «discard_requested» = o .«discard_requested»;
+  truncated = o .truncated;
+}
+
+-- whether bytes were read and dropped
+abbrev pub lostOut : Bool → Output → Output
+lostOut lost o = record {
+  start = o .start;
+  queued = o .queued;
+  closed = o .closed;
+  «hung_up» = o .«hung_up»;
+  ended = o .ended;
+  discarding = o .discarding;
+  «discard_requested» = o .«discard_requested»;
+  truncated = lost || o .truncated;
+}
+
+-- ---- bytes from the workload; shut is closed or given up
+
+-- how many may be read
+abbrev pub allowance : Output → (gaveUp : Bool) → (chunk : ℕ) → ℕ
+allowance o gaveUp chunk = cond ((o .closed || gaveUp) || o .discarding) 0 (chunk - o .queued)
+
+-- how many of n are taken
+abbrev pub takes : (shut discarding : Bool) (room n : ℕ) → ℕ
+takes true d room n = 0
+takes false true room n = n
+takes false false room n = min n room
+
+-- and how many are kept
+abbrev pub keeps : (shut discarding : Bool) (room n : ℕ) → ℕ
+keeps true d room n = 0
+keeps false true room n = 0
+keeps false false room n = min n room
+
+-- as many are kept as the allowance lets in, and all are taken where they are dropped
+pub keeps-allowed : (shut d : Bool) (room n : ℕ) → min n (cond (shut || d) 0 room) ≡ keeps shut d room n
+keeps-allowed true d room n = omega arith
+keeps-allowed false true room n = omega arith
+keeps-allowed false false room n = refl
+
+pub takes-dropped : (shut d : Bool) (room n : ℕ) → cond (not shut && d) n (keeps shut d room n) ≡ takes shut d room n
+takes-dropped true d room n = refl
+takes-dropped false true room n = refl
+takes-dropped false false room n = refl
+
+-- none are kept for which there is no room
+pub keeps-fit : (shut d : Bool) (room n : ℕ) → keeps shut d room n ≤ room
+keeps-fit true d room n = omega arith
+keeps-fit false true room n = omega arith
+keeps-fit false false room n = omega arith
+
+-- so many more queued, and whether any were lost
+abbrev pub filled : ℕ → Bool → Output → Output
+filled kept lost o = record {
+  start = o .start;
+  queued = o .queued + kept;
+  closed = o .closed;
+  «hung_up» = o .«hung_up»;
+  ended = o .ended;
+  discarding = o .discarding;
+  «discard_requested» = o .«discard_requested»;
+  truncated = lost || o .truncated;
+}
+
+-- n bytes came
+abbrev pub intake : (shut discarding : Bool) (room n : ℕ) → Output → Output
+intake shut d room n o = filled (keeps shut d room n) (not shut && d && ltb 0 n) o
+
+-- what the intake leaves: its answer with the stream, and the store
+pub record After : Type 0 where
+  pub answer : Intake
+  pub bytes : List ℕ
+
+abbrev pub after : Intake → List ℕ → After
+after a bytes = record { answer = a; bytes = bytes }
+
+unfoldable pub takenIn : Output → (gaveUp : Bool) (base chunk : ℕ) (bytes store : List ℕ) → After
+takenIn o gaveUp base chunk bytes store =
+    after
+    (record {
+      taken = takes (o .closed || gaveUp) (o .discarding) (chunk - o .queued) (length bytes);
+      output = intake (o .closed || gaveUp) (o .discarding) (chunk - o .queued) (length bytes) o;
+    })
+    (ringWrite base chunk (o .start) (o .queued) bytes
+    (keeps (o .closed || gaveUp) (o .discarding) (chunk - o .queued) (length bytes)) store)
+
+-- ---- bytes to the peer
+
+-- n bytes left the queue
+abbrev pub sentOut : (chunk n : ℕ) → Output → Output
+sentOut chunk n o = record {
+  start = wrap chunk (o .start + n);
+  queued = o .queued - n;
+  closed = o .closed;
+  «hung_up» = o .«hung_up»;
+  ended = o .ended;
+  discarding = o .discarding;
+  «discard_requested» = o .«discard_requested»;
+  truncated = o .truncated;
+}
+
+-- what a send leaves: the stream, and the buffer
+pub record SendAfter : Type 0 where
+  pub output : Output
+  pub buffer : List ℕ
+
+abbrev pub sendAfter : Output → List ℕ → SendAfter
+sendAfter o buffer = record { output = o; buffer = buffer }
+
+unfoldable pub sent : (chunk base n : ℕ) → Output → (store buffer : List ℕ) → SendAfter
+sent chunk base n o store buffer =
+    sendAfter (sentOut chunk n o) (ringRead base chunk (o .start) n store ++ drop n buffer)
+
+-- ---- range
+
+-- the queue is within its ring
+unfoldable pub outputFits : (chunk : ℕ) → Output → Bool
+outputFits chunk o = leb (o .queued) chunk && ringFits (o .start) chunk
+
+-- each of two, where their conjunction holds
+left : (a b : Bool) → a && b ≡ true → a ≡ true
+left true b h = refl
+left false b h = h
+
+right : (a b : Bool) → a && b ≡ true → b ≡ true
+right true b h = h
+right false true h = refl
+right false false h = h
+
+-- a start within its ring is at most the size, and below it where the ring has a place
+start-range : (start size : ℕ) (below : Bool) → ltb start size ≡ below → below || (eqb size 0 && eqb start 0) ≡ true
+    → (start ≤ size) × (0 < size → start < size)
+start-range start size true e h = let l = ltb-true start size e in (omega arith, λ _. l)
+start-range start size false e h =
+    let s = eqb-true size 0 (left _ _ h) in
+    let z = eqb-true start 0 (right (eqb size 0) _ h) in
+    (omega arith, λ p. omega arith)
+
+module _ (chunk : ℕ) (o : Output) (fits : outputFits chunk o ≡ true) where
+  -- what the calls ask of a stream
+  pub output-range : (o .queued ≤ chunk) × (o .start ≤ chunk)
+  unfolding outputFits
+  output-range =
+      (leb-true (o .queued) chunk (left _ _ fits), start-range (o .start) chunk _ refl (right (leb (o .queued) chunk) _ fits) .0)
+
+  pub output-start : 0 < chunk → o .start < chunk
+  unfolding outputFits
+  output-start = start-range (o .start) chunk _ refl (right (leb (o .queued) chunk) _ fits) .1
