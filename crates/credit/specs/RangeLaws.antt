@@ -118,6 +118,9 @@ module _ (l : Limits) (g : Granted) (b : Inbox) (r : InRange l g b) where
       let step : (b .frames + 1) * l .chunk ≡ b .frames * l .chunk + l .chunk = omega arith in
       omega (arith, f .held refl)
 
+  pub has-room : (n : ℕ) → n ≤ l .chunk → cost (l .input .unit) n ≤ g .open → b .length + n ≤ inputBytes l
+  has-room n chunk paid = room-as (l .input .unit) n chunk paid (r .units) (r .frames)
+
   frame-free : (n : ℕ) → cost (l .input .unit) n ≤ g .open → l .input .unit ≡ Frames → b .frames < l .input .size
   unfolding cost
   frame-free n paid e =
@@ -128,7 +131,7 @@ module _ (l : Limits) (g : Granted) (b : Inbox) (r : InRange l g b) where
   pub is-pushable : (n : ℕ) (store lengths : List ℕ) → n ≤ l .chunk → cost (l .input .unit) n ≤ g .open → l .chunk < 2 ^ 32 → l .input .size < 2 ^ 32
       → byteNeed l ≤ length store → lengthNeed l ≤ length lengths → Pushable l b n store lengths
   is-pushable n store lengths chunk paid hc hs bytes need =
-      let room = room-as (l .input .unit) n chunk paid (r .units) (r .frames) in
+      let room = has-room n chunk paid in
       record {
         waiting = is-waiting store bytes;
         room = room;

@@ -1,0 +1,175 @@
+-- Bytes and credit through the runner: output, grants and input, from what the calls on the parts ensure.
+use mathlib.Core.Path.{_≡_, refl, sym, ap, _∙_}
+use mathlib.Core.Bool.{Bool, true, false, cond, not, _&&_, _||_}
+use Prim.Native.Nat.{ℕ, _+_, _-_, _≤_, _<_, _^_}
+use native.Mathlib.Omega.{arith}
+use mathlib.Core.List.{List}
+use lib.ListN.{length}
+use lib.Dec.{ltb}
+use borrow.Author.Tests.{ltb-false}
+use Rattle.exec.specs.declared.Admission.{Admission}
+use Rattle.exec.specs.declared.Admission.the-variants as Admission
+use Rattle.exec.specs.declared.PoolIndex.the-variants as PoolIndex
+use Rattle.exec.specs.declared.Received.{Received}
+use Rattle.exec.specs.declared.Received.the-variants.{Receipt, Refused}
+use Rattle.exec.specs.declared.Receipt.the-variants.{Applied, Stale, Late}
+use Rattle.exec.specs.declared.Refusal.{Refusal}
+use Rattle.exec.specs.declared.Refusal.the-variants as Refusal
+use Rattle.exec.specs.declared.Reply.the-variants as Reply
+use Rattle.exec.specs.declared.Stream.{Stream}
+use Rattle.exec.specs.declared.Stream.the-variants.{Stdout, Stderr}
+use Rattle.exec.specs.declared.Limits.{Limits}
+use Rattle.exec.specs.Limits.{cost, offChunk, inputBytes as inboxBytes}
+use Rattle.credit.specs.declared.sender.Credit.{Credit}
+use Rattle.credit.specs.declared.sender.Granting.{Granting}
+use Rattle.credit.specs.Need.{byteNeed, lengthNeed}
+use Rattle.credit.specs.RangeLaws as Inbox
+use Rattle.credit.specs.Sender.{grantable, grant}
+use Rattle.stdio.specs.declared.input.Input.{Input}
+use Rattle.stdio.specs.declared.input.Receiving.{Receiving}
+use Rattle.stdio.specs.declared.output.Intake.{Intake}
+use Rattle.stdio.specs.declared.output.Output.{Output}
+use Rattle.stdio.specs.Input as In
+use Rattle.stdio.specs.Output.{After, after, takenIn, keeps, keeps-fit}
+use Rattle.stdio.proofs.Receives.{chunk-fits}
+use Rattle.runner.specs.declared.answer.Hearing.{Hearing}
+use Rattle.runner.specs.declared.answer.Taken.the-variants as Taken
+use Rattle.runner.specs.declared.answer.Taking.{Taking}
+use Rattle.runner.specs.declared.runner.Runner.{Runner}
+use Rattle.runner.specs.RangeLaws.{InRange}
+use Rattle.runner.specs.State.{withInput, withOutputs, withFlow, outOf, putOutput, base, creditAt, putCredit, buffered, noteBuffered}
+use Rattle.runner.specs.Streams.{keepsNone, isShut, room, outputFilled, outputNext, outputTaken, outputBytes, OutputAfter, outputAfter, outputFill, outputTook, creditIn, creditNext, receiptOf, isTaken, isApplied, heard, inputAnswer, inputNext, inputBytes, inputLengths, inputAfter, received, writtenNext, writtenLengths, wroteAfter, wrote}
+
+-- ---- output
+
+module _ (r : Runner) (x : Stream) (bytes store : List ℕ) where
+  pub fill-is : (o : Output) (at : ℕ) (t : Intake) (store′ : List ℕ) (next : List Output) → o ≡ outOf x r → at ≡ base x (r .limits .chunk)
+      → after t store′ ≡ takenIn o (r .flags .«gave_up») at (r .limits .chunk) bytes store → next ≡ putOutput x (t .output) (r .outputs)
+      → outputAfter (record { runner = withOutputs next r; taken = Taken.Bytes (t .taken) }) store′ ≡ outputFill r x bytes store
+  unfolding outputFill outputTaken outputBytes takenIn
+  fill-is o at t store′ next ho ha e hn =
+      rw (hn, ap (λ (a : After). a .answer .output) e, ap (λ (a : After). a .answer .taken) e, ap (λ (a : After). a .bytes) e, ho, ha)
+
+  pub took-none : (t : Taking) (store′ : List ℕ) → keepsNone x r ≡ true → outputAfter t store′ ≡ outputFill r x bytes store
+      → outputAfter t store′ ≡ outputTook r x bytes store
+  unfolding outputFill outputTook outputNext
+  took-none t store′ h e = rw h e
+
+  pub took-kept : (t : Taking) (r′ : Runner) (store′ : List ℕ) → keepsNone x r ≡ false → outputAfter t store′ ≡ outputFill r x bytes store
+      → r′ ≡ noteBuffered (t .runner) → outputAfter (record { runner = r′; taken = t .taken }) store′ ≡ outputTook r x bytes store
+  unfolding outputFill outputTook outputNext
+  took-kept t r′ store′ h e hr =
+      rw (h, hr, ap (λ (a : OutputAfter). a .taking .runner) e, ap (λ (a : OutputAfter). a .taking .taken) e, ap (λ (a : OutputAfter). a .bytes) e)
+
+-- the queue that was filled is within its chunk, so all that is held is within the need
+pub filled-fits : (r : Runner) (x : Stream) (n : ℕ) → InRange r → buffered (outputFilled r x n) ≤ byteNeed (r .limits)
+filled-fits r Stdout n h =
+    omega (arith, h .stdout .most, h .stderr .most, h .input .most, keeps-fit (isShut Stdout r) (outOf Stdout r .discarding) (room Stdout r) n)
+filled-fits r Stderr n h =
+    omega (arith, h .stdout .most, h .stderr .most, h .input .most, keeps-fit (isShut Stderr r) (outOf Stderr r .discarding) (room Stderr r) n)
+
+pub held-fits : (r : Runner) → InRange r → buffered r ≤ byteNeed (r .limits)
+held-fits r h = omega (arith, h .stdout .most, h .stderr .most, h .input .most)
+
+-- ---- credit
+
+receipt-is : (b : Bool) → receiptOf (cond b Reply.Ok (Reply.Refused Refusal.Credit)) ≡ cond b (Receipt Applied) (Refused Refusal.Credit)
+receipt-is true = refl
+receipt-is false = refl
+
+pub grant-is : (r : Runner) (i units : ℕ) (c : Credit) (g : Granting) (next : List Credit) (x : Received) → r .flags .finished ≡ false
+    → c ≡ creditAt i (r .credits) → g ≡ grant c units → next ≡ putCredit i (g .credit) (r .credits) → x ≡ receiptOf (g .reply)
+    → _≡_ {A = Hearing} (record { runner = withFlow next (r .turn) (r .flags) (r .«high_water») r; received = x })
+    (record { runner = creditNext Admission.Own (PoolIndex.At i) r units; received = creditIn (PoolIndex.At i) r units })
+unfolding creditNext creditIn
+grant-is r i units c g next x h hc hg hn hx =
+    rw (hx, hn, hg, hc, receipt-is (grantable (creditAt i (r .credits)) units), h)
+
+-- ---- input
+
+module _ (r : Runner) (bytes store lengths : List ℕ) where
+  pub received-late : r .flags .finished ≡ true
+      → inputAfter (record { runner = r; received = Receipt Late }) store lengths ≡ received Admission.Own r bytes store lengths
+  unfolding received inputNext inputAnswer inputBytes inputLengths
+  received-late h = rw h
+
+  pub received-other : (x : Refusal) → inputAfter (record { runner = r; received = Refused x }) store lengths ≡ received (Admission.Refused x) r bytes store lengths
+  unfolding received inputNext inputAnswer inputBytes inputLengths
+  received-other x = refl
+
+  pub received-stale : inputAfter (record { runner = r; received = Receipt Stale }) store lengths ≡ received Admission.Stale r bytes store lengths
+  unfolding received inputNext inputAnswer inputBytes inputLengths
+  received-stale = refl
+
+-- a message is Applied exactly where it is kept
+applied-by : (ended off unpaid closed : Bool)
+    → isApplied (cond ended (Refused Refusal.Ended) (cond off (Refused Refusal.Chunk) (cond unpaid (Refused Refusal.Window) (cond closed (Receipt Late) (Receipt Applied)))))
+    ≡ (not ((ended || off) || unpaid) && not closed)
+applied-by true off unpaid closed = refl
+applied-by false true unpaid closed = refl
+applied-by false false true closed = refl
+applied-by false false false true = refl
+applied-by false false false false = refl
+
+applied-kept : (l : Limits) (i : Input) (n : ℕ) → isApplied (In.receiveAnswer l i n) ≡ In.isKept l i n
+unfolding In.receiveAnswer
+applied-kept l i n = applied-by (i .«peer_ended») (offChunk l n) (ltb (i .window .open) (cost (l .input .unit) n)) (i .closed)
+
+-- the high water, where it is noted and where not
+noted-by : (b : Bool) (r : Runner) → cond b (noteBuffered r) r ≡ withFlow (r .credits) (r .turn) (r .flags) (cond b (noteBuffered r .«high_water») (r .«high_water»)) r
+noted-by true r = refl
+noted-by false r = refl
+
+pub received-own : (r : Runner) (bytes store lengths : List ℕ) (v : Receiving) (h : Hearing) (store′ lengths′ : List ℕ) → r .flags .finished ≡ false
+    → In.receiveAfter v store′ lengths′ ≡ In.receive (r .limits) (r .input) bytes store lengths
+    → h ≡ heard (v .received) (withInput (v .input) r)
+    → inputAfter h store′ lengths′ ≡ received Admission.Own r bytes store lengths
+unfolding received inputNext inputAnswer inputBytes inputLengths heard
+received-own r bytes store lengths v h store′ lengths′ f e hh =
+    let n = length bytes in
+    rw (
+      hh,
+      ap (λ (a : In.ReceiveAfter). a .receiving .received) e,
+      ap (λ (a : In.ReceiveAfter). a .receiving .input) e,
+      ap (λ (a : In.ReceiveAfter). a .bytes) e,
+      ap (λ (a : In.ReceiveAfter). a .lengths) e,
+      applied-kept (r .limits) (r .input) n,
+      noted-by (In.isKept (r .limits) (r .input) n) (withInput (In.receiveInput (r .limits) (r .input) n) r),
+      f,
+    )
+
+-- what is kept has room, so all that is held is within the need
+paid-by : (ended off unpaid closed : Bool) → (not ((ended || off) || unpaid) && not closed) ≡ true → (off ≡ false) × (unpaid ≡ false)
+paid-by true off unpaid closed h = (let z : _≡_ {A = ℕ} 0 1 = cc in absurd (omega arith), let z : _≡_ {A = ℕ} 0 1 = cc in absurd (omega arith))
+paid-by false true unpaid closed h = (sym h, let z : _≡_ {A = ℕ} 0 1 = cc in absurd (omega arith))
+paid-by false false true closed h = (refl, sym h)
+paid-by false false false closed h = (refl, refl)
+
+kept-length : (l : Limits) (i : Input) (n : ℕ) (b : Bool) → In.isKept l i n ≡ b → Inbox.InRange l (i .window) (i .inbox)
+    → cond b (i .inbox .length + n) (i .inbox .length) ≤ inboxBytes l
+kept-length l i n false e h = h .most
+kept-length l i n true e h =
+    let p = paid-by (i .«peer_ended») (offChunk l n) (ltb (i .window .open) (cost (l .input .unit) n)) (i .closed) e in
+    Inbox.has-room l (i .window) (i .inbox) h n (chunk-fits l n (p .0)) (ltb-false (i .window .open) (cost (l .input .unit) n) (p .1))
+
+length-of : (l : Limits) (i : Input) (n : ℕ) (b : Bool) → In.isKept l i n ≡ b → In.receiveInput l i n .inbox .length ≡ cond b (i .inbox .length + n) (i .inbox .length)
+unfolding In.receiveInput
+length-of l i n true e = rw e
+length-of l i n false e = rw e
+
+pub received-fits : (r : Runner) (bytes store lengths : List ℕ) (v : Receiving) (store′ lengths′ : List ℕ) → InRange r
+    → In.receiveAfter v store′ lengths′ ≡ In.receive (r .limits) (r .input) bytes store lengths
+    → buffered (withInput (v .input) r) ≤ byteNeed (r .limits)
+received-fits r bytes store lengths v store′ lengths′ h e =
+    let n = length bytes in
+    let b = In.isKept (r .limits) (r .input) n in
+    let k = kept-length (r .limits) (r .input) n b refl (h .input) in
+    let m : v .input .inbox .length ≡ cond b (r .input .inbox .length + n) (r .input .inbox .length) =
+    ap (λ (a : In.ReceiveAfter). a .receiving .input .inbox .length) e ∙ length-of (r .limits) (r .input) n b refl in
+    omega (arith, h .stdout .most, h .stderr .most, k, m)
+
+pub wrote-is : (r : Runner) (count : ℕ) (lengths : List ℕ) (i : Input) (lengths′ : List ℕ)
+    → In.writtenAfter i lengths′ ≡ In.written (r .limits) (r .input) count lengths → wroteAfter (withInput i r) lengths′ ≡ wrote r count lengths
+unfolding wrote writtenNext writtenLengths
+wrote-is r count lengths i lengths′ e =
+    rw (ap (λ (a : In.WrittenAfter). a .input) e, ap (λ (a : In.WrittenAfter). a .lengths) e)

@@ -1,0 +1,7 @@
+-- What the proofs of several functions share. The laws are over plain variables, since there is too much to compute at the
+-- calls' own places.
+pub mod Branch
+pub mod Quiet
+pub mod Guards
+pub mod Flows
+pub mod Says

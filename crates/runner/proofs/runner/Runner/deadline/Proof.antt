@@ -1,0 +1,26 @@
+-- `runner::runner::Runner::deadline` meets its contract.
+use mathlib.Core.Path.{_∙_, sym}
+use Rattle.runner.specs.Calls.{deadline}
+use borrow.Author.Needs.{needs}
+use Rattle.runner.proofs.runner.Runner.deadline.Statement.{statement}
+use Rattle.runner.proofs.runner.Runner.deadline.Tie as tie
+
+returns : tie.Need-returns
+unfolding deadline
+returns c =
+    simp (
+      sym (c .before .before .is-good .ensures) ∙ c .before .if1 .taken,
+      c .deadline-of .ensures,
+    )
+
+returns-2 : tie.Need-returns-2
+unfolding deadline
+returns-2 c =
+    simp (
+      sym (c .before .before .is-good .ensures) ∙ c .before .if1 .left,
+      c .stop .ensures,
+    )
+
+pub deadline-spec : {M : Type 1} → statement M
+deadline-spec =
+    tie.close (tie.spec (λ c κs. search needs) (λ c κs. search needs) returns (λ c κs. search needs) returns-2)

@@ -1,0 +1,26 @@
+-- `runner::runner::Runner::grant_at` meets its contract.
+use Rattle.runner.proofs.Flows.{grant-is}
+use Rattle.runner.specs.Streams.{creditIn, creditNext}
+use borrow.Author.Needs.{needs}
+use Rattle.runner.proofs.runner.Runner.grant_at.Statement.{statement}
+use Rattle.runner.proofs.runner.Runner.grant_at.Tie as tie
+
+returns : tie.Need-returns
+unfolding creditIn creditNext
+returns c =
+    simp
+    (c .if1 .taken)
+
+returns-2 : tie.Need-returns-2
+returns-2 c = grant-is _ _ _ _ _ _ _ (c .before .before .before .before .before .if1 .left) (c .before .before .before .credit-at .ensures) (c .before .before .grant .ensures) (c .before .put-credit .ensures) (c .receipt-of .ensures)
+
+pub grant-at-spec : {M : Type 1} → statement M
+grant-at-spec =
+    tie.close
+    (tie.spec
+    returns
+    (λ c κs. search needs)
+    (λ c κs. search needs)
+    (λ c κs. search needs)
+    (λ c κs. search needs)
+    returns-2)

@@ -1,0 +1,28 @@
+-- `runner::runner::Runner::open` meets its contract.
+use Rattle.runner.proofs.Guards.{opens-is, open-goes, open-stops}
+use mathlib.Core.Path.{_∙_, sym}
+use Rattle.runner.specs.Calls.{«open»}
+use borrow.Author.Needs.{needs}
+use Rattle.runner.proofs.runner.Runner.open.Statement.{statement}
+use Rattle.runner.proofs.runner.Runner.open.Tie as tie
+
+returns : tie.Need-returns
+returns c = open-goes _ _ _ _ _ _ _ (opens-is _ _ _ _ _ _ _ (c .before .before .is-valid .ensures) (c .before .before .before .before .bytes-do .ensures) (c .before .before .before .lengths-do .ensures) (c .before .if1 .taken)) (c .fresh .ensures)
+
+returns-2 : tie.Need-returns-2
+returns-2 c = open-stops _ _ _ _ _ _ _ _ _ _ (opens-is _ _ _ _ _ _ _ (c .before .before .before .before .before .is-valid .ensures) (c .before .before .before .before .before .before .before .bytes-do .ensures) (c .before .before .before .before .before .before .lengths-do .ensures) (c .before .before .before .before .if1 .left)) (c .before .before .before .bytes .ensures) (c .before .before .bytes2 .ensures) (c .before .fresh2 .ensures) (c .no-open .ensures)
+
+pub open-spec : {M : Type 1} → statement M
+open-spec =
+    tie.close
+    (tie.spec
+    (λ c κs. search needs)
+    (λ c κs. search needs)
+    (λ c κs. search needs)
+    (λ c κs. search needs)
+    returns
+    (λ c κs. search needs)
+    (λ c κs. search needs)
+    (λ c κs. search needs)
+    (λ c κs. search needs)
+    returns-2)

@@ -1,0 +1,26 @@
+-- `runner::runner::Runner::output_failed` meets its contract.
+use mathlib.Core.Path.{_∙_, sym}
+use Rattle.runner.specs.Calls.{outputFailed}
+use borrow.Author.Needs.{needs}
+use Rattle.runner.proofs.runner.Runner.output_failed.Statement.{statement}
+use Rattle.runner.proofs.runner.Runner.output_failed.Tie as tie
+
+returns : tie.Need-returns
+unfolding outputFailed
+returns c =
+    simp (
+      sym (c .before .before .is-good .ensures) ∙ c .before .if1 .taken,
+      c .fail-output .ensures,
+    )
+
+returns-2 : tie.Need-returns-2
+unfolding outputFailed
+returns-2 c =
+    simp (
+      sym (c .before .before .is-good .ensures) ∙ c .before .if1 .left,
+      c .refused .ensures,
+    )
+
+pub output-failed-spec : {M : Type 1} → statement M
+output-failed-spec =
+    tie.close (tie.spec (λ c κs. search needs) (λ c κs. search needs) returns (λ c κs. search needs) returns-2)

@@ -1,0 +1,141 @@
+-- What is known of an output message that was chosen: it has bytes, they are queued and fit the buffer, and credit has their cost.
+use mathlib.Core.Path.{_≡_, refl}
+use mathlib.Core.Bool.{Bool, true, false, not, cond, _&&_}
+use Prim.Native.Nat.{ℕ, _+_, _*_, _≤_, _<_, min}
+use native.Mathlib.Omega.{arith}
+use mathlib.Core.List.{List}
+use lib.Dec.{ltb}
+use lib.ListN.{length}
+use borrow.Author.Tests.{ltb-true}
+use Rattle.exec.specs.declared.Stream.{Stream}
+use Rattle.exec.specs.declared.Stream.the-variants.{Stdout, Stderr}
+use Rattle.exec.specs.declared.Unit as Units
+use Rattle.exec.specs.declared.Unit.the-variants.{Bytes, Frames}
+use Rattle.exec.specs.Limits.{cost, poolOf}
+use Rattle.exec.specs.Stream.{streamAt}
+use Rattle.credit.specs.Need.{byteNeed}
+use Rattle.credit.specs.RangeLaws.{both}
+use Rattle.credit.specs.Sender.{sendable}
+use Rattle.runner.specs.declared.message.Choice.{Choice}
+use Rattle.runner.specs.declared.message.Choice.the-variants as Choice
+use Rattle.runner.specs.declared.runner.Runner.{Runner}
+use Rattle.runner.specs.Choose.{ifElse}
+use Rattle.stdio.specs.Input.{canGrant}
+use Rattle.runner.specs.Life.{awaitsLaunch, isReady}
+use Rattle.runner.specs.Message.{sendableOf, untold, order, choose, outputPaid}
+use Rattle.runner.specs.RangeLaws.{Queued, InRange, queue-of}
+use Rattle.runner.specs.State.{outOf, other, base, creditAt}
+
+-- the account of its pool has the cost of n bytes
+pub record Payable (r : Runner) (x : Stream) (n : ℕ) : Type 0 where
+  pub paid : cost (r .limits .output .unit) n ≤ creditAt (poolOf (r .limits) x) (r .credits) .available
+
+-- n bytes are queued in the store, and fit the buffer
+pub record Sendable (r : Runner) (x : Stream) (n : ℕ) (store buffer : List ℕ) : Type 0 where
+  pub area : base x (r .limits .chunk) + r .limits .chunk ≤ length store
+  pub queue : Queued (r .limits .chunk) (outOf x r)
+  pub queued : n ≤ outOf x r .queued
+  pub fits : n ≤ length buffer
+
+-- ---- the choice of an output is of what its stream can send
+
+-- a claim on outputs alone
+Of : (Stream → ℕ → Type 0) → Choice → Type 0
+Of P Choice.None = Unit
+Of P Choice.Credit = Unit
+Of P Choice.Started = Unit
+Of P Choice.InputClosed = Unit
+Of P (Choice.End x) = Unit
+Of P (Choice.Output x n) = P x n
+Of P Choice.Terminal = Unit
+
+either : (P : Choice → Type 0) (b : Bool) (x y : Choice) → (b ≡ true → P x) → P y → P (ifElse b x y)
+unfolding ifElse
+either P true x y hx hy = hx refl
+either P false x y hx hy = hy
+
+module _ (P : Stream → ℕ → Type 0) (finished detached can credited started closed awaits end0 end1 ready : Bool) (x : Stream) (n1 n2 : ℕ)
+    (h1 : 0 < n1 → P x n1) (h2 : 0 < n2 → P (other x) n2) where
+  some : (n : ℕ) → (not awaits && ltb 0 n) ≡ true → 0 < n
+  some n h = ltb-true 0 n (both (not awaits) (ltb 0 n) h .1)
+
+  ordered : Of P (order finished detached can credited started closed awaits end0 end1 ready x n1 n2)
+  unfolding order Of
+  ordered =
+      either (Of P) finished _ _ (λ _. tt)
+      (either (Of P) detached _ _ (λ _. either (Of P) ready _ _ (λ _. tt) tt)
+      (either (Of P) (can && not credited) _ _ (λ _. tt)
+      (either (Of P) started _ _ (λ _. tt)
+      (either (Of P) closed _ _ (λ _. tt)
+      (either (Of P) (not awaits && end0) _ _ (λ _. tt)
+      (either (Of P) (not awaits && end1) _ _ (λ _. tt)
+      (either (Of P) (not awaits && ltb 0 n1) _ _ (λ h. h1 (some n1 h))
+      (either (Of P) (not awaits && ltb 0 n2) _ _ (λ h. h2 (some n2 h))
+      (either (Of P) can _ _ (λ _. tt)
+      (either (Of P) ready _ _ (λ _. tt) tt))))))))))
+
+pub record Chosen (r : Runner) (buffer : ℕ) (x : Stream) (n : ℕ) : Type 0 where
+  pub bytes : n ≡ sendableOf r buffer x
+  pub some-bytes : 0 < n
+
+pub chosen : (r : Runner) (buffer : ℕ) (x : Stream) (n : ℕ) → Choice.Output x n ≡ choose r buffer → Chosen r buffer x n
+unfolding choose Of
+chosen r buffer x n e =
+    let x₁ = streamAt (r .turn) in
+    let all : Of (Chosen r buffer) (choose r buffer) =
+    ordered (Chosen r buffer) (r .flags .finished) (r .flags .detached) (canGrant (r .input)) (r .flags .credited) (r .flags .«started_message»)
+    (r .input .«closed_message») (awaitsLaunch r) (untold r Stdout) (untold r Stderr) (isReady r) x₁ (sendableOf r buffer x₁) (sendableOf r buffer (other x₁))
+    (λ h. record { bytes = refl; some-bytes = h }) (λ h. record { bytes = refl; some-bytes = h }) in
+    rw (← e) at all
+
+-- ---- what a stream can send
+
+least : (u : Units.Unit) (available m : ℕ) → sendable u available m ≤ m
+least Bytes available m = omega arith
+least Frames available m = at (ltb 0 available)
+  where
+    at : (b : Bool) → cond b m 0 ≤ m
+    at true = omega arith
+    at false = omega arith
+
+affordable : (u : Units.Unit) (available m : ℕ) → 0 < sendable u available m → cost u (sendable u available m) ≤ available
+unfolding cost
+affordable Bytes available m h = omega arith
+affordable Frames available m h = at (ltb 0 available) refl h
+  where
+    at : (b : Bool) → ltb 0 available ≡ b → 0 < cond b m 0 → 1 ≤ available
+    at true e p = ltb-true 0 available e
+    at false e p = absurd (omega arith)
+
+base-fits : (x : Stream) (chunk rest len : ℕ) → 2 * chunk + rest ≤ len → base x chunk + chunk ≤ len
+base-fits Stdout chunk rest len h = omega arith
+base-fits Stderr chunk rest len h = omega arith
+
+pub area-of : (r : Runner) (x : Stream) (store : List ℕ) → byteNeed (r .limits) ≤ length store → base x (r .limits .chunk) + r .limits .chunk ≤ length store
+area-of r x store h = base-fits x (r .limits .chunk) _ (length store) h
+
+module _ (r : Runner) (x : Stream) (n : ℕ) (store buffer : List ℕ) (h : InRange r) (need : byteNeed (r .limits) ≤ length store)
+    (e : Choice.Output x n ≡ choose r (length buffer)) where
+  c : Chosen r (length buffer) x n
+  c = chosen r (length buffer) x n e
+
+  pub is-payable : Payable r x n
+  unfolding sendableOf
+  is-payable = record { paid = rw (c .bytes) (affordable _ _ _ (rw (c .bytes) at (c .some-bytes))) }
+
+  pub is-sendable : Sendable r x n store buffer
+  unfolding sendableOf
+  is-sendable =
+      let m = min (min (outOf x r .queued) (r .limits .chunk)) (length buffer) in
+      let l = least (r .limits .output .unit) (creditAt (poolOf (r .limits) x) (r .credits) .available) m in
+      record {
+        area = area-of r x store need;
+        queue = queue-of r x h;
+        queued = omega (arith, c .bytes, l);
+        fits = omega (arith, c .bytes, l);
+      }
+
+-- paying for the bytes moves none of them
+pub still-sendable : (r : Runner) (x : Stream) (n : ℕ) (store buffer : List ℕ) → Sendable r x n store buffer → Sendable (outputPaid x n r) x n store buffer
+unfolding outputPaid
+still-sendable r x n store buffer h = record { area = h .area; queue = h .queue; queued = h .queued; fits = h .fits }

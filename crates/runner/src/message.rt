@@ -1,0 +1,384 @@
+// What the runner says next, and what it asks of the adapter: a choice by what the state shows, and then its effect.
+ghost use mathlib.Core.Path.{_≡_};
+ghost use Prim.Native.Nat.{_≤_};
+ghost use lib.ListN.{length};
+ghost use Rattle.credit.specs.Need.{byteNeed};
+ghost use Rattle.exec.specs.Stream.{index};
+ghost use Rattle.runner.specs.Calls.{askedFor};
+ghost use Rattle.runner.specs.Message.{
+  sendableOf,
+  untold,
+  order,
+  choose,
+  effect,
+  outputPaid,
+  sentAfter,
+  sentOutput,
+  messageAfter,
+  saidAfter,
+  wishFor,
+  wish,
+  handed,
+  wishEffect,
+};
+ghost use Rattle.runner.specs.MessageLaws.{Payable, Sendable};
+ghost use Rattle.runner.specs.RangeLaws.{InRange};
+ghost use Rattle.runner.specs.State.{other};
+use crate::answer::Asked;
+use crate::answer::Asking;
+use crate::answer::Message;
+use crate::answer::Request;
+use crate::answer::Said;
+use crate::answer::Saying;
+use crate::pairs::credit_at;
+use crate::pairs::other_stream;
+use crate::pairs::output_in;
+use crate::pairs::put_credit;
+use crate::pairs::put_output;
+use crate::pairs::ring_base;
+use crate::runner::Runner;
+use exec::MaybeCause;
+use exec::Stream;
+
+// What the runner says next, by what its state shows.
+pub enum Choice {
+    None,
+    Credit,
+    Started,
+    InputClosed,
+    End(Stream),
+    Output(Stream, u32),
+    Terminal,
+}
+
+// What the runner asks of the adapter next.
+pub enum Wish {
+    None,
+    Request(Request),
+}
+
+// The order of messages. `x` is the stream whose turn it is, n1 and n2 are what it and the other can send.
+fn order(
+    finished: bool,
+    detached: bool,
+    can: bool,
+    credited: bool,
+    started: bool,
+    closed: bool,
+    awaits: bool,
+    end0: bool,
+    end1: bool,
+    ready: bool,
+    x: Stream,
+    n1: u32,
+    n2: u32,
+) -> Choice
+    ensures { λ r. ⌜ r ≡ order finished detached can credited started closed awaits end0 end1 ready x n1 n2 ⌝ }
+{
+    if finished {
+        return Choice::None;
+    }
+    if detached {
+        if ready {
+            return Choice::Terminal;
+        }
+        return Choice::None;
+    }
+    if can & !credited {
+        return Choice::Credit;
+    }
+    if started {
+        return Choice::Started;
+    }
+    if closed {
+        return Choice::InputClosed;
+    }
+    if !awaits & end0 {
+        return Choice::End(Stream::Stdout);
+    }
+    if !awaits & end1 {
+        return Choice::End(Stream::Stderr);
+    }
+    if !awaits & (0 < n1) {
+        return Choice::Output(x, n1);
+    }
+    if !awaits & (0 < n2) {
+        return Choice::Output(other_stream(x), n2);
+    }
+    if can {
+        return Choice::Credit;
+    }
+    if ready {
+        return Choice::Terminal;
+    }
+    Choice::None
+}
+
+impl Runner {
+    // How many bytes of a stream one message may carry now.
+    fn sendable_of(self, buffer: usize, stream: Stream) -> u32
+        ensures { λ r. ⌜ r ≡ sendableOf self buffer stream ⌝ }
+    {
+        let outputs = self.outputs;
+        let output = output_in(stream, outputs);
+        let limits = self.limits;
+        let credits = self.credits;
+        let credit = credit_at(limits.pool_of(stream), credits);
+        let window = limits.output;
+        let unit = window.unit;
+        let queued = ring::smaller(output.queued as usize, limits.chunk as usize);
+        let wanted = ring::smaller(queued, buffer);
+        credit.sendable(unit, wanted as u32)
+    }
+
+    // Whether a stream is done, and its end not told.
+    fn is_untold(self, stream: Stream) -> bool
+        ensures { λ r. ⌜ r ≡ untold self stream ⌝ }
+    {
+        let outputs = self.outputs;
+        let output = output_in(stream, outputs);
+        output.is_done() & !output.ended
+    }
+
+    pub(crate) fn choose(self, buffer: usize) -> Choice
+        requires { ⌜ InRange self ⌝ }
+        ensures { λ r. ⌜ r ≡ choose self buffer ⌝ }
+    {
+        let turn = self.turn as usize;
+        let x = Stream::ALL[turn];
+        let n1 = self.sendable_of(buffer, x);
+        let n2 = self.sendable_of(buffer, other_stream(x));
+        let end0 = self.is_untold(Stream::Stdout);
+        let end1 = self.is_untold(Stream::Stderr);
+        let input = self.input;
+        let can = input.can_grant();
+        let awaits = self.awaits_launch();
+        let ready = self.is_ready();
+        order(
+            self.flags.finished,
+            self.flags.detached,
+            can,
+            self.flags.credited,
+            self.flags.started_message,
+            input.closed_message,
+            awaits,
+            end0,
+            end1,
+            ready,
+            x,
+            n1,
+            n2,
+        )
+    }
+
+    // Says what was chosen.
+    pub(crate) fn say(mut self, choice: Choice, store: &[u8], buffer: &mut [u8]) -> Saying
+        requires { ⌜ InRange self × (byteNeed (self .limits) ≤ length (now store)) × (choice ≡ choose self (length (now buffer))) ⌝ }
+        ensures { λ r. ⌜ messageAfter r (now (buffer .exit)) ≡ saidAfter choice self (now (store .entry)) (now (buffer .entry)) ⌝ }
+    {
+        match choice {
+            Choice::None => Saying {
+                runner: self,
+                said: Said::None,
+            },
+            Choice::Credit => {
+                let held = self.input;
+                let crediting = held.take_credit();
+                let input = crediting.input;
+                self.input = input;
+                self.flags.credited = true;
+                Saying {
+                    runner: self,
+                    said: Said::Message(Message::Credit(crediting.units)),
+                }
+            }
+            Choice::Started => {
+                self.flags.started_message = false;
+                self.flags.credited = false;
+                Saying {
+                    runner: self,
+                    said: Said::Message(Message::Started),
+                }
+            }
+            Choice::InputClosed => {
+                let held = self.input;
+                let input = held.message_told();
+                self.input = input;
+                self.flags.credited = false;
+                Saying {
+                    runner: self,
+                    said: Said::Message(Message::InputClosed),
+                }
+            }
+            Choice::End(stream) => {
+                let runner = self.end_output(stream);
+                Saying {
+                    runner,
+                    said: Said::Message(Message::End(stream)),
+                }
+            }
+            Choice::Output(stream, n) => {
+                let paid = self.pay(stream, n);
+                let runner = paid.send_output(stream, n, store, buffer);
+                Saying {
+                    runner,
+                    said: Said::Message(Message::Output(stream, n as usize)),
+                }
+            }
+            Choice::Terminal => {
+                let outcome = self.outcome();
+                self.flags.finished = true;
+                Saying {
+                    runner: self,
+                    said: Said::Message(Message::Terminal(outcome)),
+                }
+            }
+        }
+    }
+
+    fn end_output(mut self, stream: Stream) -> Runner
+        ensures { λ r. ⌜ r ≡ effect (Choice.End stream) self ⌝ }
+    {
+        let outputs = self.outputs;
+        let output = output_in(stream, outputs);
+        let next = put_output(stream, output.end(), outputs);
+        self.outputs = next;
+        self.flags.credited = false;
+        self
+    }
+
+    // Spends the credit of n bytes of a stream; the other stream has its turn next.
+    fn pay(mut self, stream: Stream, n: u32) -> Runner
+        requires { ⌜ Payable self stream n ⌝ }
+        ensures { λ r. ⌜ r ≡ outputPaid stream n self ⌝ }
+    {
+        let limits = self.limits;
+        let window = limits.output;
+        let credits = self.credits;
+        let pool = limits.pool_of(stream);
+        let account = credit_at(pool, credits);
+        let spent = account.spend(window.cost(n));
+        let next = put_credit(pool, spent, credits);
+        self.credits = next;
+        self.turn = turn_after(stream);
+        self.flags.credited = false;
+        self
+    }
+
+    // Moves n bytes of a stream's queue to the start of the buffer.
+    fn send_output(mut self, stream: Stream, n: u32, store: &[u8], buffer: &mut [u8]) -> Runner
+        requires { ⌜ Sendable self stream n (now store) (now buffer) ⌝ }
+        ensures { λ r. ⌜ sentAfter r (now (buffer .exit)) ≡ sentOutput stream n self (now (store .entry)) (now (buffer .entry)) ⌝ }
+    {
+        let limits = self.limits;
+        let chunk = limits.chunk;
+        let outputs = self.outputs;
+        let output = output_in(stream, outputs);
+        let base = ring_base(stream, chunk);
+        let sent = output.send(store, base, chunk, n, buffer);
+        let next = put_output(stream, sent, outputs);
+        self.outputs = next;
+        self
+    }
+
+    // What is asked for next.
+    pub(crate) fn wish(self) -> Wish
+        ensures { λ r. ⌜ r ≡ wish self ⌝ }
+    {
+        let life = self.life;
+        let cause = life.terminate_request;
+        let stdout = self.outputs[0];
+        let stderr = self.outputs[1];
+        let input = self.input;
+        wish_for(
+            cause,
+            stdout.discard_requested,
+            stderr.discard_requested,
+            input.close_requested,
+            self.flags.settle_request,
+        )
+    }
+
+    // Hands it out.
+    pub(crate) fn ask(self, wish: Wish) -> Asking
+        ensures { λ r. ⌜ r ≡ record { runner = wishEffect wish self; asked = askedFor wish } ⌝ }
+    {
+        match wish {
+            Wish::None => Asking {
+                runner: self,
+                asked: Asked::None,
+            },
+            Wish::Request(request) => {
+                let runner = self.hand(request);
+                Asking {
+                    runner,
+                    asked: Asked::Request(request),
+                }
+            }
+        }
+    }
+
+    fn hand(mut self, request: Request) -> Runner
+        ensures { λ r. ⌜ r ≡ handed request self ⌝ }
+    {
+        match request {
+            Request::Terminate(_) => {
+                let lived = self.life;
+                let life = lived.terminate_taken();
+                self.life = life;
+                self
+            }
+            Request::Discard(stream) => {
+                let outputs = self.outputs;
+                let output = output_in(stream, outputs);
+                let next = put_output(stream, output.discard_asked(), outputs);
+                self.outputs = next;
+                self
+            }
+            Request::CloseInput => {
+                let held = self.input;
+                let input = held.close_asked();
+                self.input = input;
+                self
+            }
+            Request::Settle => {
+                self.flags.settle_request = false;
+                self
+            }
+        }
+    }
+}
+
+// The position of the stream that has its turn after this one.
+fn turn_after(stream: Stream) -> u8
+    ensures { λ r. ⌜ r ≡ index (other stream) ⌝ }
+{
+    match stream {
+        Stream::Stdout => 1,
+        Stream::Stderr => 0,
+    }
+}
+
+// The order of requests.
+fn wish_for(cause: MaybeCause, discard0: bool, discard1: bool, close: bool, settle: bool) -> Wish
+    ensures { λ r. ⌜ r ≡ wishFor cause discard0 discard1 close settle ⌝ }
+{
+    match cause {
+        MaybeCause::Some(cause) => Wish::Request(Request::Terminate(cause)),
+        MaybeCause::None => {
+            if discard0 {
+                return Wish::Request(Request::Discard(Stream::Stdout));
+            }
+            if discard1 {
+                return Wish::Request(Request::Discard(Stream::Stderr));
+            }
+            if close {
+                return Wish::Request(Request::CloseInput);
+            }
+            if settle {
+                return Wish::Request(Request::Settle);
+            }
+            Wish::None
+        }
+    }
+}

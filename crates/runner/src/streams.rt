@@ -1,0 +1,352 @@
+// The output streams, the credit and the input: what each call does once it is not refused by 12, 10 or 11.
+ghost use mathlib.Core.Path.{_≡_};
+ghost use Prim.Native.Nat.{_+_, _≤_, _<_, _^_, max};
+ghost use lib.ListN.{length};
+ghost use Rattle.credit.specs.Need.{byteNeed, lengthNeed};
+ghost use Rattle.runner.specs.RangeLaws.{InRange};
+ghost use Rattle.runner.specs.State.{buffered, noteBuffered};
+ghost use Rattle.runner.specs.Streams.{
+  keepsNone,
+  outputAfter,
+  outputFill,
+  outputTook,
+  readAllowanceOf,
+  discardedNext,
+  closedNext,
+  failedNext,
+  hungUpNext,
+  creditIn,
+  creditAnswer,
+  creditNext,
+  inputAfter,
+  received,
+  isApplied,
+  heard,
+  receiptOf,
+  endAnswer,
+  endNext,
+  wroteAfter,
+  wrote,
+};
+use crate::answer::Hearing;
+use crate::answer::Taken;
+use crate::answer::Taking;
+use crate::pairs::credit_at;
+use crate::pairs::output_in;
+use crate::pairs::put_credit;
+use crate::pairs::put_output;
+use crate::pairs::ring_base;
+use crate::runner::Runner;
+use exec::Admission;
+use exec::PoolIndex;
+use exec::Receipt;
+use exec::Received;
+use exec::Reply;
+use exec::Stream;
+
+impl Runner {
+    // The bytes held now.
+    pub(crate) fn held(self) -> usize
+        requires { ⌜ buffered self < 2 ^ 64 ⌝ }
+        ensures { λ r. ⌜ r ≡ buffered self ⌝ }
+    {
+        let outputs = self.outputs;
+        let input = self.input;
+        let inbox = input.inbox;
+        stdio::outputs::buffered_of(outputs) + inbox.length
+    }
+
+    // Notes them for the high-water mark.
+    fn note_buffered(mut self) -> Runner
+        requires { ⌜ buffered self < 2 ^ 64 ⌝ }
+        ensures { λ r. ⌜ r ≡ noteBuffered self ⌝ }
+    {
+        let held = self.held();
+        let mark = larger(self.high_water, held);
+        self.high_water = mark;
+        self
+    }
+
+    // Whether a stream's bytes are not kept: it closed, or the runner gave up on it or discards it.
+    fn keeps_none(self, stream: Stream) -> bool
+        ensures { λ r. ⌜ r ≡ keepsNone stream self ⌝ }
+    {
+        let outputs = self.outputs;
+        let output = output_in(stream, outputs);
+        (output.closed | self.flags.gave_up) | output.discarding
+    }
+
+    pub(crate) fn allowance(self, stream: Stream) -> usize
+        requires { ⌜ InRange self ⌝ }
+        ensures { λ r. ⌜ r ≡ readAllowanceOf self stream ⌝ }
+    {
+        let outputs = self.outputs;
+        let output = output_in(stream, outputs);
+        let limits = self.limits;
+        output.allowance(self.flags.gave_up, limits.chunk) as usize
+    }
+
+    // Takes bytes that were read from a stream.
+    pub(crate) fn take_output(self, stream: Stream, store: &mut [u8], bytes: &[u8]) -> Taking
+        requires { ⌜ InRange self × (byteNeed (self .limits) ≤ length (now store)) ⌝ }
+        ensures { λ r. ⌜ outputAfter r (now (store .exit)) ≡ outputTook self stream (now (bytes .entry)) (now (store .entry)) ⌝ }
+    {
+        let taking = self.fill_output(stream, store, bytes);
+        if self.keeps_none(stream) {
+            return taking;
+        }
+        let filled = taking.runner;
+        let runner = filled.note_buffered();
+        let taken = taking.taken;
+        Taking { runner, taken }
+    }
+
+    fn fill_output(mut self, stream: Stream, store: &mut [u8], bytes: &[u8]) -> Taking
+        requires { ⌜ InRange self × (byteNeed (self .limits) ≤ length (now store)) ⌝ }
+        ensures { λ r. ⌜ outputAfter r (now (store .exit)) ≡ outputFill self stream (now (bytes .entry)) (now (store .entry)) ⌝ }
+    {
+        let limits = self.limits;
+        let chunk = limits.chunk;
+        let outputs = self.outputs;
+        let output = output_in(stream, outputs);
+        let base = ring_base(stream, chunk);
+        let intake = output.take_in(self.flags.gave_up, store, base, chunk, bytes);
+        let next = put_output(stream, intake.output, outputs);
+        self.outputs = next;
+        Taking {
+            runner: self,
+            taken: Taken::Bytes(intake.taken),
+        }
+    }
+
+    // What the adapter reports of a stream.
+
+    pub(crate) fn discard_output(mut self, stream: Stream, bytes: usize) -> Runner
+        ensures { λ r. ⌜ r ≡ discardedNext self stream bytes ⌝ }
+    {
+        let outputs = self.outputs;
+        let output = output_in(stream, outputs);
+        let next = put_output(stream, output.discard(bytes), outputs);
+        self.outputs = next;
+        self
+    }
+
+    pub(crate) fn close_output(mut self, stream: Stream) -> Runner
+        ensures { λ r. ⌜ r ≡ closedNext self stream ⌝ }
+    {
+        let outputs = self.outputs;
+        let output = output_in(stream, outputs);
+        let next = put_output(stream, output.close(), outputs);
+        self.outputs = next;
+        self
+    }
+
+    pub(crate) fn fail_output(mut self, stream: Stream) -> Runner
+        ensures { λ r. ⌜ r ≡ failedNext self stream ⌝ }
+    {
+        let outputs = self.outputs;
+        let output = output_in(stream, outputs);
+        let next = put_output(stream, output.fail(), outputs);
+        self.outputs = next;
+        self
+    }
+
+    pub(crate) fn hang_up_output(mut self, stream: Stream) -> Runner
+        ensures { λ r. ⌜ r ≡ hungUpNext self stream ⌝ }
+    {
+        let outputs = self.outputs;
+        let output = output_in(stream, outputs);
+        let next = put_output(stream, output.hang_up(), outputs);
+        self.outputs = next;
+        self
+    }
+
+    // The peer's credit.
+    pub(crate) fn grant_as(self, admission: Admission, pool: PoolIndex, units: u32) -> Hearing
+        ensures { λ r. ⌜ r ≡ record { runner = creditNext admission pool self units; received = creditAnswer admission pool self units } ⌝ }
+    {
+        match admission {
+            Admission::Refused(refusal) => Hearing {
+                runner: self,
+                received: Received::Refused(refusal),
+            },
+            Admission::Stale => Hearing {
+                runner: self,
+                received: Received::Receipt(Receipt::Stale),
+            },
+            Admission::Own => self.grant_in(pool, units),
+        }
+    }
+
+    fn grant_in(self, pool: PoolIndex, units: u32) -> Hearing
+        ensures { λ r. ⌜ r ≡ record { runner = creditNext Admission.Own pool self units; received = creditIn pool self units } ⌝ }
+    {
+        match pool {
+            PoolIndex::Refused(refusal) => Hearing {
+                runner: self,
+                received: Received::Refused(refusal),
+            },
+            PoolIndex::At(index) => self.grant_at(index, units),
+        }
+    }
+
+    fn grant_at(mut self, index: usize, units: u32) -> Hearing
+        ensures { λ r. ⌜ r ≡ record { runner = creditNext Admission.Own (PoolIndex.At index) self units; received = creditIn (PoolIndex.At index) self units } ⌝ }
+    {
+        if self.flags.finished {
+            return Hearing {
+                runner: self,
+                received: Received::Receipt(Receipt::Late),
+            };
+        }
+        let credits = self.credits;
+        let account = credit_at(index, credits);
+        let granting = account.grant(units);
+        let next = put_credit(index, granting.credit, credits);
+        self.credits = next;
+        let reply = granting.reply;
+        let received = receipt_of(reply);
+        Hearing {
+            runner: self,
+            received,
+        }
+    }
+
+    // Bytes from the peer.
+    pub(crate) fn receive_as(
+        self,
+        admission: Admission,
+        store: &mut [u8],
+        lengths: &mut [u32],
+        bytes: &[u8],
+    ) -> Hearing
+        requires { ⌜ InRange self × (byteNeed (self .limits) ≤ length (now store)) × (lengthNeed (self .limits) ≤ length (now lengths)) ⌝ }
+        ensures { λ r. ⌜ inputAfter r (now (store .exit)) (now (lengths .exit)) ≡ received admission self (now (bytes .entry)) (now (store .entry)) (now (lengths .entry)) ⌝ }
+    {
+        match admission {
+            Admission::Refused(refusal) => Hearing {
+                runner: self,
+                received: Received::Refused(refusal),
+            },
+            Admission::Stale => Hearing {
+                runner: self,
+                received: Received::Receipt(Receipt::Stale),
+            },
+            Admission::Own => self.receive(store, lengths, bytes),
+        }
+    }
+
+    fn receive(mut self, store: &mut [u8], lengths: &mut [u32], bytes: &[u8]) -> Hearing
+        requires { ⌜ InRange self × (byteNeed (self .limits) ≤ length (now store)) × (lengthNeed (self .limits) ≤ length (now lengths)) ⌝ }
+        ensures { λ r. ⌜ inputAfter r (now (store .exit)) (now (lengths .exit)) ≡ received Admission.Own self (now (bytes .entry)) (now (store .entry)) (now (lengths .entry)) ⌝ }
+    {
+        if self.flags.finished {
+            return Hearing {
+                runner: self,
+                received: Received::Receipt(Receipt::Late),
+            };
+        }
+        let held = self.input;
+        let limits = self.limits;
+        let receiving = held.receive(limits, store, lengths, bytes);
+        let input = receiving.input;
+        self.input = input;
+        let received = receiving.received;
+        self.heard(received)
+    }
+
+    // The high water is noted where the message was kept.
+    fn heard(self, received: Received) -> Hearing
+        requires { ⌜ buffered self < 2 ^ 64 ⌝ }
+        ensures { λ r. ⌜ r ≡ heard received self ⌝ }
+    {
+        if is_applied(received) {
+            let runner = self.note_buffered();
+            return Hearing { runner, received };
+        }
+        Hearing {
+            runner: self,
+            received,
+        }
+    }
+
+    // The peer's end of the input.
+    pub(crate) fn end_as(self, admission: Admission) -> Hearing
+        ensures { λ r. ⌜ r ≡ record { runner = endNext admission self; received = endAnswer admission self } ⌝ }
+    {
+        match admission {
+            Admission::Refused(refusal) => Hearing {
+                runner: self,
+                received: Received::Refused(refusal),
+            },
+            Admission::Stale => Hearing {
+                runner: self,
+                received: Received::Receipt(Receipt::Stale),
+            },
+            Admission::Own => self.end(),
+        }
+    }
+
+    fn end(mut self) -> Hearing
+        ensures { λ r. ⌜ r ≡ record { runner = endNext Admission.Own self; received = endAnswer Admission.Own self } ⌝ }
+    {
+        if self.flags.finished {
+            return Hearing {
+                runner: self,
+                received: Received::Receipt(Receipt::Late),
+            };
+        }
+        let held = self.input;
+        let receiving = held.end();
+        let input = receiving.input;
+        self.input = input;
+        let received = receiving.received;
+        Hearing {
+            runner: self,
+            received,
+        }
+    }
+
+    // The workload took bytes of its input.
+    pub(crate) fn write_input(mut self, lengths: &mut [u32], count: usize) -> Runner
+        requires { ⌜ InRange self × (lengthNeed (self .limits) ≤ length (now lengths)) ⌝ }
+        ensures { λ r. ⌜ wroteAfter r (now (lengths .exit)) ≡ wrote self count (now (lengths .entry)) ⌝ }
+    {
+        let held = self.input;
+        let limits = self.limits;
+        let input = held.written(limits, lengths, count);
+        self.input = input;
+        self
+    }
+}
+
+// The larger of two numbers.
+fn larger(a: usize, b: usize) -> usize
+    ensures { λ r. ⌜ r ≡ max a b ⌝ }
+{
+    if a < b { b } else { a }
+}
+
+// Whether a message of the peer's changed the state as it asks.
+fn is_applied(received: Received) -> bool
+    ensures { λ r. ⌜ r ≡ isApplied received ⌝ }
+{
+    match received {
+        Received::Refused(_) => false,
+        Received::Receipt(receipt) => match receipt {
+            Receipt::Applied => true,
+            Receipt::Stale => false,
+            Receipt::Late => false,
+        },
+    }
+}
+
+// A grant's reply as the answer to its message.
+fn receipt_of(reply: Reply) -> Received
+    ensures { λ r. ⌜ r ≡ receiptOf reply ⌝ }
+{
+    match reply {
+        Reply::Ok => Received::Receipt(Receipt::Applied),
+        Reply::Refused(refusal) => Received::Refused(refusal),
+    }
+}
