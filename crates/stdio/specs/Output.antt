@@ -4,10 +4,11 @@ use mathlib.Core.Path.{_≡_, refl}
 use mathlib.Core.Bool.{Bool, true, false, cond, not, _&&_, _||_}
 use mathlib.Core.List.{List, _++_}
 use native.Mathlib.Omega.{arith}
-use borrow.Author.Tests.{leb-true, ltb-true, eqb-true}
-use lib.Dec.{leb, ltb, eqb}
+use borrow.Author.Tests.{leb-true}
+use lib.Dec.{leb, ltb}
 use lib.ListN.{length, drop}
 use Rattle.credit.specs.Range.{ringFits}
+use Rattle.credit.specs.RangeLaws.{both, ring-start, ring-below}
 use Rattle.ring.specs.Ring.{wrap, ringRead, ringWrite}
 use Rattle.stdio.specs.declared.output.Intake.{Intake}
 use Rattle.stdio.specs.declared.output.Output.{Output}
@@ -259,32 +260,14 @@ sent chunk base n o store buffer =
 unfoldable pub outputFits : (chunk : ℕ) → Output → Bool
 outputFits chunk o = leb (o .queued) chunk && ringFits (o .start) chunk
 
--- each of two, where their conjunction holds
-left : (a b : Bool) → a && b ≡ true → a ≡ true
-left true b h = refl
-left false b h = h
-
-right : (a b : Bool) → a && b ≡ true → b ≡ true
-right true b h = h
-right false true h = refl
-right false false h = h
-
--- a start within its ring is at most the size, and below it where the ring has a place
-start-range : (start size : ℕ) (below : Bool) → ltb start size ≡ below → below || (eqb size 0 && eqb start 0) ≡ true
-    → (start ≤ size) × (0 < size → start < size)
-start-range start size true e h = let l = ltb-true start size e in (omega arith, λ _. l)
-start-range start size false e h =
-    let s = eqb-true size 0 (left _ _ h) in
-    let z = eqb-true start 0 (right (eqb size 0) _ h) in
-    (omega arith, λ p. omega arith)
-
 module _ (chunk : ℕ) (o : Output) (fits : outputFits chunk o ≡ true) where
+  each : (leb (o .queued) chunk ≡ true) × (ringFits (o .start) chunk ≡ true)
+  unfolding outputFits
+  each = both (leb (o .queued) chunk) (ringFits (o .start) chunk) fits
+
   -- what the calls ask of a stream
   pub output-range : (o .queued ≤ chunk) × (o .start ≤ chunk)
-  unfolding outputFits
-  output-range =
-      (leb-true (o .queued) chunk (left _ _ fits), start-range (o .start) chunk _ refl (right (leb (o .queued) chunk) _ fits) .0)
+  output-range = (leb-true (o .queued) chunk (each .0), ring-start (o .start) chunk (each .1))
 
   pub output-start : 0 < chunk → o .start < chunk
-  unfolding outputFits
-  output-start = start-range (o .start) chunk _ refl (right (leb (o .queued) chunk) _ fits) .1
+  output-start = ring-below (o .start) chunk (each .1)
