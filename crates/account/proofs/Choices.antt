@@ -1,0 +1,54 @@
+-- What a choice of message may be.
+use mathlib.Core.Bool.{Bool, true, false, cond}
+use Prim.Native.Nat.{ℕ, _≤_, min}
+use native.Mathlib.Omega.{arith}
+use lib.Dec.{ltb}
+use Rattle.exec.specs.declared.Stream.{Stream}
+use Rattle.exec.specs.declared.Unit as Units
+use Rattle.exec.specs.declared.Unit.the-variants.{Bytes, Frames}
+use Rattle.runner.specs.declared.message.Choice.{Choice}
+use Rattle.runner.specs.declared.message.Choice.the-variants as Choice
+use Rattle.runner.specs.declared.runner.Runner.{Runner}
+use Rattle.runner.specs.Choose.{ifElse}
+use Rattle.exec.specs.Limits.{poolOf}
+use Rattle.exec.specs.Stream.{streamAt}
+use Rattle.credit.specs.Sender.{sendable}
+use Rattle.runner.specs.State.{outOf, other, creditAt}
+use Rattle.runner.specs.Message.{sendableOf, order, choose}
+
+-- no message carries more than the queue holds
+abbrev pub Sound : Runner → Choice → Type 0
+Sound s Choice.None = Unit
+Sound s Choice.Credit = Unit
+Sound s Choice.Started = Unit
+Sound s Choice.InputClosed = Unit
+Sound s (Choice.End x) = Unit
+Sound s (Choice.Output x n) = n ≤ outOf x s .queued
+Sound s Choice.Terminal = Unit
+
+pub record Sent (s : Runner) (m : Choice) : Type 0 where
+  pub sound : Sound s m
+
+sent-if : (s : Runner) (b : Bool) (x y : Choice) → Sent s x → Sent s y → Sent s (ifElse b x y)
+unfolding ifElse
+sent-if s true x y p q = p
+sent-if s false x y p q = q
+
+sendable-most : (u : Units.Unit) (c w : ℕ) → sendable u c w ≤ w
+sendable-most Bytes c w = omega arith
+sendable-most Frames c w = go (ltb 0 c)
+  where
+    go : (b : Bool) → cond b w 0 ≤ w
+    go true = omega arith
+    go false = omega arith
+
+sendable-count : (s : Runner) (n : ℕ) (x : Stream) → sendableOf s n x ≤ outOf x s .queued
+unfolding sendableOf
+sendable-count s n x = let l = sendable-most (s .limits .output .unit) (creditAt (poolOf (s .limits) x) (s .credits) .available) (min (min (outOf x s .queued) (s .limits .chunk)) n) in omega arith
+
+pub choose-sent : (s : Runner) (n : ℕ) → Sent s (choose s n)
+unfolding choose order
+choose-sent s n =
+    sent-if s _ _ _ (record { sound = tt }) (sent-if s _ _ _ (sent-if s _ _ _ (record { sound = tt }) (record { sound = tt })) (sent-if s _ _ _ (record { sound = tt }) (sent-if s _ _ _ (record { sound = tt }) (sent-if s _ _ _ (record { sound = tt }) (sent-if s _ _ _ (record { sound = tt }) (sent-if s _ _ _ (record { sound = tt })
+    (sent-if s _ _ _ (record { sound = sendable-count s n (streamAt (s .turn)) }) (sent-if s _ _ _ (record { sound = sendable-count s n (other (streamAt (s .turn))) })
+    (sent-if s _ _ _ (record { sound = tt }) (sent-if s _ _ _ (record { sound = tt }) (record { sound = tt })))))))))))

@@ -1,0 +1,191 @@
+-- Demand 3, whole: the theorems of the calls without refusals 10, 11 and 12, carried to the calls as they are.
+use mathlib.Core.Bool.{Bool, true, false, cond, _&&_, false≢true}
+use mathlib.Core.Path.{_≡_, refl, sym, ap, _∙_, subst⁻¹}
+use mathlib.Core.List.{List, [], _∷_, _++_}
+use Prim.Native.Nat.{ℕ, _+_, _≤_}
+use native.Mathlib.Omega.{arith}
+use lib.ListN.{length}
+use borrow.Author.Tests.{le-leb}
+use Rattle.exec.specs.declared.Limits.{Limits}
+use Rattle.exec.specs.declared.Refusal.{Refusal}
+use Rattle.exec.specs.declared.Reply.{Reply}
+use Rattle.exec.specs.declared.Reply.the-variants as Reply
+use Rattle.exec.specs.declared.Unit as units
+use Rattle.exec.specs.declared.Unit.the-variants.{Bytes, Frames}
+use Rattle.exec.specs.Limits.{isValid}
+use Rattle.credit.specs.Need.{byteNeed, lengthNeedAs, lengthNeed}
+use Rattle.stdio.specs.declared.input.Input.{Input}
+use Rattle.runner.specs.declared.runner.Runner.{Runner}
+use Rattle.runner.specs.Calls as Calls
+use Rattle.runner.specs.Range.{inRange, bytesDo, lengthsDo, isGood, opens, openStop, fresh}
+use Rattle.account.specs.Call as Call
+use Rattle.account.specs.Call.{Conf, Call, Done}
+use Rattle.account.specs.Step as Step
+use Rattle.account.specs.Step.{State}
+use Rattle.account.specs.Account.{Account, start, account, tallyOf, cut, tickA}
+use Rattle.account.specs.LateClaim.{LateAny}
+use Rattle.account.specs.Claim.{Demand3, Opens, IsPrefix, Silent, accountOf, isStop, isTerminal, anyTerminal}
+use Rattle.account.proofs.Plain.{enough, next, answer, afterAll, run, begun}
+use Rattle.account.proofs.Guarded.{next-is, answer-is, not-stopped}
+use Rattle.account.proofs.Range.{HeldIn, Lent, lent, in-range, and-both}
+use Rattle.account.proofs.Finish.{framed, framed-conf}
+use Rattle.account.proofs.Lists
+use Rattle.account.proofs.Lists.{Sound, sound-next, sound-open, plainOf}
+use Rattle.account.proofs.Five
+use Rattle.account.proofs.Late
+
+-- what a call is lent does
+enough-all : (c : Call) (s : State) → bytesDo (s .runner .limits) (s .bytes) ≡ true → lengthsDo (s .runner .limits) (s .lengths) ≡ true → enough s c ≡ true
+unfolding enough
+enough-all (Call.input k b) s p q = and-both (bytesDo (s .runner .limits) (s .bytes)) (lengthsDo (s .runner .limits) (s .lengths)) p q
+enough-all (Call.output x b) s p q = p
+enough-all (Call.inputWritten n) s p q = q
+enough-all (Call.nextMessage n) s p q = p
+enough-all Call.pendingInput s p q = p
+enough-all (Call.credit k y u) s p q = refl
+enough-all (Call.endInput k) s p q = refl
+enough-all (Call.cancel now k c) s p q = refl
+enough-all (Call.launched x) s p q = refl
+enough-all (Call.discarded x n) s p q = refl
+enough-all (Call.outputClosed x) s p q = refl
+enough-all (Call.outputFailed x) s p q = refl
+enough-all (Call.outputHungUp x) s p q = refl
+enough-all (Call.exited now x) s p q = refl
+enough-all (Call.settled x) s p q = refl
+enough-all (Call.dropped now) s p q = refl
+enough-all (Call.reset now) s p q = refl
+enough-all (Call.disconnect now) s p q = refl
+enough-all (Call.tick now) s p q = refl
+enough-all (Call.readAllowance x) s p q = refl
+enough-all Call.inputClosed s p q = refl
+enough-all Call.nextRequest s p q = refl
+enough-all Call.deadline s p q = refl
+enough-all Call.isFinished s p q = refl
+enough-all Call.isDetached s p q = refl
+enough-all Call.awaitsSettlement s p q = refl
+enough-all Call.buffered s p q = refl
+enough-all Call.highWater s p q = refl
+enough-all Call.memoryBound s p q = refl
+enough-all Call.key s p q = refl
+enough-all Call.limits s p q = refl
+
+-- in Frames the length store does
+slots-by : (u : units.Unit) (l : Limits) (lengths : List ℕ) (i : Input) → HeldIn u l lengths i → lengthNeedAs u (l .input .size) ≤ length lengths
+slots-by Bytes l lengths i h = omega arith
+slots-by Frames l lengths i h = h .4
+
+-- a state that came from open: in range, lent enough, with limits
+pub record Fine (s : State) : Type 0 where
+  pub sound : Sound s
+  pub limits : isValid (s .runner .limits) ≡ true
+
+goes : (s : State) (c : Call) → Fine s → isGood (s .runner) (enough s c) ≡ true
+unfolding isGood
+goes s c h =
+    let r = h .sound .ranged in
+    and-both (inRange (s .runner) && isValid (s .runner .limits)) (enough s c)
+    (and-both (inRange (s .runner)) (isValid (s .runner .limits)) (in-range (s .lengths) (s .runner) r) (h .limits))
+    (enough-all c s (le-leb (byteNeed (s .runner .limits)) (length (s .bytes)) (h .sound .roomy))
+    (le-leb (lengthNeed (s .runner .limits)) (length (s .lengths)) (slots-by (s .runner .limits .input .unit) (s .runner .limits) (s .lengths) (s .runner .input) (r .4 .0))))
+
+pub fine-next : (c : Call) (s : State) → Fine s → Fine (next s c)
+fine-next c s h = record {
+  sound = sound-next c s (h .sound);
+  limits = rw (ap (λ (x : Conf). x .limits) (framed-conf (framed c s))) (h .limits);
+}
+
+fine-list : (cs : List Call) (s : State) → Fine s → Fine (afterAll s cs)
+fine-list [] s h = h
+fine-list (c ∷ cs) s h = fine-list cs (next s c) (fine-next c s h)
+
+pub next-same : (s : State) (c : Call) → Fine s → Step.next s c ≡ next s c
+next-same s c h = next-is s c (goes s c h)
+
+pub answer-same : (s : State) (c : Call) → Fine s → Step.answer s c ≡ answer s c
+answer-same s c h = answer-is s c (goes s c h)
+
+run-same : (cs : List Call) (s : State) → Fine s → Step.run s cs ≡ run s cs
+run-same [] s h = refl
+run-same (c ∷ cs) s h = rw (next-same s c h, answer-same s c h, run-same cs (next s c) (fine-next c s h)) refl
+
+after-same : (cs : List Call) (s : State) → Fine s → Step.after s cs ≡ afterAll s cs
+after-same [] s h = refl
+after-same (c ∷ cs) s h = rw (next-same s c h) (after-same cs (next s c) (fine-next c s h))
+
+-- ---- open
+
+pub fine-open : (conf : Conf) (now : ℕ) (bytes lengths : List ℕ) → Lent (conf .limits) bytes lengths → Fine (begun conf now bytes lengths)
+unfolding fresh
+fine-open conf now bytes lengths o = record { sound = sound-open conf now bytes lengths o; limits = o .limits }
+
+abbrev isOk : Reply → Bool
+isOk Reply.Ok = true
+isOk (Reply.Refused x) = false
+
+ok-only : (b : Bool) (x : Refusal) → cond b Reply.Ok (Reply.Refused x) ≡ Reply.Ok → b ≡ true
+ok-only true x e = refl
+ok-only false x e = absurd (false≢true (ap isOk e))
+
+pub opens-by : (conf : Conf) (now : ℕ) (bytes lengths : List ℕ) → Opens conf now bytes lengths → opens (conf .limits) bytes lengths ≡ true
+unfolding Calls.«open»
+opens-by conf now bytes lengths op = ok-only (opens (conf .limits) bytes lengths) (openStop (conf .limits)) op
+
+chosen : (b : Bool) (x y : Runner) (bytes lengths : List ℕ) → b ≡ true
+    → _≡_ {A = State} (record { runner = cond b x y; bytes = bytes; lengths = lengths }) (record { runner = x; bytes = bytes; lengths = lengths })
+chosen true x y bytes lengths e = refl
+chosen false x y bytes lengths e = absurd (false≢true e)
+
+pub open-same : (conf : Conf) (now : ℕ) (bytes lengths : List ℕ) → Opens conf now bytes lengths → Step.opened conf now bytes lengths ≡ begun conf now bytes lengths
+unfolding Calls.«open»
+open-same conf now bytes lengths op = chosen (opens (conf .limits) bytes lengths) _ _ bytes lengths (opens-by conf now bytes lengths op)
+
+-- ---- the demand
+
+module _ (conf : Conf) (now : ℕ) (bytes lengths : List ℕ) (op : Opens conf now bytes lengths) where
+  lt : Lent (conf .limits) bytes lengths
+  lt = lent (conf .limits) bytes lengths (opens-by conf now bytes lengths op)
+
+  f0 : Fine (begun conf now bytes lengths)
+  f0 = fine-open conf now bytes lengths lt
+
+  fs : (cs : List Call) → Fine (afterAll (begun conf now bytes lengths) cs)
+  fs cs = fine-list cs (begun conf now bytes lengths) f0
+
+  pub same-after : (cs : List Call) → Step.after (Step.opened conf now bytes lengths) cs ≡ afterAll (begun conf now bytes lengths) cs
+  same-after cs = ap (λ (s : State). Step.after s cs) (open-same conf now bytes lengths op) ∙ after-same cs (begun conf now bytes lengths) f0
+
+  pub same-run : (cs : List Call) → Step.run (Step.opened conf now bytes lengths) cs ≡ run (begun conf now bytes lengths) cs
+  same-run cs = ap (λ (s : State). Step.run s cs) (open-same conf now bytes lengths op) ∙ run-same cs (begun conf now bytes lengths) f0
+
+  same-account : (cs : List Call) → accountOf conf now bytes lengths cs ≡ plainOf conf now bytes lengths cs
+  same-account cs = ap (λ (ds : List Done). account (start conf now) ds) (same-run cs)
+
+  pub same-answer : (cs : List Call) (c : Call) → Step.answer (Step.after (Step.opened conf now bytes lengths) cs) c ≡ answer (afterAll (begun conf now bytes lengths) cs) c
+  same-answer cs c = ap (λ (s : State). Step.answer s c) (same-after cs) ∙ answer-same (afterAll (begun conf now bytes lengths) cs) c (fs cs)
+
+  same-next : (cs : List Call) (c : Call) → Step.next (Step.after (Step.opened conf now bytes lengths) cs) c ≡ next (afterAll (begun conf now bytes lengths) cs) c
+  same-next cs c = ap (λ (s : State). Step.next s c) (same-after cs) ∙ next-same (afterAll (begun conf now bytes lengths) cs) c (fs cs)
+
+  same-rest : (cs : List Call) (c : Call) (ds : List Call)
+      → Step.run (Step.next (Step.after (Step.opened conf now bytes lengths) cs) c) ds ≡ run (next (afterAll (begun conf now bytes lengths) cs) c) ds
+  same-rest cs c ds =
+      let t : State = next (afterAll (begun conf now bytes lengths) cs) c in
+      ap (λ (s : State). Step.run s ds) (same-next cs c) ∙ run-same ds t (fine-next c (afterAll (begun conf now bytes lengths) cs) (fs cs))
+
+  pub late-any : LateAny conf now bytes lengths
+  late-any cs ds es t n k c call e l m i v =
+      subst⁻¹ (λ (ds : List Done). anyTerminal ds ≡ true) (same-run (cs ++ (Call.cancel t k c ∷ (ds ++ (call ∷ es)))))
+      (Late.any conf now bytes lengths cs ds es t n k c call (sym (same-answer cs _) ∙ e) l m i v)
+
+  pub demand3 : Demand3 conf now bytes lengths
+  demand3 = record {
+    joined = λ cs x. subst⁻¹ (λ (a : Account). IsPrefix (tallyOf x a .sent) (tallyOf x a .taken)) (same-account cs) (Lists.joined conf now bytes lengths lt cs x);
+    once = λ cs c ds e. subst⁻¹ Silent (same-rest cs c ds) (Lists.once (afterAll (begun conf now bytes lengths) cs) c ds (sym (ap isTerminal (same-answer cs c)) ∙ e));
+    marks = λ cs c o e. subst⁻¹ (λ (a : Account). (o .«stdout_truncated» ≡ cut (a .t0)) × (o .«stderr_truncated» ≡ cut (a .t1))) (same-account cs)
+        (Lists.marks-at _ _ c o (Lists.open-course conf now bytes lengths lt cs) (sym (same-answer cs c) ∙ e));
+    first = λ cs t k c e. (let p = Five.first t k c (afterAll (begun conf now bytes lengths) cs) (sym (same-answer cs _) ∙ e) in
+        subst⁻¹ (λ (a : Account). tickA t a .rep .begun ≡ false) (same-account cs) (Lists.course-begun t _ _ (p .0) (Lists.open-course conf now bytes lengths lt cs) ∙ p .1));
+    late = λ cs ds es t n k c e l m v. late-any cs ds es t n k c (Call.tick n) e l m refl v;
+    ranged = λ cs c. subst⁻¹ (λ (s : State). isStop (Step.answer s c) ≡ false) (same-after cs)
+        (not-stopped (afterAll (begun conf now bytes lengths) cs) c (goes (afterAll (begun conf now bytes lengths) cs) c (fs cs)));
+  }

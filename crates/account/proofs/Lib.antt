@@ -1,0 +1,20 @@
+-- The proof of demand 3, file by file.
+pub mod Plain
+pub mod Guarded
+pub mod Rings
+pub mod Streams
+pub mod Stages
+pub mod Lives
+pub mod Choices
+pub mod Range
+pub mod Timing
+pub mod Finish
+pub mod Lists
+pub mod Five
+pub mod Late
+pub mod Demand
+pub mod InputMoves
+pub mod Units
+pub mod Session
+pub mod Tight
+pub mod InputFifo

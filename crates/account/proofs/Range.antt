@@ -1,0 +1,612 @@
+-- From open on no state is out of range: what 12 asks holds after every list of calls.
+use mathlib.Core.Bool.{Bool, true, false, cond, not, _&&_, _||_, true≢false, false≢true}
+use mathlib.Core.Path.{_≡_, refl, ap, _∙_}
+use mathlib.Core.List.{List, [], _∷_, _++_}
+use Prim.Native.Nat.{ℕ, suc, _+_, _-_, _*_, _≤_, _<_, min}
+use native.Mathlib.Omega.{arith}
+use native.Mathlib.Nat.{mul-le-mul, mul-le-mul-right, suc-mul, zero-mul}
+use lib.Dec.{ltb, leb, eqb}
+use lib.ListN.{length, set, length-set}
+use borrow.Author.Tests.{le-leb, lt-ltb, ltb-true, ltb-false, leb-true, eq-eqb, not-true}
+use Rattle.exec.specs.declared.Admission.{Admission}
+use Rattle.exec.specs.declared.Admission.the-variants as Admission
+use Rattle.exec.specs.declared.Cause.{Cause}
+use Rattle.exec.specs.declared.Cause.the-variants as Cause
+use Rattle.exec.specs.declared.LaunchResult.{LaunchResult}
+use Rattle.exec.specs.declared.LaunchResult.the-variants as LaunchResult
+use Rattle.exec.specs.declared.Limits.{Limits}
+use Rattle.exec.specs.declared.MaybeStatus.{MaybeStatus}
+use Rattle.exec.specs.declared.PoolIndex.{PoolIndex}
+use Rattle.exec.specs.declared.PoolIndex.the-variants as PoolIndex
+use Rattle.exec.specs.declared.Stream.{Stream}
+use Rattle.exec.specs.declared.Stream.the-variants.{Stdout, Stderr}
+use Rattle.exec.specs.declared.Unit as units
+use Rattle.exec.specs.declared.Unit.the-variants.{Bytes, Frames}
+use Rattle.exec.specs.Key.{admits}
+use Rattle.exec.specs.Limits.{cost, bytesWith, inputBytes, isValid, outputPool, poolOf, offChunk}
+use Rattle.exec.specs.Time.{due}
+use Rattle.ring.specs.Ring.{wrap, ringRead}
+use Rattle.ring.specs.RingLaws.{wrap-lt, read-length, read-none, write-read}
+use Rattle.ring.specs.Frames.{restOf, sum, Popped, popped}
+use Rattle.ring.specs.FrameLaws.{rest-sum, pop-rest, pop-most, pop-length, push-is-write}
+use Rattle.credit.specs.declared.sender.Credit.{Credit}
+use Rattle.credit.specs.Inbox.{inboxHeld, framesPushed, framesPopped, lengthsPushed, freedBy, lengthsPopped, firstAfter, pushed}
+use Rattle.credit.specs.Need.{byteNeed, lengthNeedAs, lengthNeed}
+use Rattle.credit.specs.Range.{ringFits, framesFit}
+use Rattle.credit.specs.RangeLaws.{both}
+use Rattle.credit.specs.Receiver.{unitsFit}
+use Rattle.credit.specs.Sender.{grantable, grant, spent}
+use Rattle.lifecycle.specs.Life.{isFenced}
+use Rattle.stdio.specs.declared.input.Input.{Input}
+use Rattle.stdio.specs.declared.output.Output.{Output}
+use Rattle.stdio.specs.Input.{closeInput, receiveInput, receiveLengths, isPaid, endInput, writtenInput, writtenLengths, closeWhenTaken, peerEnds, popIn}
+use Rattle.stdio.specs.Output.{keeps, keeps-fit, outputFits}
+use Rattle.runner.specs.declared.answer.Request.the-variants as Request
+use Rattle.runner.specs.declared.message.Choice.{Choice}
+use Rattle.runner.specs.declared.message.Choice.the-variants as Choice
+use Rattle.runner.specs.declared.message.Wish.{Wish}
+use Rattle.runner.specs.declared.message.Wish.the-variants as Wish
+use Rattle.runner.specs.declared.runner.Runner.{Runner}
+use Rattle.runner.specs.Life.{awaitsLaunch, isCleanedUp, isLate, isOver, closeRunnerInput, endGrace, giveUp, abandonLaunch, abandonOpenStreams, beginTermination, passGrace, terminate, passTimeout, passSettlement, giveUpUnlessClean, passGiveUp, dropLaunch, dropStreams, passAbandonment, fire, ticked, timeoutCleared, cancelNext, noteStarted, noteLaunch, launchedNext, noteExit, noteExitOnce, exitedNext, settledNext, detached, giveUpSoon, cutOff, cutOffOnce, detachNext}
+use Rattle.runner.specs.Message.{choose, outputPaid, outputSent, effect, wish, wishEffect}
+use Rattle.runner.specs.Range.{inRange, bytesDo, lengthsDo, opens, fresh}
+use Rattle.runner.specs.State.{out0, out1, outOf, credit0, credit1, creditAt, putCredit}
+use Rattle.runner.specs.Streams as Streams
+use Rattle.runner.specs.Streams.{isShut, creditsIn, creditsAfter, creditNext, isTaken, inputNext, inputLengths, endNext, writtenNext, outputNext, discardedNext, closedNext, failedNext, hungUpNext}
+use Rattle.account.specs.Call as Call
+use Rattle.account.specs.Call.{Conf, Call}
+use Rattle.account.specs.Step.{State}
+use Rattle.account.proofs.Plain.{next, begun, afterAll}
+use Rattle.account.proofs.Streams.{Fits}
+use Rattle.account.proofs.Choices.{Sent, choose-sent}
+
+-- ---- frames: the bytes they hold, and what a pop leaves
+
+pub data All (n : ℕ) : List ℕ → Type 0 where
+  none : All n []
+  more : {f : ℕ} {fs : List ℕ} → f ≤ n → All n fs → All n (f ∷ fs)
+
+sum-most : (n : ℕ) (fs : List ℕ) → All n fs → sum fs ≤ length fs * n
+sum-most n [] a = rw zero-mul (omega arith)
+sum-most n (f ∷ fs) (more l a) = let z = sum-most n fs a in rw suc-mul (omega arith)
+
+rest-small : (n m f : ℕ) (fs : List ℕ) (b1 b2 : Bool) → f ≤ n → All n fs → All n (restOf fs (m - f))
+    → All n (cond b1 (f ∷ fs) (cond b2 ((f - m) ∷ fs) (restOf fs (m - f))))
+rest-small n m f fs true b2 h a r = more h a
+rest-small n m f fs false true h a r = more {f = f - m} (omega arith) a
+rest-small n m f fs false false h a r = r
+
+all-rest : (n m : ℕ) (fs : List ℕ) → All n fs → All n (restOf fs m)
+unfolding restOf
+all-rest n m [] a = none
+all-rest n m (f ∷ fs) (more h a) = rest-small n m f fs (eqb m 0) (ltb m f) h a (all-rest n (m - f) fs a)
+
+all-append : (n : ℕ) (a b : List ℕ) → All n a → All n b → All n (a ++ b)
+all-append n [] b p q = q
+all-append n (x ∷ a) b (more h p) q = more h (all-append n a b p q)
+
+sum-append : (a b : List ℕ) → sum (a ++ b) ≡ sum a + sum b
+sum-append [] b = omega arith
+sum-append (x ∷ a) b = let z = sum-append a b in omega arith
+
+-- ---- the input in range
+
+-- the bytes of the inbox's ring
+abbrev areaAs : units.Unit → Limits → ℕ
+areaAs u l = bytesWith u (l .input .size) (l .chunk)
+
+-- the frames that wait
+abbrev pub waiting : List ℕ → ℕ → ℕ → ℕ → List ℕ
+waiting lengths size first frames = ringRead 0 size first frames lengths
+
+-- by the unit: in Bytes no frame is counted, in Frames the lengths that wait stand in their ring
+abbrev pub Held : units.Unit → Limits → List ℕ → ℕ → ℕ → ℕ → ℕ → ℕ → Type 0
+Held Bytes l lengths open′ returnable count first frames = (open′ + returnable + count ≤ l .input .size) × (first ≡ 0) × (frames ≡ 0)
+Held Frames l lengths open′ returnable count first frames =
+    (open′ + returnable + frames ≤ l .input .size) × (count ≡ sum (waiting lengths (l .input .size) first frames))
+    × All (l .chunk) (waiting lengths (l .input .size) first frames) × (first < l .input .size) × (l .input .size ≤ length lengths)
+
+abbrev pub HeldIn : units.Unit → Limits → List ℕ → Input → Type 0
+HeldIn u l lengths i = Held u l lengths (i .window .open) (i .window .returnable) (i .inbox .length) (i .inbox .first) (i .inbox .frames)
+
+abbrev pub InRange : Limits → List ℕ → Input → Type 0
+InRange l lengths i = HeldIn (l .input .unit) l lengths i × (i .inbox .start < inputBytes l)
+
+waiting-length : (lengths : List ℕ) (size first frames : ℕ) → size ≤ length lengths → first < size → frames ≤ size → length (waiting lengths size first frames) ≡ frames
+waiting-length lengths size first frames a b c = read-length 0 size first frames lengths (omega arith) (omega arith) c
+
+-- what is held fits the ring, with one more message that is paid for
+pub room-by : (u : units.Unit) (l : Limits) (lengths : List ℕ) (i : Input) (n : ℕ) → HeldIn u l lengths i → n ≤ l .chunk → cost u n ≤ i .window .open → i .inbox .length + n ≤ bytesWith u (l .input .size) (l .chunk)
+unfolding cost bytesWith
+room-by Bytes l lengths i n h m k = let z = h .0 in omega arith
+room-by Frames l lengths i n h m k =
+    let z = h .0 in let s = h .1 in
+    let t = sum-most (l .chunk) (waiting lengths (l .input .size) (i .inbox .first) (i .inbox .frames)) (h .2) in
+    let w = waiting-length lengths (l .input .size) (i .inbox .first) (i .inbox .frames) (h .4) (h .3) (omega arith) in
+    let e : length (waiting lengths (l .input .size) (i .inbox .first) (i .inbox .frames)) * l .chunk ≡ i .inbox .frames * l .chunk = ap (λ (x : ℕ). x * l .chunk) w in
+    let p = mul-le-mul-right {m = suc (i .inbox .frames)} {n = l .input .size} (l .chunk) (omega arith) in
+    let q : i .inbox .length + n ≤ suc (i .inbox .frames) * l .chunk = rw suc-mul (omega arith) in
+    omega arith
+
+holds-by : (u : units.Unit) (l : Limits) (lengths : List ℕ) (i : Input) → HeldIn u l lengths i → i .inbox .length ≤ areaAs u l
+unfolding bytesWith
+holds-by Bytes l lengths i h = let z = h .0 in omega arith
+holds-by Frames l lengths i h =
+    let z = h .0 in let s = h .1 in
+    let t = sum-most (l .chunk) (waiting lengths (l .input .size) (i .inbox .first) (i .inbox .frames)) (h .2) in
+    let w = waiting-length lengths (l .input .size) (i .inbox .first) (i .inbox .frames) (h .4) (h .3) (omega arith) in
+    let e : length (waiting lengths (l .input .size) (i .inbox .first) (i .inbox .frames)) * l .chunk ≡ i .inbox .frames * l .chunk = ap (λ (x : ℕ). x * l .chunk) w in
+    let p = mul-le-mul-right {m = i .inbox .frames} {n = l .input .size} (l .chunk) (omega arith) in omega arith
+
+cleared-by : (u : units.Unit) (l : Limits) (lengths : List ℕ) (i : Input) → HeldIn u l lengths i → Held u l lengths (i .window .open) (i .window .returnable) 0 0 0
+cleared-by Bytes l lengths i h = let z = h .0 in (omega arith, refl, refl)
+cleared-by Frames l lengths i h =
+    let z = h .0 in let f = h .3 in (omega arith, rw (read-none 0 (l .input .size) 0 lengths) refl, rw (read-none 0 (l .input .size) 0 lengths) none, omega arith, h .4)
+
+input-either : (b : Bool) (l : Limits) (lengths : List ℕ) (i j : Input) → InRange l lengths i → InRange l lengths j → InRange l lengths (cond b i j)
+input-either true l lengths i j h k = h
+input-either false l lengths i j h k = k
+
+close-range : (l : Limits) (lengths : List ℕ) (i : Input) (d : Bool) → InRange l lengths i → InRange l lengths (closeInput i d)
+close-range l lengths i d h = input-either (i .closed) l lengths i _ h (cleared-by (l .input .unit) l lengths i (h .0), (let z = h .1 in omega arith))
+
+-- m bytes taken by the workload: the lengths after it
+pop-by : (u : units.Unit) (l : Limits) (lengths : List ℕ) (i : Input) (m : ℕ) → m ≤ i .inbox .length → HeldIn u l lengths i
+    → Held u l (lengthsPopped u (l .input .size) m (i .inbox) lengths) (i .window .open) (i .window .returnable + freedBy u (l .input .size) m (i .inbox) lengths)
+    (i .inbox .length - m) (firstAfter u (l .input .size) (freedBy u (l .input .size) m (i .inbox) lengths) (i .inbox))
+    (framesPopped u (freedBy u (l .input .size) m (i .inbox) lengths) (i .inbox .frames))
+pop-by Bytes l lengths i m k h = let z = h .0 in (omega arith, h .1, h .2)
+pop-by Frames l lengths i m k h =
+    let size : ℕ = l .input .size in let first : ℕ = i .inbox .first in let frames : ℕ = i .inbox .frames in
+    let fs : List ℕ = waiting lengths size first frames in
+    let z0 = h .0 in let z1 = h .1 in let z3 = h .3 in let z4 = h .4 in
+    let most : frames ≤ size = omega arith in
+    let begins : first ≤ size = omega arith in
+    let q : Popped = popped frames size first m lengths in
+    let r : waiting (q .lengths) size (wrap size (first + q .freed)) (frames - q .freed) ≡ restOf fs m = pop-rest frames size first m lengths z4 begins most in
+    let fm : q .freed ≤ frames = pop-most frames size first m lengths z4 begins most in
+    let ll : length (q .lengths) ≡ length lengths = pop-length frames size first m 0 lengths in
+    let s1 : sum (restOf fs m) ≡ sum fs - m = rest-sum fs m in (
+      omega arith,
+      rw r (omega arith),
+      rw r (all-rest (l .chunk) m fs (h .2)),
+      wrap-lt size (first + q .freed) (omega arith),
+      omega arith,
+    )
+
+written-range : (l : Limits) (lengths : List ℕ) (n : ℕ) (i : Input) → InRange l lengths i → InRange l (writtenLengths l i n lengths) (writtenInput l i n lengths)
+unfolding writtenLengths writtenInput
+written-range l lengths n i h = go (i .closed)
+  where
+    go : (b : Bool)
+        → InRange l (cond b lengths (lengthsPopped (l .input .unit) (l .input .size) (min n (i .inbox .length)) (i .inbox) lengths)) (cond b i (closeWhenTaken (popIn l n lengths i)))
+    go true = h
+    go false =
+        let m : ℕ = min n (i .inbox .length) in
+        let k : m ≤ i .inbox .length = omega arith in
+        let w = holds-by (l .input .unit) l lengths i (h .0) in let z = h .1 in
+        (pop-by (l .input .unit) l lengths i m k (h .0), wrap-lt (inputBytes l) (i .inbox .start + m) (omega arith))
+
+-- a message that is paid for, kept: its length goes behind the others
+push-by : (u : units.Unit) (l : Limits) (lengths : List ℕ) (n : ℕ) (i : Input) → n ≤ l .chunk → cost u n ≤ i .window .open → HeldIn u l lengths i
+    → Held u l (lengthsPushed u (l .input .size) n (i .inbox) lengths) (i .window .open - cost u n) (i .window .returnable) (i .inbox .length + n) (i .inbox .first) (framesPushed u (i .inbox .frames))
+unfolding cost
+push-by Bytes l lengths n i m k h = let z = h .0 in (omega arith, h .1, h .2)
+push-by Frames l lengths n i m k h =
+    let size : ℕ = l .input .size in let first : ℕ = i .inbox .first in let frames : ℕ = i .inbox .frames in
+    let z = h .0 in let z1 = h .1 in let z3 = h .3 in let z4 = h .4 in
+    let less : frames < size = omega arith in
+    let e : waiting (set lengths (wrap size (first + frames)) n) size first (frames + 1) ≡ waiting lengths size first frames ++ (n ∷ [])
+    = ap (λ (x : List ℕ). ringRead 0 size first (frames + 1) x) (push-is-write size first frames n lengths z4 (omega arith) less)
+    ∙ write-read 0 size first frames (n ∷ []) 1 lengths (omega arith) (omega arith) (omega arith) (omega arith) in
+    let ls = length-set lengths (wrap size (first + frames)) n in (
+      omega arith,
+      rw (e, sum-append (waiting lengths size first frames) (n ∷ [])) (omega arith),
+      rw e (all-append (l .chunk) (waiting lengths size first frames) (n ∷ []) (h .2) (more m none)),
+      z3,
+      omega arith,
+    )
+
+-- paid for and dropped
+pay-by : (u : units.Unit) (l : Limits) (lengths : List ℕ) (n : ℕ) (i : Input) → HeldIn u l lengths i
+    → Held u l lengths (i .window .open - cost u n) (i .window .returnable) (i .inbox .length) (i .inbox .first) (i .inbox .frames)
+pay-by Bytes l lengths n i h = let z = h .0 in (omega arith, h .1, h .2)
+pay-by Frames l lengths n i h = let z = h .0 in (omega arith, h .1, h .2, h .3, h .4)
+
+or-false-l : (a b : Bool) → (a || b) ≡ false → a ≡ false
+or-false-l true b e = e
+or-false-l false b e = refl
+
+or-false-r : (a b : Bool) → (a || b) ≡ false → b ≡ false
+or-false-r true b e = absurd (true≢false e)
+or-false-r false b e = e
+
+-- what an input that is paid for has passed
+pub record Paid (l : Limits) (n : ℕ) (i : Input) : Type 0 where
+  pub small : n ≤ l .chunk
+  pub enough : cost (l .input .unit) n ≤ i .window .open
+
+pub paid : (l : Limits) (i : Input) (n : ℕ) → isPaid l i n ≡ true → Paid l n i
+paid l i n e =
+    let c : ℕ = cost (l .input .unit) n in
+    let g : Bool = i .«peer_ended» || offChunk l n in
+    let w : (g || ltb (i .window .open) c) ≡ false = not-true (g || ltb (i .window .open) c) e in
+    let b : (eqb n 0 || ltb (l .chunk) n) ≡ false = or-false-r (i .«peer_ended») (offChunk l n) (or-false-l g (ltb (i .window .open) c) w) in
+    record {
+      small = ltb-false (l .chunk) n (or-false-r (eqb n 0) (ltb (l .chunk) n) b);
+      enough = ltb-false (i .window .open) c (or-false-r g (ltb (i .window .open) c) w);
+    }
+
+-- the input by whether the message is paid for, and kept
+abbrev receivedIf : Bool → Bool → Limits → ℕ → Input → Input
+receivedIf pays keeps l n i = record {
+  inbox = cond keeps (pushed (l .input .unit) n (i .inbox)) (i .inbox);
+  window = record {
+    «open» = cond pays (i .window .open - cost (l .input .unit) n) (i .window .open);
+    returnable = i .window .returnable;
+  };
+  «peer_ended» = i .«peer_ended»;
+  closed = i .closed;
+  «close_requested» = i .«close_requested»;
+  «closed_message» = i .«closed_message»;
+}
+
+received-if : (x c : Bool) (l : Limits) (lengths : List ℕ) (n : ℕ) (i : Input) → (x ≡ true → Paid l n i) → InRange l lengths i
+    → InRange l (cond (x && not c) (lengthsPushed (l .input .unit) (l .input .size) n (i .inbox) lengths) lengths) (receivedIf x (x && not c) l n i)
+received-if true true l lengths n i p h = (pay-by (l .input .unit) l lengths n i (h .0), h .1)
+received-if true false l lengths n i p h = let q = p refl in (push-by (l .input .unit) l lengths n i (q .small) (q .enough) (h .0), h .1)
+received-if false c l lengths n i p h = h
+
+input-if : (b : Bool) (l : Limits) (lengths : List ℕ) (n : ℕ) (i : Input) → InRange l lengths i
+    → InRange l (cond b (receiveLengths l i n lengths) lengths) (cond b (receiveInput l i n) i)
+unfolding receiveLengths receiveInput
+input-if true l lengths n i h = received-if (isPaid l i n) (i .closed) l lengths n i (paid l i n) h
+input-if false l lengths n i h = h
+
+end-if : (b : Bool) (l : Limits) (lengths : List ℕ) (i : Input) → InRange l lengths i → InRange l lengths (cond b (endInput i) i)
+unfolding endInput
+end-if false l lengths i h = h
+end-if true l lengths i h = input-either (i .«peer_ended») l lengths i (closeWhenTaken (peerEnds i)) h h
+
+granted-by : (u : units.Unit) (l : Limits) (lengths : List ℕ) (i : Input) → HeldIn u l lengths i
+    → Held u l lengths (i .window .open + i .window .returnable) 0 (i .inbox .length) (i .inbox .first) (i .inbox .frames)
+granted-by Bytes l lengths i h = let z = h .0 in (omega arith, h .1, h .2)
+granted-by Frames l lengths i h = let z = h .0 in (omega arith, h .1, h .2, h .3, h .4)
+
+-- ---- the credit in range
+
+abbrev pub Within : Credit → Type 0
+Within c = c .available ≤ c .window
+
+abbrev WithinBoth : List Credit → Type 0
+WithinBoth cs = Within (credit0 cs) × Within (credit1 cs)
+
+grant-range : (c : Credit) (u : ℕ) → Within c → Within (grant c u .credit)
+grant-range c u h = go (grantable c u) refl
+  where
+    go : (b : Bool) → grantable c u ≡ b → cond b (c .available + u) (c .available) ≤ c .window
+    go true e = leb-true (c .available + u) (c .window) (both (ltb 0 u) (leb (c .available + u) (c .window)) e .1)
+    go false e = h
+
+spent-range : (c : Credit) (n : ℕ) → Within c → Within (spent c n)
+spent-range c n h = omega arith
+
+-- the account at a position, changed by what keeps it within its window
+put-if : (b : Bool) (f : Credit → Credit) (c0 c1 : Credit) → ((c : Credit) → Within c → Within (f c)) → Within c0 → Within c1
+    → Within (cond b (f (cond b c0 c1)) c0) × Within (cond b c1 (f (cond b c0 c1)))
+put-if true f c0 c1 k p q = (k c0 p, q)
+put-if false f c0 c1 k p q = (p, k c1 q)
+
+put-range : (i : ℕ) (f : Credit → Credit) (cs : List Credit) → ((c : Credit) → Within c → Within (f c)) → WithinBoth cs
+    → WithinBoth (putCredit i (f (creditAt i cs)) cs)
+put-range i f cs k h = put-if (eqb i 0) f (credit0 cs) (credit1 cs) k (h .0) (h .1)
+
+credits-either : (b : Bool) (x y : List Credit) → WithinBoth x → WithinBoth y → WithinBoth (cond b x y)
+credits-either true x y p q = p
+credits-either false x y p q = q
+
+credits-in : (p : PoolIndex) (f : Bool) (u : ℕ) (cs : List Credit) → WithinBoth cs → WithinBoth (creditsIn p f u cs)
+credits-in (PoolIndex.Refused x) f u cs h = h
+credits-in (PoolIndex.At i) f u cs h =
+    credits-either f cs (putCredit i (grant (creditAt i cs) u .credit) cs) h
+    (put-range i (λ (c : Credit). grant c u .credit) cs (λ c w. grant-range c u w) h)
+
+credits-range : (a : Admission) (p : PoolIndex) (f : Bool) (u : ℕ) (cs : List Credit) → WithinBoth cs → WithinBoth (creditsAfter a p f u cs)
+credits-range (Admission.Refused x) p f u cs h = h
+credits-range Admission.Stale p f u cs h = h
+credits-range Admission.Own p f u cs h = credits-in p f u cs h
+
+-- ---- the state
+
+abbrev pub Ranged : List ℕ → Runner → Type 0
+Ranged lengths s =
+    Fits (s .limits .chunk) (out0 s .start) (out0 s .queued) × Fits (s .limits .chunk) (out1 s .start) (out1 s .queued)
+    × Within (credit0 (s .credits)) × Within (credit1 (s .credits)) × InRange (s .limits) lengths (s .input) × (s .turn ≤ 1)
+
+emptied : (n s k : ℕ) → Fits n s k → Fits n 0 0
+emptied n s k h = record { inside = (let z = h .inside in omega arith); within = omega arith }
+
+sent-range : (n m s k : ℕ) → m ≤ k → Fits n s k → Fits n (wrap n (s + m)) (k - m)
+sent-range n m s k l h = let z = h .inside in let w = h .within in record { inside = wrap-lt n (s + m) (omega arith); within = omega arith }
+
+kept-range : (n s k : ℕ) (x d : Bool) (m : ℕ) → Fits n s k → Fits n s (k + keeps x d (n - k) m)
+kept-range n s k x d m h = let z = keeps-fit x d (n - k) m in let w = h .within in record { inside = h .inside; within = omega arith }
+
+module _ (ls : List ℕ) where
+  either : (b : Bool) (x y : Runner) → Ranged ls x → Ranged ls y → Ranged ls (cond b x y)
+  either true x y h k = h
+  either false x y h k = k
+
+  end-grace-range : (s : Runner) → Ranged ls s → Ranged ls (endGrace s)
+  unfolding endGrace
+  end-grace-range s h = (emptied _ _ _ (h .0), emptied _ _ _ (h .1), h .2, h .3, h .4, h .5)
+
+  grace-range : (now : ℕ) (s : Runner) → Ranged ls s → Ranged ls (passGrace s now)
+  unfolding passGrace
+  grace-range now s h = either (due (s .clocks .«grace_until») now) (endGrace s) s (end-grace-range s h) h
+
+  begin-range : (now : ℕ) (c : Cause) (s : Runner) → Ranged ls s → Ranged ls (beginTermination s now c)
+  unfolding beginTermination
+  begin-range now c s h = (h .0, h .1, h .2, h .3, close-range (s .limits) ls (s .input) (s .flags .detached) (h .4), h .5)
+
+  terminate-range : (now : ℕ) (c : Cause) (s : Runner) → Ranged ls s → Ranged ls (terminate s now c)
+  unfolding terminate
+  terminate-range now c s h =
+      either (s .clocks .terminated) s (passGrace (beginTermination s now c) now) h (grace-range now (beginTermination s now c) (begin-range now c s h))
+
+  timeout-range : (now : ℕ) (s : Runner) → Ranged ls s → Ranged ls (passTimeout s now)
+  unfolding passTimeout
+  timeout-range now s h =
+      either (due (s .clocks .«timeout_at») now) (terminate (timeoutCleared s) now Cause.TimedOut) s (terminate-range now Cause.TimedOut (timeoutCleared s) h) h
+
+  settlement-range : (now : ℕ) (s : Runner) → Ranged ls s → Ranged ls (passSettlement s now)
+  unfolding passSettlement
+  settlement-range now s h = h
+
+  given-up-range : (s : Runner) → Ranged ls s → Ranged ls (giveUp s)
+  unfolding giveUp
+  given-up-range s h = (emptied _ _ _ (h .0), emptied _ _ _ (h .1), h .2, h .3, h .4, h .5)
+
+  give-up-range : (now : ℕ) (s : Runner) → Ranged ls s → Ranged ls (passGiveUp s now)
+  unfolding passGiveUp giveUpUnlessClean
+  give-up-range now s h =
+      either (due (s .clocks .«give_up_at») now) (giveUpUnlessClean s) s (either (isCleanedUp s) _ (giveUp s) h (given-up-range s h)) h
+
+  launch-range : (s : Runner) → Ranged ls s → Ranged ls (dropLaunch s)
+  unfolding dropLaunch abandonLaunch
+  launch-range s h = either (awaitsLaunch s) (abandonLaunch s) s h h
+
+  streams-range : (s : Runner) → Ranged ls s → Ranged ls (dropStreams s)
+  unfolding dropStreams abandonOpenStreams
+  streams-range s h = either (isFenced (s .life .settling)) (abandonOpenStreams s) s h h
+
+  abandon-range : (now : ℕ) (s : Runner) → Ranged ls s → Ranged ls (passAbandonment s now)
+  unfolding passAbandonment
+  abandon-range now s h = either (due (s .clocks .«abandon_at») now) (dropStreams (dropLaunch s)) s (streams-range (dropLaunch s) (launch-range s h)) h
+
+  fire-range : (now : ℕ) (s : Runner) → Ranged ls s → Ranged ls (fire s now)
+  unfolding fire
+  fire-range now s h =
+      let s1 : Runner = passTimeout s now in let s2 : Runner = passGrace s1 now in let s3 : Runner = passSettlement s2 now in let s4 : Runner = passGiveUp s3 now in
+      abandon-range now s4 (give-up-range now s3 (settlement-range now s2 (grace-range now s1 (timeout-range now s h))))
+
+  tick-range : (now : ℕ) (s : Runner) → Ranged ls s → Ranged ls (ticked s now)
+  unfolding ticked
+  tick-range now s h = either (s .flags .finished) s (fire s now) h (fire-range now s h)
+
+  cancel-range : (k : Admission) (now : ℕ) (c : Cause) (s : Runner) → Ranged ls s → Ranged ls (cancelNext k s now c)
+  unfolding cancelNext
+  cancel-range (Admission.Refused x) now c s h = h
+  cancel-range Admission.Stale now c s h = h
+  cancel-range Admission.Own now c s h =
+      let t : Runner = ticked s now in
+      let k : Ranged ls t = tick-range now s h in either (isLate t) t (terminate t now c) k (terminate-range now c t k)
+
+  detached-range : (s : Runner) → Ranged ls s → Ranged ls (detached s)
+  unfolding detached
+  detached-range s h = h
+
+  cut-off-range : (now : ℕ) (c : Cause) (s : Runner) → Ranged ls s → Ranged ls (cutOff s now c)
+  unfolding cutOff giveUpSoon
+  cut-off-range now c s h = end-grace-range (detached (terminate s now c)) (detached-range (terminate s now c) (terminate-range now c s h))
+
+  detach-range : (now : ℕ) (c : Cause) (s : Runner) → Ranged ls s → Ranged ls (detachNext s now c)
+  unfolding detachNext cutOffOnce
+  detach-range now c s h =
+      let t : Runner = ticked s now in
+      let k : Ranged ls t = tick-range now s h in either (t .flags .finished || t .flags .detached) t (cutOff t now c) k (cut-off-range now c t k)
+
+  closed-range : (s : Runner) → Ranged ls s → Ranged ls (closeRunnerInput s)
+  unfolding closeRunnerInput
+  closed-range s h = (h .0, h .1, h .2, h .3, close-range (s .limits) ls (s .input) (s .flags .detached) (h .4), h .5)
+
+  noted-range : (now : ℕ) (x : MaybeStatus) (s : Runner) → Ranged ls s → Ranged ls (noteExit s now x)
+  unfolding noteExit
+  noted-range now x s h = closed-range _ h
+
+  exited-range : (now : ℕ) (x : MaybeStatus) (s : Runner) → Ranged ls s → Ranged ls (exitedNext s now x)
+  unfolding exitedNext noteExitOnce
+  exited-range now x s h =
+      let t : Runner = ticked (timeoutCleared s) now in
+      let k : Ranged ls t = tick-range now (timeoutCleared s) h in either (isOver t) t (noteExit t now x) k (noted-range now x t k)
+
+  launched-range : (x : LaunchResult) (s : Runner) → Ranged ls s → Ranged ls (launchedNext s x)
+  unfolding launchedNext noteLaunch noteStarted
+  launched-range x s h = either (awaitsLaunch s) (noteLaunch s x) s (noted x) h
+    where
+      noted : (x : LaunchResult) → Ranged ls (noteLaunch s x)
+      noted LaunchResult.Started = h
+      noted (LaunchResult.Failed f) = closed-range _ h
+
+  paid-range : (x : Stream) (n : ℕ) (s : Runner) → Ranged ls s → WithinBoth (outputPaid x n s .credits)
+  unfolding outputPaid
+  paid-range x n s h =
+      put-range (poolOf (s .limits) x) (λ (c : Credit). spent c (cost (s .limits .output .unit) n)) (s .credits)
+      (λ c w. spent-range c (cost (s .limits .output .unit) n) w) (h .2, h .3)
+
+  output-range : (x : Stream) (n : ℕ) (s : Runner) → n ≤ outOf x s .queued → Ranged ls s → Ranged ls (outputSent x n s)
+  unfolding outputSent outputPaid
+  output-range Stdout n s l h =
+      let c = paid-range Stdout n s h in (sent-range _ n _ _ l (h .0), h .1, c .0, c .1, h .4, omega arith)
+  output-range Stderr n s l h =
+      let c = paid-range Stderr n s h in (h .0, sent-range _ n _ _ l (h .1), c .0, c .1, h .4, omega arith)
+
+  effect-range : (m : Choice) (s : Runner) → Sent s m → Ranged ls s → Ranged ls (effect m s)
+  unfolding effect
+  effect-range Choice.None s l h = h
+  effect-range Choice.Credit s l h = (h .0, h .1, h .2, h .3, (granted-by (s .limits .input .unit) (s .limits) ls (s .input) (h .4 .0), h .4 .1), h .5)
+  effect-range Choice.Started s l h = h
+  effect-range Choice.InputClosed s l h = h
+  effect-range (Choice.End Stdout) s l h = h
+  effect-range (Choice.End Stderr) s l h = h
+  effect-range (Choice.Output x n) s l h = output-range x n s (l .sound) h
+  effect-range Choice.Terminal s l h = h
+
+  handed-range : (w : Wish) (s : Runner) → Ranged ls s → Ranged ls (wishEffect w s)
+  unfolding wishEffect
+  handed-range Wish.None s h = h
+  handed-range (Wish.Request (Request.Terminate c)) s h = h
+  handed-range (Wish.Request (Request.Discard Stdout)) s h = h
+  handed-range (Wish.Request (Request.Discard Stderr)) s h = h
+  handed-range (Wish.Request Request.CloseInput) s h = h
+  handed-range (Wish.Request Request.Settle) s h = h
+
+abbrev pub RangedS : State → Type 0
+RangedS s = Ranged (s .lengths) (s .runner)
+
+pub range-next : (c : Call) (s : State) → RangedS s → RangedS (next s c)
+unfolding next creditNext inputNext inputLengths endNext outputNext discardedNext closedNext failedNext hungUpNext writtenNext Streams.writtenLengths settledNext
+range-next (Call.credit k p u) s h =
+    let r : Runner = s .runner in
+    let c = credits-range (admits (r .key) k) (outputPool (r .limits .shared) p) (r .flags .finished) u (r .credits) (h .2, h .3) in
+    (h .0, h .1, c .0, c .1, h .4, h .5)
+range-next (Call.input k b) s h =
+    let r : Runner = s .runner in
+    (h .0, h .1, h .2, h .3, input-if (isTaken (admits (r .key) k) r) (r .limits) (s .lengths) (length b) (r .input) (h .4), h .5)
+range-next (Call.endInput k) s h = (h .0, h .1, h .2, h .3, end-if (isTaken (admits (s .runner .key) k) (s .runner)) (s .runner .limits) (s .lengths) (s .runner .input) (h .4), h .5)
+range-next (Call.cancel now k c) s h = cancel-range (s .lengths) (admits (s .runner .key) k) now c (s .runner) h
+range-next (Call.launched x) s h = launched-range (s .lengths) x (s .runner) h
+range-next (Call.output Stdout b) s h =
+    let r : Runner = s .runner in
+    (kept-range (r .limits .chunk) (out0 r .start) (out0 r .queued) (isShut Stdout r) (out0 r .discarding) (length b) (h .0), h .1, h .2, h .3, h .4, h .5)
+range-next (Call.output Stderr b) s h =
+    let r : Runner = s .runner in
+    (h .0, kept-range (r .limits .chunk) (out1 r .start) (out1 r .queued) (isShut Stderr r) (out1 r .discarding) (length b) (h .1), h .2, h .3, h .4, h .5)
+range-next (Call.discarded Stdout n) s h = h
+range-next (Call.discarded Stderr n) s h = h
+range-next (Call.outputClosed Stdout) s h = h
+range-next (Call.outputClosed Stderr) s h = h
+range-next (Call.outputFailed Stdout) s h = h
+range-next (Call.outputFailed Stderr) s h = h
+range-next (Call.outputHungUp Stdout) s h = h
+range-next (Call.outputHungUp Stderr) s h = h
+range-next (Call.inputWritten n) s h = (h .0, h .1, h .2, h .3, written-range (s .runner .limits) (s .lengths) n (s .runner .input) (h .4), h .5)
+range-next Call.inputClosed s h = closed-range (s .lengths) (s .runner) h
+range-next (Call.exited now x) s h = exited-range (s .lengths) now x (s .runner) h
+range-next (Call.settled x) s h = h
+range-next (Call.dropped now) s h = detach-range (s .lengths) now Cause.Dropped (s .runner) h
+range-next (Call.reset now) s h = detach-range (s .lengths) now Cause.Reset (s .runner) h
+range-next (Call.disconnect now) s h = detach-range (s .lengths) now Cause.Disconnected (s .runner) h
+range-next (Call.tick now) s h = tick-range (s .lengths) now (s .runner) h
+range-next Call.nextRequest s h = handed-range (s .lengths) (wish (s .runner)) (s .runner) h
+range-next (Call.nextMessage b) s h = effect-range (s .lengths) (choose (s .runner) (length b)) (s .runner) (choose-sent (s .runner) (length b)) h
+range-next (Call.readAllowance x) s h = h
+range-next Call.pendingInput s h = h
+range-next Call.deadline s h = h
+range-next Call.isFinished s h = h
+range-next Call.isDetached s h = h
+range-next Call.awaitsSettlement s h = h
+range-next Call.buffered s h = h
+range-next Call.highWater s h = h
+range-next Call.memoryBound s h = h
+range-next Call.key s h = h
+range-next Call.limits s h = h
+
+-- ---- from open, over a list
+
+-- open is answered ok
+pub record Lent (l : Limits) (bytes lengths : List ℕ) : Type 0 where
+  pub chunk : 0 < l .chunk
+  pub size : 0 < l .input .size
+  pub limits : isValid l ≡ true
+  pub room : byteNeed l ≤ length bytes
+  pub slots : lengthNeed l ≤ length lengths
+
+pub lent : (l : Limits) (bytes lengths : List ℕ) → opens l bytes lengths ≡ true → Lent l bytes lengths
+unfolding opens
+lent l bytes lengths e =
+    let p = both (isValid l) (bytesDo l bytes && lengthsDo l lengths) e in
+    let q = both (ltb 0 (l .chunk) && ltb 0 (l .input .size)) (ltb 0 (l .output .size)) (p .0) in
+    let c = both (ltb 0 (l .chunk)) (ltb 0 (l .input .size)) (q .0) in
+    let d = both (bytesDo l bytes) (lengthsDo l lengths) (p .1) in
+    record {
+      chunk = ltb-true 0 (l .chunk) (c .0);
+      size = ltb-true 0 (l .input .size) (c .1);
+      limits = p .0;
+      room = leb-true (byteNeed l) (length bytes) (d .0);
+      slots = leb-true (lengthNeed l) (length lengths) (d .1);
+    }
+
+area-some : (u : units.Unit) (l : Limits) → 0 < l .chunk → 0 < l .input .size → 0 < areaAs u l
+unfolding bytesWith
+area-some Bytes l a b = b
+area-some Frames l a b = let z = mul-le-mul {n₁ = 1} {m₁ = 1} {n₂ = l .input .size} {m₂ = l .chunk} b a in omega arith
+
+open-by : (u : units.Unit) (l : Limits) (lengths : List ℕ) → 0 < l .input .size → lengthNeedAs u (l .input .size) ≤ length lengths → Held u l lengths 0 (l .input .size) 0 0 0
+open-by Bytes l lengths a b = (omega arith, refl, refl)
+open-by Frames l lengths a b = (omega arith, rw (read-none 0 (l .input .size) 0 lengths) refl, rw (read-none 0 (l .input .size) 0 lengths) none, a, b)
+
+pub opened-range : (c : Conf) (now : ℕ) (bytes lengths : List ℕ) → Lent (c .limits) bytes lengths → RangedS (begun c now bytes lengths)
+unfolding fresh
+opened-range c now bytes lengths o =
+    let l : Limits = c .limits in (
+      record { inside = o .chunk; within = omega arith },
+      record { inside = o .chunk; within = omega arith },
+      omega arith,
+      omega arith,
+      (open-by (l .input .unit) l lengths (o .size) (o .slots), area-some (l .input .unit) l (o .chunk) (o .size)),
+      omega arith,
+    )
+
+pub list-range : (cs : List Call) (s : State) → RangedS s → RangedS (afterAll s cs)
+list-range [] s h = h
+list-range (c ∷ cs) s h = list-range cs (next s c) (range-next c s h)
+
+-- ---- so 12 is never answered
+
+pub and-both : (a b : Bool) → a ≡ true → b ≡ true → (a && b) ≡ true
+and-both true b p q = q
+and-both false b p q = p
+
+or-first : (a b : Bool) → a ≡ true → (a || b) ≡ true
+or-first true b p = refl
+or-first false b p = absurd (false≢true p)
+
+ring-ok : (start size : ℕ) → start < size → ringFits start size ≡ true
+ring-ok start size h = or-first (ltb start size) (eqb size 0 && eqb start 0) (lt-ltb start size h)
+
+out-ok : (n : ℕ) (o : Output) → Fits n (o .start) (o .queued) → outputFits n o ≡ true
+unfolding outputFits
+out-ok n o h = and-both (leb (o .queued) n) (ringFits (o .start) n) (le-leb (o .queued) n (h .within)) (ring-ok (o .start) n (h .inside))
+
+units-ok : (u : units.Unit) (l : Limits) (lengths : List ℕ) (i : Input) → HeldIn u l lengths i
+    → (unitsFit (i .window) (inboxHeld u (i .inbox)) (l .input .size) && framesFit u (l .input .size) (l .chunk) (i .inbox)) ≡ true
+units-ok Bytes l lengths i h = and-both _ _ (le-leb (i .window .open + i .window .returnable + i .inbox .length) (l .input .size) (h .0)) (and-both _ _ (eq-eqb (i .inbox .first) 0 (h .1)) (eq-eqb (i .inbox .frames) 0 (h .2)))
+units-ok Frames l lengths i h =
+    let z = h .0 in let s = h .1 in
+    let t = sum-most (l .chunk) (waiting lengths (l .input .size) (i .inbox .first) (i .inbox .frames)) (h .2) in
+    let w = waiting-length lengths (l .input .size) (i .inbox .first) (i .inbox .frames) (h .4) (h .3) (omega arith) in
+    let e : length (waiting lengths (l .input .size) (i .inbox .first) (i .inbox .frames)) * l .chunk ≡ i .inbox .frames * l .chunk = ap (λ (x : ℕ). x * l .chunk) w in
+    and-both _ _ (le-leb (i .window .open + i .window .returnable + i .inbox .frames) (l .input .size) (h .0))
+    (and-both _ _ (ring-ok (i .inbox .first) (l .input .size) (h .3)) (le-leb (i .inbox .length) (i .inbox .frames * l .chunk) (omega arith)))
+
+pub in-range : (lengths : List ℕ) (s : Runner) → Ranged lengths s → inRange s ≡ true
+unfolding inRange
+in-range lengths s h =
+    and-both _ _
+    (and-both _ _
+    (and-both _ _ (and-both _ _ (out-ok (s .limits .chunk) (out0 s) (h .0)) (out-ok (s .limits .chunk) (out1 s) (h .1)))
+    (and-both _ _ (le-leb (credit0 (s .credits) .available) (credit0 (s .credits) .window) (h .2)) (le-leb (credit1 (s .credits) .available) (credit1 (s .credits) .window) (h .3))))
+    (and-both _ _ (and-both _ _ (ring-ok (s .input .inbox .start) (inputBytes (s .limits)) (h .4 .1)) (le-leb (s .input .inbox .length) (inputBytes (s .limits)) (holds-by (s .limits .input .unit) (s .limits) lengths (s .input) (h .4 .0))))
+    (units-ok (s .limits .input .unit) (s .limits) lengths (s .input) (h .4 .0))))
+    (le-leb (s .turn) 1 (h .5))

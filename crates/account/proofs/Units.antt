@@ -1,0 +1,227 @@
+-- The units of the input's window are never made up and never vanish.
+use mathlib.Core.Bool.{Bool, true, false, cond, not, _&&_, _||_}
+use mathlib.Core.Path.{_≡_, refl, ap, _∙_, subst, subst⁻¹}
+use mathlib.Core.List.{List, [], _∷_}
+use Prim.Native.Nat.{ℕ, _+_, _-_, _≤_, min}
+use native.Mathlib.Omega.{arith}
+use lib.Dec.{ltb}
+use lib.ListN.{length}
+use Rattle.exec.specs.declared.Admission.{Admission}
+use Rattle.exec.specs.declared.Admission.the-variants as Admission
+use Rattle.exec.specs.declared.Cause.the-variants.{Dropped, Reset, Disconnected}
+use Rattle.exec.specs.declared.Limits.{Limits}
+use Rattle.exec.specs.declared.Unit as Kinds
+use Rattle.exec.specs.declared.Unit.the-variants.{Bytes, Frames}
+use Rattle.exec.specs.declared.Receipt.the-variants.{Applied, Late}
+use Rattle.exec.specs.declared.Received.the-variants.{Receipt, Refused}
+use Rattle.exec.specs.declared.Refusal.the-variants as Refusal
+use Rattle.exec.specs.Key.{admits}
+use Rattle.exec.specs.Limits.{cost, offChunk}
+use Rattle.ring.specs.FrameLaws.{pop-most}
+use Rattle.credit.specs.declared.inbox.Inbox.{Inbox}
+use Rattle.credit.specs.Inbox.{newInbox, inboxHeld, pushed, freedBy, framesPopped, poppedBox, popFreed}
+use Rattle.stdio.specs.declared.input.Input.{Input}
+use Rattle.stdio.specs.Input.{receiveAnswer, isPaid, receiveInput, endInput, writtenInput}
+use Rattle.runner.specs.declared.answer.Request.the-variants as Request
+use Rattle.runner.specs.declared.message.Choice.{Choice}
+use Rattle.runner.specs.declared.message.Choice.the-variants as Choice
+use Rattle.runner.specs.declared.message.Wish.{Wish}
+use Rattle.runner.specs.declared.message.Wish.the-variants as Wish
+use Rattle.runner.specs.declared.runner.Runner.{Runner}
+use Rattle.runner.specs.Life.{closeRunnerInput, ticked, cancelNext, launchedNext, exitedNext, settledNext, detachNext}
+use Rattle.runner.specs.Message.{choose, effect, outputSent, outputPaid, wish, wishEffect}
+use Rattle.runner.specs.Range.{fresh}
+use Rattle.runner.specs.Streams.{outputNext, discardedNext, closedNext, failedNext, hungUpNext, creditNext, inputAnswer, inputNext, endNext, writtenNext}
+use Rattle.account.specs.Call as Call
+use Rattle.account.specs.Call.{Conf, Call}
+use Rattle.account.specs.Claim.{Opens}
+use Rattle.account.specs.Step as Step
+use Rattle.account.specs.Step.{State, receivedAs}
+use Rattle.account.specs.Units.{unitsIn, isLate, lateCost, cleared, lostBy, lost, Units}
+use Rattle.account.proofs.Plain.{next, answer, begun}
+use Rattle.account.proofs.Range.{HeldIn, paid, lent}
+use Rattle.account.proofs.Finish.{framed, framed-conf}
+use Rattle.account.proofs.Demand.{Fine, fine-next, next-same, answer-same, fine-open, opens-by, open-same}
+use Rattle.account.proofs.InputMoves.{Moves, same, shut, Keeps, close, ticks, launches, exits, detaches, cancels}
+
+-- ---- what a move loses
+
+none-held : (u : Kinds.Unit) → inboxHeld u newInbox ≡ 0
+none-held Bytes = refl
+none-held Frames = refl
+
+and-true : (b : Bool) → (b && true) ≡ b
+and-true true = refl
+and-true false = refl
+
+not-and : (b : Bool) → (not b && b) ≡ false
+not-and true = refl
+not-and false = refl
+
+moved-units : (l : Limits) (i i′ : Input) → Moves i i′
+    → unitsIn l i′ + cond (not (i .closed) && i′ .closed) (inboxHeld (l .input .unit) (i .inbox)) 0 ≡ unitsIn l i
+moved-units l i i′ (same a b c) = rw (a, b, c, not-and (i .closed)) (omega arith)
+moved-units l i i′ (shut a b c d) = rw (a, b, c, d, none-held (l .input .unit)) (omega arith)
+
+-- ---- bytes from the peer
+
+pushed-held : (u : Kinds.Unit) (n : ℕ) (b : Inbox) → inboxHeld u (pushed u n b) ≡ inboxHeld u b + cost u n
+unfolding cost
+pushed-held Bytes n b = refl
+pushed-held Frames n b = refl
+
+-- charged (paid), and dropped (closed): the charge is lost
+receive-by : (l : Limits) (i : Input) (n : ℕ) (p c : Bool) → isPaid l i n ≡ p → i .closed ≡ c
+    → unitsIn l (receiveInput l i n) + cond (p && c) (cost (l .input .unit) n) 0 ≡ unitsIn l i
+unfolding receiveInput
+receive-by l i n false c ep ec = rw ep (omega arith)
+receive-by l i n true true ep ec = rw (ep, ec) (omega (arith, paid l i n ep .enough))
+receive-by l i n true false ep ec =
+    rw (ep, ec, pushed-held (l .input .unit) n (i .inbox)) (omega (arith, paid l i n ep .enough))
+
+-- an answer is Late exactly then
+late-by : (ended off unpaid closed : Bool)
+    → isLate (receivedAs (cond ended (Refused Refusal.Ended) (cond off (Refused Refusal.Chunk) (cond unpaid (Refused Refusal.Window) (cond closed (Receipt Late) (Receipt Applied))))))
+    ≡ (not ((ended || off) || unpaid) && closed)
+late-by true off unpaid closed = refl
+late-by false true unpaid closed = refl
+late-by false false true closed = refl
+late-by false false false true = refl
+late-by false false false false = refl
+
+late-is : (l : Limits) (i : Input) (n : ℕ) → isLate (receivedAs (receiveAnswer l i n)) ≡ (isPaid l i n && i .closed)
+unfolding receiveAnswer
+late-is l i n = late-by (i .«peer_ended») (offChunk l n) (ltb (i .window .open) (cost (l .input .unit) n)) (i .closed)
+
+received-units : (a : Admission) (r : Runner) (n : ℕ) (f : Bool) → r .flags .finished ≡ f
+    → unitsIn (r .limits) (inputNext a r n .input) + lateCost r n (receivedAs (inputAnswer a r n)) ≡ unitsIn (r .limits) (r .input)
+unfolding inputNext inputAnswer
+received-units (Admission.Refused x) r n f e = omega arith
+received-units Admission.Stale r n f e = omega arith
+received-units Admission.Own r n true e = rw e (omega arith)
+received-units Admission.Own r n false e =
+    rw (e, late-is (r .limits) (r .input) n, and-true (isPaid (r .limits) (r .input) n && r .input .closed))
+    (receive-by (r .limits) (r .input) n (isPaid (r .limits) (r .input) n) (r .input .closed) refl refl)
+
+-- ---- bytes to the workload
+
+popped-by : (u : Kinds.Unit) (l : Limits) (lengths : List ℕ) (i : Input) (n : ℕ) → n ≤ i .inbox .length → HeldIn u l lengths i
+    → freedBy u (l .input .size) n (i .inbox) lengths + inboxHeld u (record { start = 0; length = i .inbox .length - n; first = 0; frames = framesPopped u (freedBy u (l .input .size) n (i .inbox) lengths) (i .inbox .frames) })
+    ≡ inboxHeld u (i .inbox)
+popped-by Bytes l lengths i n m h = omega arith
+popped-by Frames l lengths i n m h =
+    omega (arith, pop-most (i .inbox .frames) (l .input .size) (i .inbox .first) n lengths (h .4) (omega (arith, h .3)) (omega (arith, h .0)))
+
+held-of : (u : Kinds.Unit) (b b′ : Inbox) → b .length ≡ b′ .length → b .frames ≡ b′ .frames → inboxHeld u b ≡ inboxHeld u b′
+held-of Bytes b b′ e f = e
+held-of Frames b b′ e f = f
+
+written-by : (l : Limits) (lengths : List ℕ) (i : Input) (count : ℕ) (c : Bool) → i .closed ≡ c → HeldIn (l .input .unit) l lengths i
+    → unitsIn l (writtenInput l i count lengths) ≡ unitsIn l i
+unfolding writtenInput
+written-by l lengths i count true e h = rw e refl
+written-by l lengths i count false e h =
+    let p = popped-by (l .input .unit) l lengths i (min count (i .inbox .length)) (omega arith) h in
+    let q = held-of (l .input .unit) (poppedBox l (min count (i .inbox .length)) (popFreed l (i .inbox) count lengths) (i .inbox))
+    (record { start = 0; length = i .inbox .length - min count (i .inbox .length); first = 0; frames = framesPopped (l .input .unit) (popFreed l (i .inbox) count lengths) (i .inbox .frames) }) refl refl in
+    rw e (omega (arith, p, q))
+
+ended-by : (l : Limits) (i : Input) (b : Bool) → i .«peer_ended» ≡ b → unitsIn l (endInput i) ≡ unitsIn l i
+unfolding endInput
+ended-by l i true e = rw e refl
+ended-by l i false e = rw e refl
+
+end-units : (a : Admission) (r : Runner) (f : Bool) → r .flags .finished ≡ f → unitsIn (r .limits) (endNext a r .input) ≡ unitsIn (r .limits) (r .input)
+unfolding endNext
+end-units (Admission.Refused x) r f e = refl
+end-units Admission.Stale r f e = refl
+end-units Admission.Own r true e = rw e refl
+end-units Admission.Own r false e = rw e (ended-by (r .limits) (r .input) (r .input .«peer_ended») refl)
+
+-- ---- messages and requests
+
+said-units : (c : Choice) (r : Runner) → unitsIn (r .limits) (effect c r .input) ≡ unitsIn (r .limits) (r .input)
+unfolding effect outputSent outputPaid
+said-units Choice.None r = refl
+said-units Choice.Credit r = omega arith
+said-units Choice.Started r = refl
+said-units Choice.InputClosed r = refl
+said-units (Choice.End x) r = refl
+said-units (Choice.Output x n) r = refl
+said-units Choice.Terminal r = refl
+
+asked-units : (w : Wish) (r : Runner) → unitsIn (r .limits) (wishEffect w r .input) ≡ unitsIn (r .limits) (r .input)
+unfolding wishEffect
+asked-units Wish.None r = refl
+asked-units (Wish.Request (Request.Terminate c)) r = refl
+asked-units (Wish.Request (Request.Discard x)) r = refl
+asked-units (Wish.Request Request.CloseInput) r = refl
+asked-units (Wish.Request Request.Settle) r = refl
+
+-- ---- a call, and a list of calls
+
+abbrev unitsOf : State → ℕ
+unitsOf s = unitsIn (s .runner .limits) (s .runner .input)
+
+moved : (r r′ : Runner) → Keeps r r′ → unitsIn (r .limits) (r′ .input) + cleared r r′ ≡ unitsIn (r .limits) (r .input)
+moved r r′ m = moved-units (r .limits) (r .input) (r′ .input) m
+
+units-step : (c : Call) (s : State) → Fine s → unitsIn (s .runner .limits) (next s c .runner .input) + lostBy s c ≡ unitsOf s
+unfolding lostBy next answer creditNext outputNext discardedNext closedNext failedNext hungUpNext settledNext writtenNext
+units-step Call.key s h = omega arith
+units-step Call.limits s h = omega arith
+units-step (Call.credit k p u) s h = omega arith
+units-step (Call.input k b) s h =
+    rw (answer-same s (Call.input k b) h) (received-units (admits (s .runner .key) k) (s .runner) (length b) (s .runner .flags .finished) refl)
+units-step (Call.endInput k) s h = omega (arith, end-units (admits (s .runner .key) k) (s .runner) (s .runner .flags .finished) refl)
+units-step (Call.cancel now k c) s h = rw (next-same s (Call.cancel now k c) h) (moved (s .runner) (cancelNext (admits (s .runner .key) k) (s .runner) now c) (cancels (admits (s .runner .key) k) (s .runner) now c))
+units-step (Call.launched x) s h = rw (next-same s (Call.launched x) h) (moved (s .runner) (launchedNext (s .runner) x) (launches (s .runner) x))
+units-step (Call.readAllowance x) s h = omega arith
+units-step (Call.output x b) s h = omega arith
+units-step (Call.discarded x n) s h = omega arith
+units-step (Call.outputClosed x) s h = omega arith
+units-step (Call.outputFailed x) s h = omega arith
+units-step (Call.outputHungUp x) s h = omega arith
+units-step Call.pendingInput s h = omega arith
+units-step (Call.inputWritten n) s h =
+    omega (arith, written-by (s .runner .limits) (s .lengths) (s .runner .input) n (s .runner .input .closed) refl (h .sound .ranged .4 .0))
+units-step Call.inputClosed s h = rw (next-same s Call.inputClosed h) (moved (s .runner) (closeRunnerInput (s .runner)) (close (s .runner)))
+units-step (Call.exited now x) s h = rw (next-same s (Call.exited now x) h) (moved (s .runner) (exitedNext (s .runner) now x) (exits (s .runner) now x))
+units-step (Call.settled x) s h = omega arith
+units-step (Call.dropped now) s h = rw (next-same s (Call.dropped now) h) (moved (s .runner) (detachNext (s .runner) now Dropped) (detaches (s .runner) now Dropped))
+units-step (Call.reset now) s h = rw (next-same s (Call.reset now) h) (moved (s .runner) (detachNext (s .runner) now Reset) (detaches (s .runner) now Reset))
+units-step (Call.disconnect now) s h = rw (next-same s (Call.disconnect now) h) (moved (s .runner) (detachNext (s .runner) now Disconnected) (detaches (s .runner) now Disconnected))
+units-step (Call.tick now) s h = rw (next-same s (Call.tick now) h) (moved (s .runner) (ticked (s .runner) now) (ticks (s .runner) now))
+units-step Call.deadline s h = omega arith
+units-step Call.nextRequest s h = omega (arith, asked-units (wish (s .runner)) (s .runner))
+units-step (Call.nextMessage buffer) s h = omega (arith, said-units (choose (s .runner) (length buffer)) (s .runner))
+units-step Call.isFinished s h = omega arith
+units-step Call.isDetached s h = omega arith
+units-step Call.awaitsSettlement s h = omega arith
+units-step Call.memoryBound s h = omega arith
+units-step Call.buffered s h = omega arith
+units-step Call.highWater s h = omega arith
+
+add-up : (a b c m u : ℕ) → a + c ≡ m → m + b ≡ u → a + (b + c) ≡ u
+add-up a b c m u e f = omega arith
+
+units-list : (cs : List Call) (s : State) → Fine s → unitsIn (s .runner .limits) (Step.after s cs .runner .input) + lost s cs ≡ unitsOf s
+units-list [] s h = omega arith
+units-list (c ∷ cs) s h =
+    let s′ = next s c in
+    let l : s′ .runner .limits ≡ s .runner .limits = ap (λ (x : Conf). x .limits) (framed-conf (framed c s)) in
+    let rest : unitsIn (s .runner .limits) (Step.after s′ cs .runner .input) + lost s′ cs ≡ unitsIn (s .runner .limits) (s′ .runner .input) =
+    subst (λ (x : Limits). unitsIn x (Step.after s′ cs .runner .input) + lost s′ cs ≡ unitsIn x (s′ .runner .input)) l (units-list cs s′ (fine-next c s h)) in
+    subst⁻¹ (λ (x : State). unitsIn (s .runner .limits) (Step.after x cs .runner .input) + (lostBy s c + lost x cs) ≡ unitsOf s) (next-same s c h)
+    (add-up _ (lostBy s c) (lost s′ cs) (unitsIn (s .runner .limits) (s′ .runner .input)) (unitsOf s) rest (units-step c s h))
+
+none-yet : (u : Kinds.Unit) (size : ℕ) → 0 + size + inboxHeld u newInbox ≡ size
+none-yet Bytes size = omega arith
+none-yet Frames size = omega arith
+
+pub units : (conf : Conf) (now : ℕ) (bytes lengths : List ℕ) → Opens conf now bytes lengths → Units conf now bytes lengths
+unfolding fresh
+units conf now bytes lengths op cs =
+    rw (open-same conf now bytes lengths op)
+    (units-list cs (begun conf now bytes lengths) (fine-open conf now bytes lengths (lent (conf .limits) bytes lengths (opens-by conf now bytes lengths op)))
+    ∙ none-yet (conf .limits .input .unit) (conf .limits .input .size))

@@ -1,0 +1,8 @@
+-- Demand 3: the calls, what they leave, the account, and the claim.
+pub mod Call
+pub mod Step
+pub mod Account
+pub mod Claim
+pub mod Units
+pub mod LateClaim
+pub mod InputClaim
