@@ -1,0 +1,14 @@
+// Four sessions with a runner, call by call. What is printed, and expected, is what the Rust answers to the same calls.
+mod abandon;
+mod detach;
+mod frames;
+mod print;
+mod session;
+mod table;
+
+fn main() {
+    table::run();
+    frames::run();
+    abandon::run();
+    detach::run();
+}
