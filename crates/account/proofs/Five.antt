@@ -44,7 +44,7 @@ use Rattle.account.specs.Step.{State, receivedAs}
 use Rattle.account.proofs.Plain.{said, next, answer, begun, afterAll, run}
 use Rattle.account.proofs.Stages.{graceIf, terminateIf, giveUpIf, stage1, stage2, stage3, stage4, tickIf, tick-is, cancelIf, late, cancelNext}
 use Rattle.account.specs.Claim.{isTerminal, anyTerminal, messages, counts}
-use Rattle.account.proofs.Streams.{or-true, blocked-by}
+use Rattle.account.proofs.Streams.{or-true, or-false-l, or-false-r, blocked-by}
 use Rattle.account.proofs.Lives.{confOf, tick-fin, ticked-frame, cancel-frame, Frame}
 use Rattle.account.proofs.Finish.{framed, framed-conf, ends-by}
 use Rattle.account.proofs.Timing.{Either, left, right, Dry, AllKnown, Phase, left-over, low-next, low-timeout, low-grace, low-settle, low-abandon, cleaned-known, known-given, bit}
@@ -163,14 +163,6 @@ lateness b = cond b (Received.Receipt Receipt.Late) (Received.Receipt Receipt.Ap
 applied-if : (b : Bool) → receivedAs (lateness b) ≡ Call.Applied → b ≡ false
 applied-if true e = let z : true ≡ false = cc in z
 applied-if false e = refl
-
-or-false-l : (a b : Bool) → (a || b) ≡ false → a ≡ false
-or-false-l true b e = e
-or-false-l false b e = refl
-
-or-false-r : (a b : Bool) → (a || b) ≡ false → b ≡ false
-or-false-r true b e = absurd (true≢false e)
-or-false-r false b e = e
 
 -- an Applied cancel is itself the first of the three events: nothing had begun, not even in its own tick
 pub record Applying (k : Admission) (now : ℕ) (s : Runner) : Type 0 where

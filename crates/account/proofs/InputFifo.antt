@@ -7,7 +7,7 @@ use mathlib.Core.Logic.{inr}
 use Prim.Native.Nat.{ℕ, _+_, _*_, _≤_, _<_, min}
 use native.Mathlib.Omega.{arith}
 use lib.Dec.{ltb, leb}
-use lib.ListN.{length, take, drop, take-append-drop}
+use lib.ListN.{length, drop, take-append-drop}
 use Rattle.exec.specs.declared.Admission.{Admission}
 use Rattle.exec.specs.declared.Admission.the-variants as Admission
 use Rattle.exec.specs.declared.Cause.the-variants.{Dropped, Reset, Disconnected}
@@ -49,7 +49,7 @@ use Rattle.account.specs.Step.{State, receivedAs}
 use Rattle.account.specs.InputClaim.{isApplied, front, handedBy, handed, broughtBy, brought, InputFifo}
 use Rattle.account.proofs.Plain.{next, answer, begun}
 use Rattle.account.proofs.Rings.{ring-split}
-use Rattle.account.proofs.Streams.{append-nil, or-true, keeps-room, keeps-less}
+use Rattle.account.proofs.Streams.{append-nil, or-true, take-all, keeps-room, keeps-less}
 use Rattle.account.proofs.Range.{paid, room-by, lent, in-range}
 use Rattle.account.proofs.Timing.{and-l, and-r}
 use Rattle.account.proofs.Finish.{framed, framed-conf}
@@ -93,10 +93,6 @@ within s h =
     record { area = h .sound .roomy; begins = h .sound .ranged .4 .1; most = Fits.in-range (r .limits) (r .input .window) (r .input .inbox) f .most }
 
 -- ---- bytes from the peer
-
-take-all : (b : List ℕ) → take (length b) b ≡ b
-take-all [] = refl
-take-all (x ∷ b) = ap (λ (l : List ℕ). x ∷ l) (take-all b)
 
 applied-by : (ended off unpaid closed : Bool)
     → isApplied (receivedAs (cond ended (Refused Refusal.Ended) (cond off (Refused Refusal.Chunk) (cond unpaid (Refused Refusal.Window) (cond closed (Receipt Late) (Receipt Applied))))))

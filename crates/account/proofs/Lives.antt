@@ -63,7 +63,7 @@ reported-same (Settling.Requested d) Settlement.Failed = refl
 reported-same Settling.Settled y = refl
 reported-same Settling.Fenced y = refl
 
-given-exit : (x : Exit) → exitKnown (orLost x) ≡ true
+pub given-exit : (x : Exit) → exitKnown (orLost x) ≡ true
 given-exit Exit.Running = refl
 given-exit (Exit.Ended x) = refl
 

@@ -1,5 +1,5 @@
 -- From open on no state is out of range: what 12 asks holds after every list of calls.
-use mathlib.Core.Bool.{Bool, true, false, cond, not, _&&_, _||_, true≢false, false≢true}
+use mathlib.Core.Bool.{Bool, true, false, cond, not, _&&_, _||_}
 use mathlib.Core.Path.{_≡_, refl, ap, _∙_}
 use mathlib.Core.List.{List, [], _∷_, _++_}
 use Prim.Native.Nat.{ℕ, suc, _+_, _-_, _*_, _≤_, _<_, min}
@@ -57,7 +57,7 @@ use Rattle.account.specs.Call as Call
 use Rattle.account.specs.Call.{Conf, Call}
 use Rattle.account.specs.Step.{State}
 use Rattle.account.proofs.Plain.{next, begun, afterAll}
-use Rattle.account.proofs.Streams.{Fits}
+use Rattle.account.proofs.Streams.{Fits, or-left, or-false-l, or-false-r}
 use Rattle.account.proofs.Choices.{Sent, choose-sent}
 
 -- ---- frames: the bytes they hold, and what a pop leaves
@@ -212,14 +212,6 @@ pay-by : (u : units.Unit) (l : Limits) (lengths : List ℕ) (n : ℕ) (i : Input
     → Held u l lengths (i .window .open - cost u n) (i .window .returnable) (i .inbox .length) (i .inbox .first) (i .inbox .frames)
 pay-by Bytes l lengths n i h = let z = h .0 in (omega arith, h .1, h .2)
 pay-by Frames l lengths n i h = let z = h .0 in (omega arith, h .1, h .2, h .3, h .4)
-
-or-false-l : (a b : Bool) → (a || b) ≡ false → a ≡ false
-or-false-l true b e = e
-or-false-l false b e = refl
-
-or-false-r : (a b : Bool) → (a || b) ≡ false → b ≡ false
-or-false-r true b e = absurd (true≢false e)
-or-false-r false b e = e
 
 -- what an input that is paid for has passed
 pub record Paid (l : Limits) (n : ℕ) (i : Input) : Type 0 where
@@ -578,12 +570,8 @@ pub and-both : (a b : Bool) → a ≡ true → b ≡ true → (a && b) ≡ true
 and-both true b p q = q
 and-both false b p q = p
 
-or-first : (a b : Bool) → a ≡ true → (a || b) ≡ true
-or-first true b p = refl
-or-first false b p = absurd (false≢true p)
-
 ring-ok : (start size : ℕ) → start < size → ringFits start size ≡ true
-ring-ok start size h = or-first (ltb start size) (eqb size 0 && eqb start 0) (lt-ltb start size h)
+ring-ok start size h = or-left (ltb start size) (eqb size 0 && eqb start 0) (lt-ltb start size h)
 
 out-ok : (n : ℕ) (o : Output) → Fits n (o .start) (o .queued) → outputFits n o ≡ true
 unfolding outputFits

@@ -1,5 +1,5 @@
 -- One stream: what each change of an output does to its account. Nothing here knows of calls.
-use mathlib.Core.Bool.{Bool, true, false, not, _&&_, _||_}
+use mathlib.Core.Bool.{Bool, true, false, not, _&&_, _||_, true≢false, false≢true}
 use mathlib.Core.Path.{_≡_, refl, sym, ap, _∙_}
 use mathlib.Core.List.{List, [], _∷_, _++_, append-assoc}
 use Prim.Native.Nat.{ℕ, _+_, _-_, _≤_, _<_, min}
@@ -34,6 +34,18 @@ Good st b n o t = Kept (ring st b n (o .start) (o .queued)) (o .closed) (o .disc
 pub or-true : (a : Bool) → (a || true) ≡ true
 or-true true = refl
 or-true false = refl
+
+pub or-left : (a b : Bool) → a ≡ true → (a || b) ≡ true
+or-left true b e = refl
+or-left false b e = absurd (false≢true e)
+
+pub or-false-l : (a b : Bool) → (a || b) ≡ false → a ≡ false
+or-false-l true b e = e
+or-false-l false b e = refl
+
+pub or-false-r : (a b : Bool) → (a || b) ≡ false → b ≡ false
+or-false-r true b e = absurd (true≢false e)
+or-false-r false b e = e
 
 pub or-swap : (m a b : Bool) → (m || (a || b)) ≡ (a || (m || b))
 or-swap true a b = sym (or-true a)
@@ -125,7 +137,7 @@ failed-by st b n o t (g, fit, area) = (record { rest = g .rest; whole = g .whole
 pub discarded-by : (st : List ℕ) (b n : ℕ) (m : Bool) (o : Output) (t : Tally) → Good st b n o t → Good st b n (lostOut m o) (marked m t)
 discarded-by st b n m o t (g, fit, area) = (record { rest = g .rest; whole = g .whole; lost = g .lost; idle = g .idle; flag = rw (g .flag) (or-swap m (some? (g .rest)) (t .mark)) }, fit, area)
 
-take-all : (b : List ℕ) → take (length b) b ≡ b
+pub take-all : (b : List ℕ) → take (length b) b ≡ b
 take-all [] = refl
 take-all (x ∷ b) = ap (λ (l : List ℕ). x ∷ l) (take-all b)
 
@@ -133,13 +145,8 @@ pub some-length : (b : List ℕ) → some? b ≡ ltb 0 (length b)
 some-length [] = refl
 some-length (x ∷ b) = sym (lt-ltb 0 (length (x ∷ b)) (omega arith))
 
-or-right : (a b : Bool) → (a || b) ≡ false → b ≡ false
-or-right true true e = e
-or-right true false e = refl
-or-right false b e = e
-
 none-behind : (p q : List ℕ) → some? (p ++ q) ≡ false → some? q ≡ false
-none-behind p q e = or-right (some? p) (some? q) (sym (some-append p q) ∙ e)
+none-behind p q e = or-false-r (some? p) (some? q) (sym (some-append p q) ∙ e)
 
 sent-kept : (p q : List ℕ) (c d tr : Bool) (t : Tally) → Kept (p ++ q) c d tr t → Kept q c d tr (sentBy p t)
 sent-kept p q c d tr t g = record {

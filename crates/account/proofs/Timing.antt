@@ -12,8 +12,6 @@ use Rattle.exec.specs.declared.Admission.{Admission}
 use Rattle.exec.specs.declared.Admission.the-variants as Admission
 use Rattle.exec.specs.declared.Cause.{Cause}
 use Rattle.exec.specs.declared.Cause.the-variants as Cause
-use Rattle.lifecycle.specs.declared.life.Exit.{Exit}
-use Rattle.lifecycle.specs.declared.life.Exit.the-variants as Exit
 use Rattle.exec.specs.declared.MaybeStatus.{MaybeStatus}
 use Rattle.exec.specs.declared.LaunchResult.{LaunchResult}
 use Rattle.exec.specs.declared.LaunchResult.the-variants as LaunchResult
@@ -35,7 +33,7 @@ use Rattle.exec.specs.declared.Deadline.{Deadline}
 use Rattle.exec.specs.declared.Deadline.the-variants.{Never}
 use Rattle.exec.specs.Time.{earliest, due}
 use Rattle.exec.specs.Key.{admits}
-use Rattle.lifecycle.specs.Life.{launchKnown, exitKnown, orLost, isFenced, isSettled, expired, settleWith}
+use Rattle.lifecycle.specs.Life.{launchKnown, exitKnown, isFenced, isSettled, expired, settleWith}
 use Rattle.lifecycle.specs.Setters.{setTimeoutAt, setSettling}
 use Rattle.stdio.specs.Input as In
 use Rattle.stdio.specs.Input.{closeInput, closeWhenTaken, peerEnds, popIn, endInput, receiveInput, writtenInput}
@@ -50,7 +48,8 @@ use Rattle.account.specs.Call.{Call}
 use Rattle.account.specs.Step.{State}
 use Rattle.account.proofs.Plain.{next}
 use Rattle.account.proofs.Stages.{graceIf, terminateIf, timeoutIf, giveUpIf, dropLaunchIf, abandonStreamsIf, abandonIf, stage1, stage2, stage3, stage4, stage5, tickIf, tick-is, cancelIf, late, detachedNow, detachIf, exitedIf, launchedIf, cancelNext, over}
-use Rattle.account.proofs.Streams.{blocked-by, wider}
+use Rattle.account.proofs.Streams.{or-left, blocked-by, wider}
+use Rattle.account.proofs.Lives.{given-exit}
 
 pub and-l : (a b : Bool) → (a && b) ≡ true → a ≡ true
 and-l true b e = refl
@@ -118,10 +117,6 @@ reported-over (Settling.Requested d) y e = absurd (false≢true e)
 reported-over Settling.Settled y e = e
 reported-over Settling.Fenced y e = e
 
-given-exit : (x : Exit) → exitKnown (orLost x) ≡ true
-given-exit Exit.Running = refl
-given-exit (Exit.Ended x) = refl
-
 no-wait : (a b c : Bool) → a ≡ true → (not a && b && c) ≡ false
 no-wait true b c e = refl
 no-wait false b c e = absurd (false≢true e)
@@ -129,10 +124,6 @@ no-wait false b c e = absurd (false≢true e)
 and-none : (a b : Bool) → (a && false && b) ≡ false
 and-none true b = refl
 and-none false b = refl
-
-or-left : (a b : Bool) → a ≡ true → (a || b) ≡ true
-or-left true b e = refl
-or-left false b e = absurd (false≢true e)
 
 pub cleaned-known : (s : Runner) → isCleanedUp s ≡ true → AllKnown s
 cleaned-known s e =
