@@ -4,6 +4,7 @@ use crate::session::Session;
 use exec::Key;
 use exec::LaunchResult;
 use exec::Limits;
+use exec::MaybeStatus;
 use exec::Pool;
 use exec::Settlement;
 use exec::Status;
@@ -33,8 +34,8 @@ fn exit() -> Session {
         .message(16)
         .output_hung_up(Stream::Stdout)
         .input(b"in")
-        .exited(50, Status::Exited(3))
-        .exited(51, Status::Signaled(9))
+        .exited(50, MaybeStatus::Some(Status::Exited(3)))
+        .exited(51, MaybeStatus::Some(Status::Signaled(9)))
         .pending_input()
         .deadline()
         .request()

@@ -5,6 +5,7 @@ use exec::Cause;
 use exec::Key;
 use exec::LaunchResult;
 use exec::Limits;
+use exec::MaybeStatus;
 use exec::Pool;
 use exec::Settlement;
 use exec::Status;
@@ -58,7 +59,7 @@ fn settle(session: Session) -> Session {
     session
         .output_closed(Stream::Stdout)
         .output_closed(Stream::Stderr)
-        .exited(22, Status::Signaled(9))
+        .exited(22, MaybeStatus::Some(Status::Signaled(9)))
         .deadline()
         .message(16)
         .request()

@@ -1,6 +1,8 @@
-// Four sessions with a runner, call by call. What is printed, and expected, is what the Rust answers to the same calls.
+// Six sessions with a runner, call by call. What is printed, and expected, is what the Rust answers to the same calls.
 mod abandon;
 mod detach;
+mod dropping;
+mod failure;
 mod frames;
 mod print;
 mod session;
@@ -11,4 +13,6 @@ fn main() {
     frames::run();
     abandon::run();
     detach::run();
+    failure::run();
+    dropping::run();
 }

@@ -8,7 +8,6 @@ use exec::Limits;
 use exec::MaybeStatus;
 use exec::Pool;
 use exec::Settlement;
-use exec::Status;
 use exec::Stream;
 use exec::Timers;
 use runner::answer::Count;
@@ -142,6 +141,11 @@ impl Session {
         self.noted(runner.output_closed(stream))
     }
 
+    pub(crate) fn output_failed(self, stream: Stream) -> Session {
+        let runner = self.runner;
+        self.noted(runner.output_failed(stream))
+    }
+
     pub(crate) fn output_hung_up(self, stream: Stream) -> Session {
         let runner = self.runner;
         self.noted(runner.output_hung_up(stream))
@@ -165,14 +169,24 @@ impl Session {
         self.noted(noting)
     }
 
-    pub(crate) fn exited(self, now: u64, status: Status) -> Session {
+    pub(crate) fn input_closed(self) -> Session {
         let runner = self.runner;
-        self.noted(runner.exited(now, MaybeStatus::Some(status)))
+        self.noted(runner.input_closed())
+    }
+
+    pub(crate) fn exited(self, now: u64, status: MaybeStatus) -> Session {
+        let runner = self.runner;
+        self.noted(runner.exited(now, status))
     }
 
     pub(crate) fn settled(self, result: Settlement) -> Session {
         let runner = self.runner;
         self.noted(runner.settled(result))
+    }
+
+    pub(crate) fn dropped(self, now: u64) -> Session {
+        let runner = self.runner;
+        self.noted(runner.dropped(now))
     }
 
     pub(crate) fn reset(self, now: u64) -> Session {
