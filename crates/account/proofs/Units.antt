@@ -1,6 +1,6 @@
 -- The units of the input's window are never made up and never vanish.
 use mathlib.Core.Bool.{Bool, true, false, cond, not, _&&_, _||_}
-use mathlib.Core.Path.{_≡_, refl, ap, _∙_, subst, subst⁻¹}
+use mathlib.Core.Path.{_≡_, sym, refl, ap, _∙_, subst, subst⁻¹}
 use mathlib.Core.List.{List, [], _∷_}
 use Prim.Native.Nat.{ℕ, _+_, _-_, _≤_, min}
 use native.Mathlib.Omega.{arith}
@@ -33,14 +33,14 @@ use Rattle.runner.specs.Message.{choose, effect, outputSent, outputPaid, wish, 
 use Rattle.runner.specs.Range.{fresh}
 use Rattle.runner.specs.Streams.{outputNext, discardedNext, closedNext, failedNext, hungUpNext, creditNext, inputAnswer, inputNext, endNext, writtenNext}
 use Rattle.account.specs.Call as Call
-use Rattle.account.specs.Call.{Conf, Call}
-use Rattle.account.specs.Claim.{Opens}
+use Rattle.account.specs.Call.{Conf, Call, Answer}
+use Rattle.account.specs.Claim.{Opens, isTerminal}
 use Rattle.account.specs.Step as Step
 use Rattle.account.specs.Step.{State, receivedAs}
 use Rattle.account.specs.Units.{unitsIn, isLate, lateCost, cleared, lostBy, lost, Units}
 use Rattle.account.proofs.Plain.{next, answer, begun}
 use Rattle.account.proofs.Range.{HeldIn, paid, lent}
-use Rattle.account.proofs.Finish.{framed, framed-conf}
+use Rattle.account.proofs.Finish.{framed, framed-conf, fin-stays, ends, ends-by, ends-fin}
 use Rattle.account.proofs.Demand.{Fine, fine-next, next-same, answer-same, fine-open, opens-by, open-same}
 use Rattle.account.proofs.InputMoves.{Moves, same, shut, Keeps, close, ticks, launches, exits, detaches, cancels}
 
@@ -94,7 +94,7 @@ unfolding receiveAnswer
 late-is l i n = late-by (i .«peer_ended») (offChunk l n) (ltb (i .window .open) (cost (l .input .unit) n)) (i .closed)
 
 received-units : (a : Admission) (r : Runner) (n : ℕ) (f : Bool) → r .flags .finished ≡ f
-    → unitsIn (r .limits) (inputNext a r n .input) + lateCost r n (receivedAs (inputAnswer a r n)) ≡ unitsIn (r .limits) (r .input)
+    → unitsIn (r .limits) (inputNext a r n .input) + lateCost f (r .limits) n (receivedAs (inputAnswer a r n)) ≡ unitsIn (r .limits) (r .input)
 unfolding inputNext inputAnswer
 received-units (Admission.Refused x) r n f e = omega arith
 received-units Admission.Stale r n f e = omega arith
@@ -166,54 +166,68 @@ unitsOf s = unitsIn (s .runner .limits) (s .runner .input)
 moved : (r r′ : Runner) → Keeps r r′ → unitsIn (r .limits) (r′ .input) + cleared r r′ ≡ unitsIn (r .limits) (r .input)
 moved r r′ m = moved-units (r .limits) (r .input) (r′ .input) m
 
-units-step : (c : Call) (s : State) → Fine s → unitsIn (s .runner .limits) (next s c .runner .input) + lostBy s c ≡ unitsOf s
+units-step : (c : Call) (s : State) (over : Bool) → s .runner .flags .finished ≡ over → Fine s → unitsIn (s .runner .limits) (next s c .runner .input) + lostBy over s c ≡ unitsOf s
 unfolding lostBy next answer creditNext outputNext discardedNext closedNext failedNext hungUpNext settledNext writtenNext
-units-step Call.key s h = omega arith
-units-step Call.limits s h = omega arith
-units-step (Call.credit k p u) s h = omega arith
-units-step (Call.input k b) s h =
-    rw (answer-same s (Call.input k b) h) (received-units (admits (s .runner .key) k) (s .runner) (length b) (s .runner .flags .finished) refl)
-units-step (Call.endInput k) s h = omega (arith, end-units (admits (s .runner .key) k) (s .runner) (s .runner .flags .finished) refl)
-units-step (Call.cancel now k c) s h = rw (next-same s (Call.cancel now k c) h) (moved (s .runner) (cancelNext (admits (s .runner .key) k) (s .runner) now c) (cancels (admits (s .runner .key) k) (s .runner) now c))
-units-step (Call.launched x) s h = rw (next-same s (Call.launched x) h) (moved (s .runner) (launchedNext (s .runner) x) (launches (s .runner) x))
-units-step (Call.readAllowance x) s h = omega arith
-units-step (Call.output x b) s h = omega arith
-units-step (Call.discarded x n) s h = omega arith
-units-step (Call.outputClosed x) s h = omega arith
-units-step (Call.outputFailed x) s h = omega arith
-units-step (Call.outputHungUp x) s h = omega arith
-units-step Call.pendingInput s h = omega arith
-units-step (Call.inputWritten n) s h =
+units-step Call.key s over e h = omega arith
+units-step Call.limits s over e h = omega arith
+units-step (Call.credit k p u) s over e h = omega arith
+units-step (Call.input k b) s over e h =
+    rw (answer-same s (Call.input k b) h) (received-units (admits (s .runner .key) k) (s .runner) (length b) over e)
+units-step (Call.endInput k) s over e h = omega (arith, end-units (admits (s .runner .key) k) (s .runner) (s .runner .flags .finished) refl)
+units-step (Call.cancel now k c) s over e h = rw (next-same s (Call.cancel now k c) h) (moved (s .runner) (cancelNext (admits (s .runner .key) k) (s .runner) now c) (cancels (admits (s .runner .key) k) (s .runner) now c))
+units-step (Call.launched x) s over e h = rw (next-same s (Call.launched x) h) (moved (s .runner) (launchedNext (s .runner) x) (launches (s .runner) x))
+units-step (Call.readAllowance x) s over e h = omega arith
+units-step (Call.output x b) s over e h = omega arith
+units-step (Call.discarded x n) s over e h = omega arith
+units-step (Call.outputClosed x) s over e h = omega arith
+units-step (Call.outputFailed x) s over e h = omega arith
+units-step (Call.outputHungUp x) s over e h = omega arith
+units-step Call.pendingInput s over e h = omega arith
+units-step (Call.inputWritten n) s over e h =
     omega (arith, written-by (s .runner .limits) (s .lengths) (s .runner .input) n (s .runner .input .closed) refl (h .sound .ranged .4 .0))
-units-step Call.inputClosed s h = rw (next-same s Call.inputClosed h) (moved (s .runner) (closeRunnerInput (s .runner)) (close (s .runner)))
-units-step (Call.exited now x) s h = rw (next-same s (Call.exited now x) h) (moved (s .runner) (exitedNext (s .runner) now x) (exits (s .runner) now x))
-units-step (Call.settled x) s h = omega arith
-units-step (Call.dropped now) s h = rw (next-same s (Call.dropped now) h) (moved (s .runner) (detachNext (s .runner) now Dropped) (detaches (s .runner) now Dropped))
-units-step (Call.reset now) s h = rw (next-same s (Call.reset now) h) (moved (s .runner) (detachNext (s .runner) now Reset) (detaches (s .runner) now Reset))
-units-step (Call.disconnect now) s h = rw (next-same s (Call.disconnect now) h) (moved (s .runner) (detachNext (s .runner) now Disconnected) (detaches (s .runner) now Disconnected))
-units-step (Call.tick now) s h = rw (next-same s (Call.tick now) h) (moved (s .runner) (ticked (s .runner) now) (ticks (s .runner) now))
-units-step Call.deadline s h = omega arith
-units-step Call.nextRequest s h = omega (arith, asked-units (wish (s .runner)) (s .runner))
-units-step (Call.nextMessage buffer) s h = omega (arith, said-units (choose (s .runner) (length buffer)) (s .runner))
-units-step Call.isFinished s h = omega arith
-units-step Call.isDetached s h = omega arith
-units-step Call.awaitsSettlement s h = omega arith
-units-step Call.memoryBound s h = omega arith
-units-step Call.buffered s h = omega arith
-units-step Call.highWater s h = omega arith
+units-step Call.inputClosed s over e h = rw (next-same s Call.inputClosed h) (moved (s .runner) (closeRunnerInput (s .runner)) (close (s .runner)))
+units-step (Call.exited now x) s over e h = rw (next-same s (Call.exited now x) h) (moved (s .runner) (exitedNext (s .runner) now x) (exits (s .runner) now x))
+units-step (Call.settled x) s over e h = omega arith
+units-step (Call.dropped now) s over e h = rw (next-same s (Call.dropped now) h) (moved (s .runner) (detachNext (s .runner) now Dropped) (detaches (s .runner) now Dropped))
+units-step (Call.reset now) s over e h = rw (next-same s (Call.reset now) h) (moved (s .runner) (detachNext (s .runner) now Reset) (detaches (s .runner) now Reset))
+units-step (Call.disconnect now) s over e h = rw (next-same s (Call.disconnect now) h) (moved (s .runner) (detachNext (s .runner) now Disconnected) (detaches (s .runner) now Disconnected))
+units-step (Call.tick now) s over e h = rw (next-same s (Call.tick now) h) (moved (s .runner) (ticked (s .runner) now) (ticks (s .runner) now))
+units-step Call.deadline s over e h = omega arith
+units-step Call.nextRequest s over e h = omega (arith, asked-units (wish (s .runner)) (s .runner))
+units-step (Call.nextMessage buffer) s over e h = omega (arith, said-units (choose (s .runner) (length buffer)) (s .runner))
+units-step Call.isFinished s over e h = omega arith
+units-step Call.isDetached s over e h = omega arith
+units-step Call.awaitsSettlement s over e h = omega arith
+units-step Call.memoryBound s over e h = omega arith
+units-step Call.buffered s over e h = omega arith
+units-step Call.highWater s over e h = omega arith
 
 add-up : (a b c m u : ℕ) → a + c ≡ m → m + b ≡ u → a + (b + c) ≡ u
 add-up a b c m u e f = omega arith
 
-units-list : (cs : List Call) (s : State) → Fine s → unitsIn (s .runner .limits) (Step.after s cs .runner .input) + lost s cs ≡ unitsOf s
-units-list [] s h = omega arith
-units-list (c ∷ cs) s h =
+-- Terminal has come exactly when the runner is finished
+over-next : (c : Call) (s : State) (over : Bool) → s .runner .flags .finished ≡ over → next s c .runner .flags .finished ≡ (over || isTerminal (answer s c))
+over-next c s true f = fin-stays c s f
+over-next c s false f = told (isTerminal (answer s c)) (next s c .runner .flags .finished) refl refl
+  where
+    told : (t g : Bool) → isTerminal (answer s c) ≡ t → next s c .runner .flags .finished ≡ g → g ≡ t
+    told true g e n = sym n ∙ ends-fin s c (ends c s e)
+    told false true e n = sym (ends-by c s f n) ∙ e
+    told false false e n = refl
+
+units-list : (cs : List Call) (s : State) (over : Bool) → s .runner .flags .finished ≡ over → Fine s
+    → unitsIn (s .runner .limits) (Step.after s cs .runner .input) + lost over s cs ≡ unitsOf s
+units-list [] s over e h = omega arith
+units-list (c ∷ cs) s over e h =
     let s′ = next s c in
+    let then′ : Bool = over || isTerminal (answer s c) in
     let l : s′ .runner .limits ≡ s .runner .limits = ap (λ (x : Conf). x .limits) (framed-conf (framed c s)) in
-    let rest : unitsIn (s .runner .limits) (Step.after s′ cs .runner .input) + lost s′ cs ≡ unitsIn (s .runner .limits) (s′ .runner .input) =
-    subst (λ (x : Limits). unitsIn x (Step.after s′ cs .runner .input) + lost s′ cs ≡ unitsIn x (s′ .runner .input)) l (units-list cs s′ (fine-next c s h)) in
-    subst⁻¹ (λ (x : State). unitsIn (s .runner .limits) (Step.after x cs .runner .input) + (lostBy s c + lost x cs) ≡ unitsOf s) (next-same s c h)
-    (add-up _ (lostBy s c) (lost s′ cs) (unitsIn (s .runner .limits) (s′ .runner .input)) (unitsOf s) rest (units-step c s h))
+    let o : s′ .runner .flags .finished ≡ then′ = over-next c s over e in
+    let rest : unitsIn (s .runner .limits) (Step.after s′ cs .runner .input) + lost then′ s′ cs ≡ unitsIn (s .runner .limits) (s′ .runner .input) =
+    subst (λ (x : Limits). unitsIn x (Step.after s′ cs .runner .input) + lost then′ s′ cs ≡ unitsIn x (s′ .runner .input)) l (units-list cs s′ then′ o (fine-next c s h)) in
+    subst⁻¹ (λ (x : State). unitsIn (s .runner .limits) (Step.after x cs .runner .input) + (lostBy over s c + lost (over || isTerminal (Step.answer s c)) x cs) ≡ unitsOf s) (next-same s c h)
+    (subst⁻¹ (λ (a : Answer). unitsIn (s .runner .limits) (Step.after s′ cs .runner .input) + (lostBy over s c + lost (over || isTerminal a) s′ cs) ≡ unitsOf s) (answer-same s c h)
+    (add-up _ (lostBy over s c) (lost then′ s′ cs) (unitsIn (s .runner .limits) (s′ .runner .input)) (unitsOf s) rest (units-step c s over e h)))
 
 none-yet : (u : Kinds.Unit) (size : ℕ) → 0 + size + inboxHeld u newInbox ≡ size
 none-yet Bytes size = omega arith
@@ -223,5 +237,5 @@ pub units : (conf : Conf) (now : ℕ) (bytes lengths : List ℕ) → Opens conf 
 unfolding fresh
 units conf now bytes lengths op cs =
     rw (open-same conf now bytes lengths op)
-    (units-list cs (begun conf now bytes lengths) (fine-open conf now bytes lengths (lent (conf .limits) bytes lengths (opens-by conf now bytes lengths op)))
+    (units-list cs (begun conf now bytes lengths) false refl (fine-open conf now bytes lengths (lent (conf .limits) bytes lengths (opens-by conf now bytes lengths op)))
     ∙ none-yet (conf .limits .input .unit) (conf .limits .input .size))
