@@ -1,0 +1,4 @@
+-- The channel: numbers in bytes, the records, and both ways between a record and its bytes.
+pub mod Bytes
+pub mod Codec
+pub mod RoundTrip

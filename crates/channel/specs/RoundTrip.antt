@@ -1,0 +1,1 @@
+-- Each side undoes the other: what is written reads back as the record, and what the reader accepts is written back byte for byte.

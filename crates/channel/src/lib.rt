@@ -1,0 +1,2 @@
+// Channel records of RFC 4254: the codec.
+pub mod codec;
