@@ -1,8 +1,8 @@
 // The records of an open channel, RFC 4254, 5.2 and 5.3, read from and written to byte slices. Numbers are big-endian.
 ghost use mathlib.Core.Path.{_≡_};
-ghost use mathlib.Core.List.{_++_};
+ghost use mathlib.Core.List.{[], _∷_, _++_};
 ghost use Prim.Native.Nat.{_+_, _≤_, _<_};
-ghost use lib.ListN.{length, drop, getD};
+ghost use lib.ListN.{length, drop};
 ghost use Rattle.ring.specs.Runs.{copied};
 ghost use Rattle.channel.specs.Bytes.{be32, be32At, numberAt};
 ghost use Rattle.channel.specs.Codec.{
@@ -71,4 +71,189 @@ impl Record {
             Record::Close => 0,
         }
     }
+
+    // How many bytes the whole record has.
+    pub fn whole(self) -> usize
+        ensures { λ r. ⌜ r ≡ start self + size self ⌝ }
+    {
+        match self {
+            Record::Adjust(_) => 9,
+            Record::Data(n) => 9 + n as usize,
+            Record::Extended(n) => 13 + n as usize,
+            Record::Eof => 5,
+            Record::Close => 5,
+        }
+    }
+}
+
+// ---- reading
+
+fn wide(x: u8) -> u32
+    ensures { λ r. ⌜ (r ≡ x) × (r < 256) ⌝ }
+{
+    x as u32
+}
+
+// The number whose four bytes stand at index at.
+fn get_be32(s: &[u8], at: usize) -> u32
+    requires { ⌜ at + 4 ≤ length (now s) ⌝ }
+    ensures { λ r. ⌜ r ≡ be32At (now (s .entry)) at ⌝ }
+{
+    wide(s[at]) * 16777216 + wide(s[at + 1]) * 65536 + wide(s[at + 2]) * 256 + wide(s[at + 3])
+}
+
+// The same, and 0 where the bytes end before it does.
+fn number_at(s: &[u8], at: usize) -> u32
+    requires { ⌜ at ≤ 9 ⌝ }
+    ensures { λ r. ⌜ r ≡ numberAt (now (s .entry)) at ⌝ }
+{
+    if at + 4 <= s.len() {
+        get_be32(s, at)
+    } else {
+        0
+    }
+}
+
+// The record of a kind. Where the bytes end before its number it is read as 0, and its length is refused.
+fn kinded(kind: u8, bytes: &[u8]) -> Parsed
+    ensures { λ r. ⌜ r ≡ kinded kind (now (bytes .entry)) ⌝ }
+{
+    match kind {
+        93 => Parsed::Read(Record::Adjust(number_at(bytes, 5))),
+        94 => Parsed::Read(Record::Data(number_at(bytes, 5))),
+        95 => Parsed::Read(Record::Extended(number_at(bytes, 9))),
+        96 => Parsed::Read(Record::Eof),
+        97 => Parsed::Read(Record::Close),
+        _ => Parsed::Refused(Refusal::UnknownKind),
+    }
+}
+
+// Whether extended data is of type 1.
+fn is_typed(rec: Record, bytes: &[u8]) -> bool
+    ensures { λ r. ⌜ r ≡ isTyped rec (now (bytes .entry)) ⌝ }
+{
+    match rec {
+        Record::Adjust(_) => true,
+        Record::Data(_) => true,
+        Record::Extended(_) => number_at(bytes, 5) == 1,
+        Record::Eof => true,
+        Record::Close => true,
+    }
+}
+
+fn fitting(rec: Record, bytes: &[u8], channel: u32) -> Parsed
+    ensures { λ r. ⌜ r ≡ fitting channel (now (bytes .entry)) rec ⌝ }
+{
+    if bytes.len() != rec.whole() {
+        return Parsed::Refused(Refusal::BadLength);
+    }
+    if number_at(bytes, 1) != channel {
+        return Parsed::Refused(Refusal::OtherChannel);
+    }
+    if is_typed(rec, bytes) {
+        Parsed::Read(rec)
+    } else {
+        Parsed::Refused(Refusal::BadType)
+    }
+}
+
+fn checked(parsed: Parsed, bytes: &[u8], channel: u32) -> Parsed
+    ensures { λ r. ⌜ r ≡ checked channel (now (bytes .entry)) parsed ⌝ }
+{
+    match parsed {
+        Parsed::Read(rec) => fitting(rec, bytes, channel),
+        Parsed::Refused(x) => Parsed::Refused(x),
+    }
+}
+
+// The record that all of bytes are, for a channel.
+pub fn read(bytes: &[u8], channel: u32) -> Parsed
+    ensures { λ r. ⌜ r ≡ read channel (now (bytes .entry)) ⌝ }
+{
+    if bytes.len() == 0 {
+        return Parsed::Refused(Refusal::BadLength);
+    }
+    let parsed = kinded(bytes[0], bytes);
+    checked(parsed, bytes, channel)
+}
+
+// ---- writing
+
+fn put_byte(buffer: &mut [u8], at: usize, b: u8)
+    requires { ⌜ at < length (now buffer) ⌝ }
+    ensures { λ _. ⌜ now (buffer .exit) ≡ copied (now (buffer .entry)) at (b ∷ []) 0 1 ⌝ }
+{
+    buffer[at] = b;
+}
+
+fn put_be32(buffer: &mut [u8], at: usize, v: u32)
+    requires { ⌜ at + 4 ≤ length (now buffer) ⌝ }
+    ensures { λ _. ⌜ now (buffer .exit) ≡ copied (now (buffer .entry)) at (be32 v) 0 4 ⌝ }
+{
+    buffer[at] = (v / 16777216 % 256) as u8;
+    buffer[at + 1] = (v / 65536 % 256) as u8;
+    buffer[at + 2] = (v / 256 % 256) as u8;
+    buffer[at + 3] = (v % 256) as u8;
+}
+
+// What every record begins with.
+fn put_kind(buffer: &mut [u8], kind: u8, channel: u32)
+    requires { ⌜ 5 ≤ length (now buffer) ⌝ }
+    ensures { λ _. ⌜ now (buffer .exit) ≡ copied (now (buffer .entry)) 0 (kind ∷ be32 channel) 0 5 ⌝ }
+{
+    put_byte(buffer, 0, kind);
+    put_be32(buffer, 1, channel);
+}
+
+// Writes all of a record but its payload at the buffer's start.
+pub(crate) fn put_header(buffer: &mut [u8], channel: u32, rec: Record)
+    requires { ⌜ start rec ≤ length (now buffer) ⌝ }
+    ensures { λ _. ⌜ now (buffer .exit) ≡ header channel rec ++ drop (start rec) (now (buffer .entry)) ⌝ }
+{
+    match rec {
+        Record::Adjust(units) => {
+            put_kind(buffer, 93, channel);
+            put_be32(buffer, 5, units);
+        }
+        Record::Data(n) => {
+            put_kind(buffer, 94, channel);
+            put_be32(buffer, 5, n);
+        }
+        Record::Extended(n) => {
+            put_kind(buffer, 95, channel);
+            put_be32(buffer, 5, 1);
+            put_be32(buffer, 9, n);
+        }
+        Record::Eof => put_kind(buffer, 96, channel),
+        Record::Close => put_kind(buffer, 97, channel),
+    }
+}
+
+// Moves n bytes of the buffer down, from index `from` to index `at`.
+pub(crate) fn slide(buffer: &mut [u8], at: usize, from: usize, n: usize)
+    requires { ⌜ (at ≤ from) × (from + n ≤ length (now buffer)) ⌝ }
+    ensures { λ _. ⌜ now (buffer .exit) ≡ copied (now (buffer .entry)) at (now (buffer .entry)) from n ⌝ }
+{
+    let mut j = 0;
+    while j < n {
+        buffer[at + j] = buffer[from + j];
+        j += 1;
+    }
+}
+
+// Writes the record and its payload at the buffer's start, and nothing else.
+pub fn write(channel: u32, rec: Record, payload: &[u8], buffer: &mut [u8]) -> Written
+    ensures { λ r. ⌜ writtenAfter r (now (buffer .exit)) ≡ write channel rec (now (payload .entry)) (now (buffer .entry)) ⌝ }
+{
+    let whole = rec.whole();
+    if buffer.len() < whole {
+        return Written::Refused(Refusal::BufferShort);
+    }
+    let size = rec.size();
+    if payload.len() != size {
+        return Written::Refused(Refusal::BadLength);
+    }
+    ring::copy_in(buffer, rec.start(), payload, 0, size);
+    put_header(buffer, channel, rec);
+    Written::Bytes(whole)
 }
