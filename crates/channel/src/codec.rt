@@ -196,13 +196,29 @@ fn put_be32(buffer: &mut [u8], at: usize, v: u32)
     buffer[at + 3] = (v % 256) as u8;
 }
 
-// What every record begins with.
+// The three forms of a header: kind and channel; with a number; with the type 1 and a number.
 fn put_kind(buffer: &mut [u8], kind: u8, channel: u32)
     requires { ⌜ 5 ≤ length (now buffer) ⌝ }
-    ensures { λ _. ⌜ now (buffer .exit) ≡ copied (now (buffer .entry)) 0 (kind ∷ be32 channel) 0 5 ⌝ }
+    ensures { λ _. ⌜ now (buffer .exit) ≡ kind ∷ be32 channel ++ drop 5 (now (buffer .entry)) ⌝ }
 {
     put_byte(buffer, 0, kind);
     put_be32(buffer, 1, channel);
+}
+
+fn put_number(buffer: &mut [u8], kind: u8, channel: u32, n: u32)
+    requires { ⌜ 9 ≤ length (now buffer) ⌝ }
+    ensures { λ _. ⌜ now (buffer .exit) ≡ kind ∷ (be32 channel ++ be32 n) ++ drop 9 (now (buffer .entry)) ⌝ }
+{
+    put_kind(buffer, kind, channel);
+    put_be32(buffer, 5, n);
+}
+
+fn put_typed(buffer: &mut [u8], kind: u8, channel: u32, n: u32)
+    requires { ⌜ 13 ≤ length (now buffer) ⌝ }
+    ensures { λ _. ⌜ now (buffer .exit) ≡ kind ∷ (be32 channel ++ be32 1 ++ be32 n) ++ drop 13 (now (buffer .entry)) ⌝ }
+{
+    put_number(buffer, kind, channel, 1);
+    put_be32(buffer, 9, n);
 }
 
 // Writes all of a record but its payload at the buffer's start.
@@ -211,19 +227,9 @@ pub(crate) fn put_header(buffer: &mut [u8], channel: u32, rec: Record)
     ensures { λ _. ⌜ now (buffer .exit) ≡ header channel rec ++ drop (start rec) (now (buffer .entry)) ⌝ }
 {
     match rec {
-        Record::Adjust(units) => {
-            put_kind(buffer, 93, channel);
-            put_be32(buffer, 5, units);
-        }
-        Record::Data(n) => {
-            put_kind(buffer, 94, channel);
-            put_be32(buffer, 5, n);
-        }
-        Record::Extended(n) => {
-            put_kind(buffer, 95, channel);
-            put_be32(buffer, 5, 1);
-            put_be32(buffer, 9, n);
-        }
+        Record::Adjust(units) => put_number(buffer, 93, channel, units),
+        Record::Data(n) => put_number(buffer, 94, channel, n),
+        Record::Extended(n) => put_typed(buffer, 95, channel, n),
         Record::Eof => put_kind(buffer, 96, channel),
         Record::Close => put_kind(buffer, 97, channel),
     }

@@ -1,0 +1,26 @@
+-- `codec::put_kind` meets its contract: the channel is laid behind the kind.
+use native.Mathlib.Omega.{arith}
+use mathlib.Core.Path.{refl}
+use mathlib.Core.List.{[], _∷_}
+use Rattle.channel.specs.Bytes.{be32}
+use Rattle.channel.specs.BytesLaws.{laid-first, laid}
+use borrow.Author.Needs.{needs}
+use Rattle.channel.proofs.codec.put_kind.Statement.{statement}
+use Rattle.channel.proofs.codec.put_kind.Tie as tie
+
+put-byte-requires : tie.Need-put-byte-requires
+put-byte-requires c κs = search needs
+
+put-be32-requires : tie.Need-put-be32-requires
+put-be32-requires c κs = search needs
+
+same-length : tie.Need-same-length
+same-length c = search needs
+
+returns : tie.Need-returns
+returns c =
+    let a = c .before .before .before .before .before .before .before .before .before .args in
+    cc (laid-first (a .buffer .now) (a .kind ∷ []) 1 refl, laid (a .buffer .now) (a .kind ∷ []) (be32 (a .channel)) 1 4 refl refl (omega arith))
+
+pub put-kind-spec : {M : Type 1} → statement M
+put-kind-spec = tie.close (tie.spec put-byte-requires put-be32-requires same-length returns)

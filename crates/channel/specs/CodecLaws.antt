@@ -1,0 +1,135 @@
+-- What bytes hold where they are read as a record, and so the tests of `read` as one record of facts, both ways; and what `write` leaves.
+use mathlib.Core.Path.{_≡_, refl, sym, ap, subst, _∙_}
+use mathlib.Core.Bool.{Bool, true, false, cond}
+use mathlib.Core.List.{List, _++_, append-assoc}
+use Prim.Native.Nat.{ℕ, _+_, _≤_, _<_}
+use native.Mathlib.Omega.{arith}
+use lib.Dec.{eqb}
+use lib.ListN.{length, drop, getD}
+use lib.Seq.{take-all}
+use borrow.Author.Tests.{eq-eqb, ne-eqb, le-leb, lt-leb, eqb-true}
+use Rattle.exec.specs.declared.Refusal.{Refusal}
+use Rattle.exec.specs.declared.Refusal.the-variants.{BadLength, BufferShort}
+use Rattle.ring.specs.Runs.{copied}
+use Rattle.ring.specs.Lent.{copied-drop}
+use Rattle.channel.specs.declared.codec.Parsed.{Parsed}
+use Rattle.channel.specs.declared.codec.Parsed.the-variants as Parsed
+use Rattle.channel.specs.declared.codec.Record.{Record}
+use Rattle.channel.specs.declared.codec.Record.the-variants.{Adjust, Data, Extended, Eof, Close}
+use Rattle.channel.specs.declared.codec.Written.the-variants as Written
+use Rattle.channel.specs.Bytes.{numberAt}
+use Rattle.channel.specs.Codec.{header, start, size, bytesOf, kinded, isTyped, fitting, checked, read, writtenAfter, write}
+
+pub header-length : (channel : ℕ) (rec : Record) → length (header channel rec) ≡ start rec
+unfolding header
+header-length channel (Adjust units) = refl
+header-length channel (Data n) = refl
+header-length channel (Extended n) = refl
+header-length channel Eof = refl
+header-length channel Close = refl
+
+-- ---- reading
+
+-- the record's kind, and its number where its kind has one
+abbrev pub IsKind : (kind : ℕ) → List ℕ → Record → Type 0
+IsKind kind s (Adjust units) = (kind ≡ 93) × (numberAt s 5 ≡ units)
+IsKind kind s (Data n) = (kind ≡ 94) × (numberAt s 5 ≡ n)
+IsKind kind s (Extended n) = (kind ≡ 95) × (numberAt s 9 ≡ n)
+IsKind kind s Eof = kind ≡ 96
+IsKind kind s Close = kind ≡ 97
+
+pub record Holds (channel : ℕ) (s : List ℕ) (rec : Record) : Type 0 where
+  pub kind : IsKind (getD s 0 0) s rec
+  pub whole : length s ≡ start rec + size rec
+  pub mine : numberAt s 1 ≡ channel
+  pub typed : isTyped rec s ≡ true
+
+pub start-least : (rec : Record) → 5 ≤ start rec
+start-least (Adjust units) = omega arith
+start-least (Data n) = omega arith
+start-least (Extended n) = omega arith
+start-least Eof = omega arith
+start-least Close = omega arith
+
+kinded-of : (k : ℕ) (s : List ℕ) (rec : Record) → IsKind k s rec → kinded k s ≡ Parsed.Read rec
+unfolding kinded
+kinded-of k s (Adjust units) h = rw (h .0, h .1)
+kinded-of k s (Data n) h = rw (h .0, h .1)
+kinded-of k s (Extended n) h = rw (h .0, h .1)
+kinded-of k s Eof h = rw h
+kinded-of k s Close h = rw h
+
+pub read-of : (channel : ℕ) (s : List ℕ) (rec : Record) → Holds channel s rec → read channel s ≡ Parsed.Read rec
+unfolding read checked fitting
+read-of channel s rec h =
+    let some : eqb (length s) 0 ≡ false = ne-eqb (length s) 0 (omega (arith, start-least rec)) in
+    simp (some, kinded-of (getD s 0 0) s rec (h .kind), eq-eqb _ _ (h .whole), eq-eqb _ _ (h .mine), h .typed)
+
+-- a choice that came out as a record that was read: by the test, or by its failing
+pick : (P : Type 0) (b : Bool) (x y : Parsed) (rec : Record) → (b ≡ true → x ≡ Parsed.Read rec → P) → (b ≡ false → y ≡ Parsed.Read rec → P)
+    → cond b x y ≡ Parsed.Read rec → P
+pick P true x y rec f g h = f refl h
+pick P false x y rec f g h = g refl h
+
+same : (r rec : Record) → Parsed.Read r ≡ Parsed.Read rec → r ≡ rec
+same r rec h = cc
+
+never : {P : Type 0} (x : Refusal) (rec : Record) → Parsed.Refused x ≡ Parsed.Read rec → P
+never x rec h = let z : _≡_ {A = ℕ} 0 1 = cc in absurd (omega arith)
+
+kinded-is : (k : ℕ) (s : List ℕ) (rec : Record) → kinded k s ≡ Parsed.Read rec → IsKind k s rec
+unfolding kinded
+kinded-is k s rec =
+    let P = IsKind k s rec in
+    let found : (r : Record) → IsKind k s r → Parsed.Read r ≡ Parsed.Read rec → P = λ r i h. subst (λ (x : Record). IsKind k s x) (same r rec h) i in
+    pick P (eqb k 93) _ _ rec (λ b. found (Adjust (numberAt s 5)) (eqb-true k 93 b, refl))
+    (λ _. pick P (eqb k 94) _ _ rec (λ b. found (Data (numberAt s 5)) (eqb-true k 94 b, refl))
+    (λ _. pick P (eqb k 95) _ _ rec (λ b. found (Extended (numberAt s 9)) (eqb-true k 95 b, refl))
+    (λ _. pick P (eqb k 96) _ _ rec (λ b. found Eof (eqb-true k 96 b))
+    (λ _. pick P (eqb k 97) _ _ rec (λ b. found Close (eqb-true k 97 b)) (λ _. never _ rec)))))
+
+holds-fitting : (channel : ℕ) (s : List ℕ) (r rec : Record) → IsKind (getD s 0 0) s r → fitting channel s r ≡ Parsed.Read rec → Holds channel s rec
+unfolding fitting
+holds-fitting channel s r rec k =
+    let P = Holds channel s rec in
+    pick P (eqb (length s) (start r + size r)) _ _ rec
+    (λ l. pick P (eqb (numberAt s 1) channel) _ _ rec
+    (λ m. pick P (isTyped r s) _ _ rec
+    (λ t h. subst (λ (x : Record). Holds channel s x) (same r rec h) (record { kind = k; whole = eqb-true _ _ l; mine = eqb-true _ _ m; typed = t }))
+    (λ _. never _ rec))
+    (λ _. never _ rec))
+    (λ _. never _ rec)
+
+holds-checked : (channel : ℕ) (s : List ℕ) (p : Parsed) (rec : Record) → kinded (getD s 0 0) s ≡ p → checked channel s p ≡ Parsed.Read rec → Holds channel s rec
+unfolding checked
+holds-checked channel s (Parsed.Read r) rec e = holds-fitting channel s r rec (kinded-is (getD s 0 0) s r e)
+holds-checked channel s (Parsed.Refused x) rec e = never x rec
+
+pub read-is : (channel : ℕ) (s : List ℕ) (rec : Record) → read channel s ≡ Parsed.Read rec → Holds channel s rec
+unfolding read
+read-is channel s rec =
+    pick (Holds channel s rec) (eqb (length s) 0) _ _ rec (λ _. never _ rec)
+    (λ _. holds-checked channel s (kinded (getD s 0 0) s) rec refl)
+
+-- ---- writing, by its three answers
+
+module _ (channel : ℕ) (rec : Record) (payload b : List ℕ) where
+  pub write-short : length b < start rec + size rec → write channel rec payload b ≡ writtenAfter (Written.Refused BufferShort) b
+  unfolding write
+  write-short h = simp (lt-leb (start rec + size rec) (length b) h)
+
+  pub write-other : start rec + size rec ≤ length b → (length payload ≡ size rec → ⊥)
+      → write channel rec payload b ≡ writtenAfter (Written.Refused BadLength) b
+  unfolding write
+  write-other h n = simp (le-leb (start rec + size rec) (length b) h, ne-eqb (length payload) (size rec) n)
+
+  -- the payload is copied, and the header laid before it
+  pub write-all : start rec + size rec ≤ length b → length payload ≡ size rec
+      → write channel rec payload b
+      ≡ writtenAfter (Written.Bytes (start rec + size rec)) (header channel rec ++ drop (start rec) (copied b (start rec) payload 0 (size rec)))
+  unfolding write bytesOf
+  write-all h e =
+      let behind = drop (start rec + size rec) b in
+      let laid : drop (start rec) (copied b (start rec) payload 0 (size rec)) ≡ payload ++ behind =
+      copied-drop b (start rec) payload 0 (size rec) (omega arith) ∙ ap (λ (x : List ℕ). x ++ behind) (take-all (size rec) payload (omega arith)) in
+      simp (le-leb (start rec + size rec) (length b) h, eq-eqb (length payload) (size rec) e, laid, append-assoc)
