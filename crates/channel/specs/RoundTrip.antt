@@ -35,35 +35,35 @@ holds : (channel : ℕ) (rec : Record) (payload : List ℕ) → channel < 2 ^ 32
     → Holds channel (bytesOf channel rec payload) rec
 unfolding bytesOf header
 holds channel (Adjust units) payload known fits e = record {
-      kind = (refl, number-written (93 ∷ be32 channel) payload units fits);
-      whole = written-length channel (Adjust units) payload e;
-      mine = number-written (93 ∷ []) (be32 units ++ payload) channel known;
-      typed = refl
-    }
+  kind = (refl, number-written (93 ∷ be32 channel) payload units fits);
+  whole = written-length channel (Adjust units) payload e;
+  mine = number-written (93 ∷ []) (be32 units ++ payload) channel known;
+  typed = refl;
+}
 holds channel (Data n) payload known fits e = record {
-      kind = (refl, number-written (94 ∷ be32 channel) payload n fits);
-      whole = written-length channel (Data n) payload e;
-      mine = number-written (94 ∷ []) (be32 n ++ payload) channel known;
-      typed = refl
-    }
+  kind = (refl, number-written (94 ∷ be32 channel) payload n fits);
+  whole = written-length channel (Data n) payload e;
+  mine = number-written (94 ∷ []) (be32 n ++ payload) channel known;
+  typed = refl;
+}
 holds channel (Extended n) payload known fits e = record {
-      kind = (refl, number-written (95 ∷ (be32 channel ++ be32 1)) payload n fits);
-      whole = written-length channel (Extended n) payload e;
-      mine = number-written (95 ∷ []) (be32 1 ++ (be32 n ++ payload)) channel known;
-      typed = eq-eqb _ 1 (number-written (95 ∷ be32 channel) (be32 n ++ payload) 1 (omega arith))
-    }
+  kind = (refl, number-written (95 ∷ (be32 channel ++ be32 1)) payload n fits);
+  whole = written-length channel (Extended n) payload e;
+  mine = number-written (95 ∷ []) (be32 1 ++ (be32 n ++ payload)) channel known;
+  typed = eq-eqb _ 1 (number-written (95 ∷ be32 channel) (be32 n ++ payload) 1 (omega arith));
+}
 holds channel Eof payload known fits e = record {
-      kind = refl;
-      whole = written-length channel Eof payload e;
-      mine = number-written (96 ∷ []) payload channel known;
-      typed = refl
-    }
+  kind = refl;
+  whole = written-length channel Eof payload e;
+  mine = number-written (96 ∷ []) payload channel known;
+  typed = refl;
+}
 holds channel Close payload known fits e = record {
-      kind = refl;
-      whole = written-length channel Close payload e;
-      mine = number-written (97 ∷ []) payload channel known;
-      typed = refl
-    }
+  kind = refl;
+  whole = written-length channel Close payload e;
+  mine = number-written (97 ∷ []) payload channel known;
+  typed = refl;
+}
 
 pub back : (channel : ℕ) (rec : Record) (payload : List ℕ) → channel < 2 ^ 32 → Fits rec → length payload ≡ size rec
     → read channel (bytesOf channel rec payload) ≡ Parsed.Read rec

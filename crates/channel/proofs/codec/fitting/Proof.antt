@@ -1,20 +1,13 @@
 -- `codec::fitting` meets its contract: each return rewrites `fitting` with the tests that led there.
 use borrow.Author.Tests.{eq-eqb, ne-eqb}
-use mathlib.Core.Path.{_∙_, sym}
 use Rattle.channel.specs.Codec.{fitting}
 use borrow.Author.Needs.{needs}
 use Rattle.channel.proofs.codec.fitting.Statement.{statement}
 use Rattle.channel.proofs.codec.fitting.Tie as tie
 
-whole-requires : tie.Need-whole-requires
-whole-requires c κs = search needs
-
 returns : tie.Need-returns
 unfolding fitting
 returns c = simp (← c .before .whole .ensures, ne-eqb _ _ (c .if1 .taken))
-
-number-at-requires : tie.Need-number-at-requires
-number-at-requires c κs = search needs
 
 returns-2 : tie.Need-returns-2
 unfolding fitting
@@ -25,9 +18,6 @@ returns-2 c =
       ← c .before .number-at .ensures,
       ne-eqb _ _ (c .if2 .taken),
     )
-
-is-typed-requires : tie.Need-is-typed-requires
-is-typed-requires c κs = search needs
 
 returns-3 : tie.Need-returns-3
 unfolding fitting
@@ -57,10 +47,10 @@ pub fitting-spec : {M : Type 1} → statement M
 fitting-spec =
     tie.close
     (tie.spec
-    whole-requires
+    (search needs)
     returns
-    number-at-requires
+    (search needs)
     returns-2
-    is-typed-requires
+    (search needs)
     returns-3
     returns-4)

@@ -1,19 +1,9 @@
 -- `codec::kinded` meets its contract: an arm for each kind, and one for the rest.
 use borrow.Author.Tests.{ne-eqb}
-use mathlib.Core.Path.{refl}
 use Rattle.channel.specs.Codec.{kinded}
 use borrow.Author.Needs.{needs}
 use Rattle.channel.proofs.codec.kinded.Statement.{statement}
 use Rattle.channel.proofs.codec.kinded.Tie as tie
-
-number-at-requires : tie.Need-number-at-requires
-number-at-requires c κs = search needs
-
-number-at-requires-2 : tie.Need-number-at-requires-2
-number-at-requires-2 c κs = search needs
-
-number-at-requires-3 : tie.Need-number-at-requires-3
-number-at-requires-3 c κs = search needs
 
 returns : tie.Need-returns
 unfolding kinded
@@ -45,9 +35,9 @@ pub kinded-spec : {M : Type 1} → statement M
 kinded-spec =
     tie.close
     (tie.spec
-    number-at-requires
-    number-at-requires-2
-    number-at-requires-3
+    (search needs)
+    (search needs)
+    (search needs)
     returns
     returns-2
     returns-3

@@ -5,12 +5,6 @@ use borrow.Author.Needs.{needs}
 use Rattle.channel.proofs.codec.number_at.Statement.{statement}
 use Rattle.channel.proofs.codec.number_at.Tie as tie
 
-add-if1 : tie.Need-add-if1
-add-if1 c = search needs
-
-get-be32-requires : tie.Need-get-be32-requires
-get-be32-requires c κs = search needs
-
 returns : tie.Need-returns
 unfolding numberAt
 returns c = simp (le-leb _ _ (c .before .if1 .taken), c .get-be32 .ensures)
@@ -20,4 +14,4 @@ unfolding numberAt
 returns-2 c = simp (lt-leb _ _ (c .if1 .left))
 
 pub number-at-spec : {M : Type 1} → statement M
-number-at-spec = tie.close (tie.spec add-if1 get-be32-requires returns returns-2)
+number-at-spec = tie.close (tie.spec (search needs) (search needs) returns returns-2)

@@ -8,19 +8,10 @@ use borrow.Author.Needs.{needs}
 use Rattle.channel.proofs.codec.put_kind.Statement.{statement}
 use Rattle.channel.proofs.codec.put_kind.Tie as tie
 
-put-byte-requires : tie.Need-put-byte-requires
-put-byte-requires c κs = search needs
-
-put-be32-requires : tie.Need-put-be32-requires
-put-be32-requires c κs = search needs
-
-same-length : tie.Need-same-length
-same-length c = search needs
-
 returns : tie.Need-returns
 returns c =
     let a = c .before .before .before .before .before .before .before .before .before .args in
     cc (laid-first (a .buffer .now) (a .kind ∷ []) 1 refl, laid (a .buffer .now) (a .kind ∷ []) (be32 (a .channel)) 1 4 refl refl (omega arith))
 
 pub put-kind-spec : {M : Type 1} → statement M
-put-kind-spec = tie.close (tie.spec put-byte-requires put-be32-requires same-length returns)
+put-kind-spec = tie.close (tie.spec (search needs) (search needs) (search needs) returns)

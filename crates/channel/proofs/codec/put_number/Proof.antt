@@ -8,19 +8,10 @@ use borrow.Author.Needs.{needs}
 use Rattle.channel.proofs.codec.put_number.Statement.{statement}
 use Rattle.channel.proofs.codec.put_number.Tie as tie
 
-put-kind-requires : tie.Need-put-kind-requires
-put-kind-requires c κs = search needs
-
-put-be32-requires : tie.Need-put-be32-requires
-put-be32-requires c κs = search needs
-
-same-length : tie.Need-same-length
-same-length c = search needs
-
 returns : tie.Need-returns
 returns c =
     let a = c .before .before .before .before .before .before .before .before .before .args in
     cc (laid (a .buffer .now) (a .kind ∷ be32 (a .channel)) (be32 (a .n)) 5 4 refl refl (omega arith))
 
 pub put-number-spec : {M : Type 1} → statement M
-put-number-spec = tie.close (tie.spec put-kind-requires put-be32-requires same-length returns)
+put-number-spec = tie.close (tie.spec (search needs) (search needs) (search needs) returns)

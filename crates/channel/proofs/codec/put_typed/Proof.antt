@@ -8,19 +8,10 @@ use borrow.Author.Needs.{needs}
 use Rattle.channel.proofs.codec.put_typed.Statement.{statement}
 use Rattle.channel.proofs.codec.put_typed.Tie as tie
 
-put-number-requires : tie.Need-put-number-requires
-put-number-requires c κs = search needs
-
-put-be32-requires : tie.Need-put-be32-requires
-put-be32-requires c κs = search needs
-
-same-length : tie.Need-same-length
-same-length c = search needs
-
 returns : tie.Need-returns
 returns c =
     let a = c .before .before .before .before .before .before .before .before .before .args in
     cc (laid (a .buffer .now) (a .kind ∷ (be32 (a .channel) ++ be32 1)) (be32 (a .n)) 9 4 refl refl (omega arith))
 
 pub put-typed-spec : {M : Type 1} → statement M
-put-typed-spec = tie.close (tie.spec put-number-requires put-be32-requires same-length returns)
+put-typed-spec = tie.close (tie.spec (search needs) (search needs) (search needs) returns)

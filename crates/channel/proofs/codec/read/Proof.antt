@@ -9,15 +9,6 @@ returns : tie.Need-returns
 unfolding read
 returns c = simp (eq-eqb _ _ (c .if1 .taken))
 
-shared-slice-read-kinded : tie.Need-shared-slice-read-kinded
-shared-slice-read-kinded c = search needs
-
-kinded-requires : tie.Need-kinded-requires
-kinded-requires c κs = search needs
-
-checked-requires : tie.Need-checked-requires
-checked-requires c κs = search needs
-
 returns-2 : tie.Need-returns-2
 unfolding read
 returns-2 c = simp (ne-eqb _ _ (c .before .before .before .if1 .left), c .checked .ensures, c .before .kinded .ensures)
@@ -25,4 +16,4 @@ returns-2 c = simp (ne-eqb _ _ (c .before .before .before .if1 .left), c .checke
 pub read-spec : {M : Type 1} → statement M
 read-spec =
     tie.close
-    (tie.spec returns shared-slice-read-kinded kinded-requires checked-requires returns-2)
+    (tie.spec returns (search needs) (search needs) (search needs) returns-2)
