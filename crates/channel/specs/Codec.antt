@@ -1,7 +1,7 @@
 -- The records of an open channel, by RFC 4254, 5.2 and 5.3: kind, channel, and what the kind has behind them.
-use mathlib.Core.Bool.{Bool, true, cond, _&&_}
+use mathlib.Core.Bool.{Bool, true, cond}
 use mathlib.Core.List.{List, _∷_, _++_}
-use Prim.Native.Nat.{ℕ, _+_}
+use Prim.Native.Nat.{ℕ, _+_, _^_, _<_}
 use lib.Dec.{eqb, leb}
 use lib.ListN.{length, drop, getD}
 use Rattle.exec.specs.declared.Refusal.the-variants.{BadLength, UnknownKind, OtherChannel, BadType, BufferShort}
@@ -38,6 +38,17 @@ size (Data n) = n
 size (Extended n) = n
 size Eof = 0
 size Close = 0
+
+-- the number that it carries fits a u32, as it does in every record of the code
+abbrev pub number : Record → ℕ
+number (Adjust units) = units
+number (Data n) = n
+number (Extended n) = n
+number Eof = 0
+number Close = 0
+
+abbrev pub Fits : Record → Type 0
+Fits rec = number rec < 2 ^ 32
 
 -- the whole record
 unfoldable pub bytesOf : (channel : ℕ) → Record → (payload : List ℕ) → List ℕ

@@ -1,12 +1,12 @@
--- What bytes hold where they are read as a record, and so the tests of `read` as one record of facts, both ways; and what `write` leaves.
+-- What bytes hold where they are read as a record, both ways; that what is written holds it, and nothing else does; the answers of `write`.
 use mathlib.Core.Path.{_≡_, refl, sym, ap, subst, _∙_}
 use mathlib.Core.Bool.{Bool, true, false, cond}
-use mathlib.Core.List.{List, _++_, append-assoc}
-use Prim.Native.Nat.{ℕ, _+_, _≤_, _<_}
+use mathlib.Core.List.{List, [], _∷_, _++_, append-assoc}
+use Prim.Native.Nat.{ℕ, _+_, _^_, _≤_, _<_}
 use native.Mathlib.Omega.{arith}
 use lib.Dec.{eqb}
-use lib.ListN.{length, drop, getD}
-use lib.Seq.{take-all}
+use lib.ListN.{length, take, drop, getD, length-append}
+use lib.Seq.{drop-cons, take-all}
 use borrow.Author.Tests.{eq-eqb, ne-eqb, le-leb, lt-leb, eqb-true}
 use Rattle.exec.specs.declared.Refusal.{Refusal}
 use Rattle.exec.specs.declared.Refusal.the-variants.{BadLength, BufferShort}
@@ -17,8 +17,9 @@ use Rattle.channel.specs.declared.codec.Parsed.the-variants as Parsed
 use Rattle.channel.specs.declared.codec.Record.{Record}
 use Rattle.channel.specs.declared.codec.Record.the-variants.{Adjust, Data, Extended, Eof, Close}
 use Rattle.channel.specs.declared.codec.Written.the-variants as Written
-use Rattle.channel.specs.Bytes.{numberAt}
-use Rattle.channel.specs.Codec.{header, start, size, bytesOf, kinded, isTyped, fitting, checked, read, writtenAfter, write}
+use Rattle.channel.specs.Bytes.{be32, numberAt}
+use Rattle.channel.specs.BytesLaws.{number-written, number-fits, peel}
+use Rattle.channel.specs.Codec.{header, start, size, Fits, bytesOf, kinded, isTyped, fitting, checked, read, writtenAfter, write}
 
 pub header-length : (channel : ℕ) (rec : Record) → length (header channel rec) ≡ start rec
 unfolding header
@@ -111,8 +112,89 @@ read-is channel s rec =
     pick (Holds channel s rec) (eqb (length s) 0) _ _ rec (λ _. never _ rec)
     (λ _. holds-checked channel s (kinded (getD s 0 0) s) rec refl)
 
--- ---- writing, by its three answers
+-- ---- what is written holds the record
 
+written-length : (channel : ℕ) (rec : Record) (payload : List ℕ) → length payload ≡ size rec → length (bytesOf channel rec payload) ≡ start rec + size rec
+unfolding bytesOf
+written-length channel rec payload e = simp length-append (omega (arith, header-length channel rec))
+
+pub holds-written : (channel : ℕ) (rec : Record) (payload : List ℕ) → channel < 2 ^ 32 → Fits rec → length payload ≡ size rec
+    → Holds channel (bytesOf channel rec payload) rec
+unfolding bytesOf header
+holds-written channel (Adjust units) payload known fits e = record {
+  kind = (refl, number-written (93 ∷ be32 channel) payload units fits);
+  whole = written-length channel (Adjust units) payload e;
+  mine = number-written (93 ∷ []) (be32 units ++ payload) channel known;
+  typed = refl;
+}
+holds-written channel (Data n) payload known fits e = record {
+  kind = (refl, number-written (94 ∷ be32 channel) payload n fits);
+  whole = written-length channel (Data n) payload e;
+  mine = number-written (94 ∷ []) (be32 n ++ payload) channel known;
+  typed = refl;
+}
+holds-written channel (Extended n) payload known fits e = record {
+  kind = (refl, number-written (95 ∷ (be32 channel ++ be32 1)) payload n fits);
+  whole = written-length channel (Extended n) payload e;
+  mine = number-written (95 ∷ []) (be32 1 ++ (be32 n ++ payload)) channel known;
+  typed = eq-eqb _ 1 (number-written (95 ∷ be32 channel) (be32 n ++ payload) 1 (omega arith));
+}
+holds-written channel Eof payload known fits e = record {
+  kind = refl;
+  whole = written-length channel Eof payload e;
+  mine = number-written (96 ∷ []) payload channel known;
+  typed = refl;
+}
+holds-written channel Close payload known fits e = record {
+  kind = refl;
+  whole = written-length channel Close payload e;
+  mine = number-written (97 ∷ []) payload channel known;
+  typed = refl;
+}
+
+-- ---- bytes that hold a record are those that are written for it
+
+module _ (channel : ℕ) (s : List ℕ) (bytes : (i : ℕ) → getD s i 0 < 256) where
+  front : (k : ℕ) → getD s 0 0 ≡ k → numberAt s 1 ≡ channel → 5 ≤ length s → k ∷ (be32 channel ++ drop 5 s) ≡ s
+  front k e mine h =
+      ap (λ (t : List ℕ). k ∷ t) (sym (peel s bytes 1 channel h mine))
+      ∙ ap (λ (x : ℕ). x ∷ drop 1 s) (sym e)
+      ∙ sym (drop-cons s 0 0 (omega arith))
+
+  pub written-again : (rec : Record) → Holds channel s rec → bytesOf channel rec (drop (start rec) s) ≡ s
+  unfolding bytesOf header
+  written-again (Adjust units) h =
+      ap (λ (t : List ℕ). 93 ∷ (be32 channel ++ t)) (sym (peel s bytes 5 units (omega arith) (h .kind .1)))
+      ∙ front 93 (h .kind .0) (h .mine) (omega arith)
+  written-again (Data n) h =
+      ap (λ (t : List ℕ). 94 ∷ (be32 channel ++ t)) (sym (peel s bytes 5 n (omega arith) (h .kind .1)))
+      ∙ front 94 (h .kind .0) (h .mine) (omega arith)
+  written-again (Extended n) h =
+      ap (λ (t : List ℕ). 95 ∷ (be32 channel ++ (be32 1 ++ t))) (sym (peel s bytes 9 n (omega arith) (h .kind .1)))
+      ∙ ap (λ (t : List ℕ). 95 ∷ (be32 channel ++ t)) (sym (peel s bytes 5 1 (omega arith) (eqb-true _ 1 (h .typed))))
+      ∙ front 95 (h .kind .0) (h .mine) (omega arith)
+  written-again Eof h = front 96 (h .kind) (h .mine) (omega arith)
+  written-again Close h = front 97 (h .kind) (h .mine) (omega arith)
+
+  pub held-fits : (rec : Record) → Holds channel s rec → Fits rec
+  held-fits (Adjust units) h = omega (arith, number-fits s bytes 5)
+  held-fits (Data n) h = omega (arith, number-fits s bytes 5)
+  held-fits (Extended n) h = omega (arith, number-fits s bytes 9)
+  held-fits Eof h = omega arith
+  held-fits Close h = omega arith
+
+-- ---- writing
+
+-- the header laid before n bytes that were copied to where the payload begins
+pub header-laid : (channel : ℕ) (rec : Record) (b src : List ℕ) (from n : ℕ) → start rec ≤ length b
+    → header channel rec ++ drop (start rec) (copied b (start rec) src from n)
+    ≡ bytesOf channel rec (take n (drop from src)) ++ drop (start rec + n) b
+unfolding bytesOf
+header-laid channel rec b src from n h =
+    ap (λ (x : List ℕ). header channel rec ++ x) (copied-drop b (start rec) src from n h)
+    ∙ sym (append-assoc (header channel rec) (take n (drop from src)) (drop (start rec + n) b))
+
+-- the three answers
 module _ (channel : ℕ) (rec : Record) (payload b : List ℕ) where
   pub write-short : length b < start rec + size rec → write channel rec payload b ≡ writtenAfter (Written.Refused BufferShort) b
   unfolding write
@@ -123,13 +205,14 @@ module _ (channel : ℕ) (rec : Record) (payload b : List ℕ) where
   unfolding write
   write-other h n = simp (le-leb (start rec + size rec) (length b) h, ne-eqb (length payload) (size rec) n)
 
-  -- the payload is copied, and the header laid before it
   pub write-all : start rec + size rec ≤ length b → length payload ≡ size rec
       → write channel rec payload b
       ≡ writtenAfter (Written.Bytes (start rec + size rec)) (header channel rec ++ drop (start rec) (copied b (start rec) payload 0 (size rec)))
-  unfolding write bytesOf
+  unfolding write
   write-all h e =
-      let behind = drop (start rec + size rec) b in
-      let laid : drop (start rec) (copied b (start rec) payload 0 (size rec)) ≡ payload ++ behind =
-      copied-drop b (start rec) payload 0 (size rec) (omega arith) ∙ ap (λ (x : List ℕ). x ++ behind) (take-all (size rec) payload (omega arith)) in
-      simp (le-leb (start rec + size rec) (length b) h, eq-eqb (length payload) (size rec) e, laid, append-assoc)
+      simp (
+        le-leb (start rec + size rec) (length b) h,
+        eq-eqb (length payload) (size rec) e,
+        header-laid channel rec b payload 0 (size rec) (omega arith),
+        take-all (size rec) payload (omega arith),
+      )
