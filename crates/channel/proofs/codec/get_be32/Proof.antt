@@ -6,7 +6,13 @@ use Rattle.channel.proofs.codec.get_be32.Tie as tie
 
 returns : tie.Need-returns
 unfolding be32At
-returns c = cc
+returns c =
+    simp (
+      c .before .before .before .before .before .before .wide .ensures .0,
+      c .before .before .before .before .wide2 .ensures .0,
+      c .before .before .wide3 .ensures .0,
+      c .wide4 .ensures .0,
+    )
 
 pub get-be32-spec : {M : Type 1} → statement M
 get-be32-spec =
