@@ -1,0 +1,206 @@
+-- Laws of the record calls' code, over plain variables: there is too much to compute at the calls' own places.
+use mathlib.Core.Bool.{Bool, true, false, cond, _&&_}
+use mathlib.Core.Path.{_≡_, refl, sym, ap, _∙_}
+use mathlib.Core.List.{List, _++_, append-assoc}
+use Prim.Native.Nat.{ℕ, _+_, _-_, _^_, _≤_, _<_, min}
+use native.Mathlib.Omega.{arith}
+use lib.Dec.{leb, ltb}
+use lib.ListN.{length, take, drop, length-append, length-take, length-drop, take-append-drop}
+use lib.Seq.{drop-drop}
+use Rattle.exec.specs.declared.Limits.{Limits}
+use Rattle.exec.specs.declared.Refusal.the-variants.{NoLimits, StoreShort, StateOutOfRange}
+use Rattle.exec.specs.declared.Reply.{Reply}
+use Rattle.exec.specs.declared.Unit as Units
+use Rattle.exec.specs.declared.Unit.the-variants.{Bytes, Frames}
+use Rattle.exec.specs.Limits.{isValid, poolOf}
+use Rattle.ring.specs.Runs.{copied, copied-length}
+use Rattle.credit.specs.Need.{byteNeed, lengthNeed}
+use Rattle.credit.specs.Sender.{sendable}
+use Rattle.runner.specs.declared.answer.Hearing.{Hearing}
+use Rattle.runner.specs.declared.answer.LimitsAnswer.{LimitsAnswer}
+use Rattle.runner.specs.declared.answer.LimitsAnswer.the-variants as LimitsAnswer
+use Rattle.runner.specs.declared.answer.Message.{Message}
+use Rattle.runner.specs.declared.answer.Message.the-variants as Message
+use Rattle.runner.specs.declared.answer.Said.{Said}
+use Rattle.runner.specs.declared.answer.Said.the-variants as Said
+use Rattle.runner.specs.declared.answer.Saying.{Saying}
+use Rattle.runner.specs.declared.message.Choice.{Choice}
+use Rattle.runner.specs.declared.message.Choice.the-variants as Choice
+use Rattle.runner.specs.declared.runner.Runner.{Runner}
+use Rattle.runner.specs.Calls as Calls
+use Rattle.runner.specs.Message.{MessageAfter, messageAfter, choose, saidFor, sendableOf}
+use Rattle.runner.specs.MessageLaws.{chosen}
+use Rattle.runner.specs.Range.{inRange, bytesDo, isGood, stop}
+use Rattle.runner.specs.State.{outOf, creditAt}
+use Rattle.runner.specs.Streams.{InputAfter, inputAfter}
+use Rattle.channel.specs.declared.calls.Reading.{Reading}
+use Rattle.channel.specs.declared.calls.Sending.{Sending}
+use Rattle.channel.specs.declared.calls.Writing.{Writing}
+use Rattle.channel.specs.declared.codec.Record.{Record}
+use Rattle.channel.specs.declared.codec.Record.the-variants.{Adjust, Data, Extended, Eof, Close}
+use Rattle.channel.specs.Codec.{header, start, size, bytesOf}
+use Rattle.channel.specs.CodecLaws.{header-laid}
+use Rattle.exec.specs.declared.Stream.{Stream}
+use Rattle.exec.specs.declared.Stream.the-variants.{Stdout, Stderr}
+use Rattle.exec.specs.declared.Reply.the-variants as Reply
+use Rattle.channel.specs.Calls.{outputRecord, isChannel, admitted, readAfter, heard, made, admittedRead, readRecord, writeAfter, hasEnded, sentAs, laid, partBack, told, sent, admittedWrite, writeRecord}
+use Rattle.channel.specs.CallLaws.{admittedLimits, admittedBy, rest, Narrow, Roomy, RoomyFor, Sayable}
+
+-- ---- what is met before a record
+
+-- the runner's limits tell whether it is in range and has limits
+admitted-as : (range valid enough : Bool) (l : Limits)
+    → admittedBy (cond ((range && valid) && true) (LimitsAnswer.Is l) (LimitsAnswer.Refused (cond range (cond valid StoreShort NoLimits) StateOutOfRange))) enough
+    ≡ cond ((range && valid) && enough) (admittedLimits l true) (Reply.Refused (cond range (cond valid StoreShort NoLimits) StateOutOfRange))
+unfolding admittedBy admittedLimits
+admitted-as true true true l = refl
+admitted-as true true false l = refl
+admitted-as true false true l = refl
+admitted-as true false false l = refl
+admitted-as false true true l = refl
+admitted-as false true false l = refl
+admitted-as false false true l = refl
+admitted-as false false false l = refl
+
+admitted-by : (r : Runner) (enough : Bool) → admittedBy (Calls.limits r) enough ≡ admitted r enough
+unfolding Calls.limits isGood stop admitted admittedLimits
+admitted-by r enough = admitted-as (inRange r) (isValid (r .limits)) enough (r .limits)
+
+pub read-goes : (r : Runner) (at channel : ℕ) (s store lengths : List ℕ) (told : LimitsAnswer) (need1 need2 : ℕ) (reply : Reply) (x : Reading) (b l : List ℕ)
+    → need1 ≡ byteNeed (r .limits) → need2 ≡ lengthNeed (r .limits) → told ≡ Calls.limits r
+    → reply ≡ admittedBy told (leb need1 (length store) && leb need2 (length lengths))
+    → readAfter x b l ≡ admittedRead reply r at channel s store lengths → readAfter x b l ≡ readRecord r at channel s store lengths
+unfolding readRecord
+read-goes r at channel s store lengths told need1 need2 reply x b l e1 e2 e3 e4 e5 =
+    let enough = leb (byteNeed (r .limits)) (length store) && leb (lengthNeed (r .limits)) (length lengths) in
+    let e : reply ≡ admitted r enough = rw (e1, e2, e3) at e4 ∙ admitted-by r enough in
+    e5 ∙ ap (λ (y : Reply). admittedRead y r at channel s store lengths) e
+
+pub write-goes : (r : Runner) (channel : ℕ) (store buffer : List ℕ) (told : LimitsAnswer) (need : ℕ) (reply : Reply) (x : Writing) (b : List ℕ)
+    → need ≡ byteNeed (r .limits) → told ≡ Calls.limits r → reply ≡ admittedBy told (leb need (length store))
+    → writeAfter x b ≡ admittedWrite reply r channel store buffer → writeAfter x b ≡ writeRecord r channel store buffer
+unfolding writeRecord
+write-goes r channel store buffer told need reply x b e1 e2 e3 e4 =
+    let enough = leb (byteNeed (r .limits)) (length store) in
+    let e : reply ≡ admitted r enough = rw (e1, e2) at e3 ∙ admitted-by r enough in
+    e4 ∙ ap (λ (y : Reply). admittedWrite y r channel store buffer) e
+
+-- ---- a record read
+
+pub data-made : (rec : Record) (n : ℕ) (r : Runner) (at : ℕ) (s store lengths : List ℕ) (x : Reading) (h : Hearing) (b l : List ℕ)
+    → rec ≡ Data n → x ≡ heard h → inputAfter h b l ≡ Calls.input r (r .key) (take (length s - 9) (drop 9 s)) store lengths
+    → readAfter x b l ≡ made rec r at s store lengths
+unfolding made
+data-made rec n r at s store lengths x h b l e ex eh =
+    let i : inputAfter h b l ≡ Calls.input r (r .key) (drop 9 s) store lengths = rw (rest s) at eh in
+    rw (e, ex) (ap (λ (y : InputAfter). readAfter (heard (y .hearing)) (y .bytes) (y .lengths)) i)
+
+-- ---- a record written
+
+-- bytes that are not moved
+pub unmoved : (d : List ℕ) (at n : ℕ) → d ≡ copied d at d at n
+unfolding copied
+unmoved d at n =
+    sym (append-assoc (take at d) (take n (drop at d)) (drop (at + n) d)
+    ∙ ap (λ (x : List ℕ). take at d ++ (take n (drop at d) ++ x)) (sym (drop-drop n at d))
+    ∙ ap (λ (x : List ℕ). take at d ++ x) (take-append-drop n (drop at d))
+    ∙ take-append-drop at d)
+
+pub start-most : (rec : Record) → start rec ≤ 13
+start-most (Adjust units) = omega arith
+start-most (Data n) = omega arith
+start-most (Extended n) = omega arith
+start-most Eof = omega arith
+start-most Close = omega arith
+
+module _ (rec : Record) (d b : List ℕ) (room : 13 + size rec ≤ length d) (e : b ≡ copied d (start rec) d 13 (size rec)) where
+  -- and the header is laid before it
+  pub laid-by : (channel : ℕ) (e₁ : List ℕ) → e₁ ≡ header channel rec ++ drop (start rec) b → e₁ ≡ laid channel rec d
+  unfolding laid
+  laid-by channel e₁ h =
+      h
+      ∙ ap (λ (x : List ℕ). header channel rec ++ drop (start rec) x) e
+      ∙ header-laid channel rec d d 13 (size rec) (omega (arith, start-most rec))
+
+  pub room-kept : start rec ≤ length b
+  room-kept = rw e (omega (arith, start-most rec, copied-length d (start rec) d 13 (size rec) (omega (arith, start-most rec)) room))
+
+-- a message's record fits where its payload does
+pub roomy-sent : (ended : Bool) (m : Message) (room : ℕ) → RoomyFor m room → Roomy (sentAs ended m) room
+unfolding RoomyFor Roomy sentAs
+roomy-sent ended (Message.Credit units) room h = omega arith
+roomy-sent ended Message.Started room h = tt
+roomy-sent ended (Message.Output x n) room h = output x
+  where
+    output : (y : Stream) → 13 + size (outputRecord y n) ≤ room
+    output Stdout = h
+    output Stderr = h
+roomy-sent true (Message.End x) room h = omega arith
+roomy-sent false (Message.End x) room h = tt
+roomy-sent ended Message.InputClosed room h = tt
+roomy-sent ended (Message.Terminal outcome) room h = omega arith
+
+-- what a stream can send is no more than is asked of it
+least : (u : Units.Unit) (available m : ℕ) → sendable u available m ≤ m
+least Bytes available m = omega arith
+least Frames available m = at (ltb 0 available)
+  where
+    at : (b : Bool) → cond b m 0 ≤ m
+    at true = omega arith
+    at false = omega arith
+
+-- what next_message says in the buffer's part fits the record
+module _ (r : Runner) (store buffer : List ℕ) (narrow : r .limits .chunk < 2 ^ 32) (room : 13 + r .limits .chunk ≤ length buffer) where
+  said-within : (k : ℕ) (c : Choice) → k ≤ r .limits .chunk → c ≡ choose r k → Sayable (saidFor c r) (length buffer)
+  unfolding Sayable Narrow RoomyFor saidFor sendableOf
+  said-within k Choice.None h e = tt
+  said-within k Choice.Credit h e = (tt, omega arith)
+  said-within k Choice.Started h e = (tt, tt)
+  said-within k Choice.InputClosed h e = (tt, tt)
+  said-within k (Choice.End x) h e = (tt, omega arith)
+  said-within k (Choice.Output x n) h e =
+      let m = min (min (outOf x r .queued) (r .limits .chunk)) k in
+      let l = least (r .limits .output .unit) (creditAt (poolOf (r .limits) x) (r .credits) .available) m in
+      let b = chosen r k x n e .bytes in
+      (omega (arith, b, l), omega (arith, b, l))
+  said-within k Choice.Terminal h e = (tt, omega arith)
+
+  pub said-fits : Sayable (Calls.nextMessage r store (take (r .limits .chunk) (drop 13 buffer)) .saying .said) (length buffer)
+  unfolding Calls.nextMessage Sayable
+  said-fits = at (isGood r (bytesDo (r .limits) store))
+    where
+      k : ℕ
+      k = length (take (r .limits .chunk) (drop 13 buffer))
+
+      at : (b : Bool) → Sayable (cond b (saidFor (choose r k) r) (Said.Refused (stop r))) (length buffer)
+      at true = said-within k (choose r k) (simp (length-take, length-drop) (omega arith)) refl
+      at false = tt
+
+-- a part that comes back as long as it was lent leaves the buffer's length
+part-kept : (b part : List ℕ) (k : ℕ) → length part ≡ length (take k (drop 13 b)) → length (take 13 b ++ (part ++ drop k (drop 13 b))) ≡ length b
+part-kept b part k h =
+    let e : length (part ++ drop k (drop 13 b)) ≡ length (drop 13 b) =
+    simp (length-append, h) (sym (length-append (take k (drop 13 b)) (drop k (drop 13 b))) ∙ ap length (take-append-drop k (drop 13 b))) in
+    length-append (take 13 b) (part ++ drop k (drop 13 b))
+    ∙ ap (λ (n : ℕ). length (take 13 b) + n) e
+    ∙ sym (length-append (take 13 b) (drop 13 b))
+    ∙ ap length (take-append-drop 13 b)
+
+pub told-fits : (r : Runner) (store b : List ℕ) (k : ℕ) (x : Saying) (part : List ℕ) → r .limits .chunk < 2 ^ 32 → 13 + r .limits .chunk ≤ length b
+    → k ≡ r .limits .chunk → messageAfter x part ≡ Calls.nextMessage r store (take k (drop 13 b)) → length part ≡ length (take k (drop 13 b))
+    → Sayable (x .said) (length (take 13 b ++ (part ++ drop k (drop 13 b))))
+told-fits r store b k x part narrow room e m kept =
+    let m₁ : messageAfter x part ≡ Calls.nextMessage r store (take (r .limits .chunk) (drop 13 b)) = rw e at m in
+    rw (part-kept b part k kept, ap (λ (y : MessageAfter). y .saying .said) m₁) (said-fits r store b narrow room)
+
+-- the buffer with its part as next_message left it, and what is told of the message
+pub sent-told : (r : Runner) (channel : ℕ) (store b : List ℕ) (k : ℕ) (x : Saying) (part : List ℕ) (ended : Bool) (w : Writing) (after : List ℕ)
+    → k ≡ r .limits .chunk → ended ≡ hasEnded r → messageAfter x part ≡ Calls.nextMessage r store (take k (drop 13 b))
+    → writeAfter w after ≡ told x ended channel (take 13 b ++ (part ++ drop k (drop 13 b))) → writeAfter w after ≡ sent r channel store b
+unfolding sent
+sent-told r channel store b k x part ended w after e₁ e₂ m t =
+    let m₁ : messageAfter x part ≡ Calls.nextMessage r store (take (r .limits .chunk) (drop 13 b)) = rw e₁ at m in
+    let t₁ : writeAfter w after ≡ told x (hasEnded r) channel (take 13 b ++ (part ++ drop (r .limits .chunk) (drop 13 b))) = rw (e₁, e₂) at t in
+    t₁
+    ∙ ap (λ (y : List ℕ). told x (hasEnded r) channel (take 13 b ++ (part ++ y))) (drop-drop (r .limits .chunk) 13 b)
+    ∙ ap (λ (y : MessageAfter). told (y .saying) (hasEnded r) channel (partBack (r .limits .chunk) b (y .buffer))) m₁

@@ -1,0 +1,106 @@
+-- Laws of the record calls: what their inner functions ask and give (a record that was read is whole, a message's bytes fit its
+-- record), and that a record which was laid reads back.
+use mathlib.Core.Bool.{Bool, cond}
+use mathlib.Core.List.{List, _++_}
+use mathlib.Core.Path.{_≡_, refl, ap, _∙_}
+use Prim.Native.Nat.{ℕ, _+_, _-_, _^_, _≤_, _<_}
+use native.Mathlib.Omega.{arith}
+use lib.ListN.{length, take, drop, length-append, length-drop}
+use lib.Seq.{take-all, take-at, length-take-le}
+use Rattle.exec.specs.declared.Limits.{Limits}
+use Rattle.exec.specs.declared.Refusal.the-variants.{StoreShort, NotAChannel}
+use Rattle.exec.specs.declared.Reply.{Reply}
+use Rattle.exec.specs.declared.Reply.the-variants as Reply
+use Rattle.exec.specs.declared.Stream.{Stream}
+use Rattle.runner.specs.declared.answer.LimitsAnswer.{LimitsAnswer}
+use Rattle.runner.specs.declared.answer.LimitsAnswer.the-variants as LimitsAnswer
+use Rattle.runner.specs.declared.answer.Message.{Message}
+use Rattle.runner.specs.declared.answer.Message.the-variants as Message
+use Rattle.runner.specs.declared.answer.Said.{Said}
+use Rattle.runner.specs.declared.answer.Said.the-variants as Said
+use Rattle.channel.specs.declared.calls.Sending.{Sending}
+use Rattle.channel.specs.declared.calls.Sending.the-variants as Sending
+use Rattle.channel.specs.declared.codec.Parsed.{Parsed}
+use Rattle.channel.specs.declared.codec.Parsed.the-variants as Parsed
+use Rattle.channel.specs.Calls.{isChannel, laid}
+use Rattle.channel.specs.declared.codec.Record.{Record}
+use Rattle.channel.specs.declared.codec.Record.the-variants.{Data}
+use Rattle.channel.specs.Codec.{header, start, size, Fits, bytesOf, read}
+use Rattle.channel.specs.CodecLaws.{header-length, read-is}
+use Rattle.channel.specs.RoundTrip.{back}
+
+-- admission by what the runner tells of its limits
+unfoldable pub admittedLimits : Limits → (enough : Bool) → Reply
+admittedLimits l enough = cond enough (cond (isChannel l) Reply.Ok (Reply.Refused NotAChannel)) (Reply.Refused StoreShort)
+
+unfoldable pub admittedBy : LimitsAnswer → (enough : Bool) → Reply
+admittedBy (LimitsAnswer.Is l) enough = admittedLimits l enough
+admittedBy (LimitsAnswer.Refused x) enough = Reply.Refused x
+
+-- the header of a record that was read is there
+unfoldable pub Whole : Parsed → List ℕ → Type 0
+Whole (Parsed.Read rec) s = start rec ≤ length s
+Whole (Parsed.Refused x) s = Unit
+
+pub read-whole : (channel : ℕ) (s : List ℕ) → Whole (read channel s) s
+unfolding Whole
+read-whole channel s = at (read channel s) refl
+  where
+    at : (p : Parsed) → read channel s ≡ p → Whole p s
+    at (Parsed.Read rec) e = omega (arith, read-is channel s rec e .whole)
+    at (Parsed.Refused x) e = tt
+
+-- so the payload of a 94 stands behind its header
+pub behind : (rec : Record) (n : ℕ) (s : List ℕ) → rec ≡ Data n → start rec ≤ length s → 9 ≤ length s
+behind rec n s e h = rw e at h
+
+pub rest : (s : List ℕ) → take (length s - 9) (drop 9 s) ≡ drop 9 s
+rest s = take-all (length s - 9) (drop 9 s) (simp length-drop (omega arith))
+
+-- the length of a payload is a u32
+unfoldable pub Narrow : Message → Type 0
+Narrow (Message.Credit units) = Unit
+Narrow Message.Started = Unit
+Narrow (Message.Output x n) = n < 2 ^ 32
+Narrow (Message.End x) = Unit
+Narrow Message.InputClosed = Unit
+Narrow (Message.Terminal outcome) = Unit
+
+pub narrow : (m : Message) (x : Stream) (n : ℕ) → m ≡ Message.Output x n → Narrow m → n < 2 ^ 32
+unfolding Narrow
+narrow m x n e h = rw e at h
+
+-- from byte 13 on the buffer has room for the payload
+unfoldable pub Roomy : Sending → (room : ℕ) → Type 0
+Roomy Sending.Nothing room = Unit
+Roomy (Sending.Record rec) room = 13 + size rec ≤ room
+
+unfoldable pub RoomyFor : Message → (room : ℕ) → Type 0
+RoomyFor (Message.Credit units) room = 13 ≤ room
+RoomyFor Message.Started room = Unit
+RoomyFor (Message.Output x n) room = 13 + n ≤ room
+RoomyFor (Message.End x) room = 13 ≤ room
+RoomyFor Message.InputClosed room = Unit
+RoomyFor (Message.Terminal outcome) room = 13 ≤ room
+
+unfoldable pub Sayable : Said → (room : ℕ) → Type 0
+Sayable Said.None room = Unit
+Sayable (Said.Message m) room = Narrow m × RoomyFor m room
+Sayable (Said.Refused x) room = Unit
+
+-- ---- a record that was laid
+
+module _ (channel : ℕ) (rec : Record) (b : List ℕ) (room : 13 + size rec ≤ length b) where
+  payload-length : length (take (size rec) (drop 13 b)) ≡ size rec
+  payload-length = length-take-le (size rec) (drop 13 b) (simp length-drop (omega arith))
+
+  -- its bytes stand at the buffer's start
+  pub laid-front : take (start rec + size rec) (laid channel rec b) ≡ bytesOf channel rec (take (size rec) (drop 13 b))
+  unfolding laid bytesOf
+  laid-front =
+      take-at (header channel rec ++ take (size rec) (drop 13 b)) (drop (start rec + size rec) b) (start rec + size rec)
+      (simp (length-append, header-length channel rec, payload-length))
+
+  -- WHAT A RUNNER WRITES, THE PEER'S READER READS
+  pub laid-reads : channel < 2 ^ 32 → Fits rec → read channel (take (start rec + size rec) (laid channel rec b)) ≡ Parsed.Read rec
+  laid-reads known fits = ap (read channel) laid-front ∙ back channel rec (take (size rec) (drop 13 b)) known fits payload-length
