@@ -79,7 +79,7 @@ pub record Fine (s : State) : Type 0 where
   pub sound : Sound s
   pub limits : isValid (s .runner .limits) ≡ true
 
-goes : (s : State) (c : Call) → Fine s → isGood (s .runner) (enough s c) ≡ true
+pub goes : (s : State) (c : Call) → Fine s → isGood (s .runner) (enough s c) ≡ true
 unfolding isGood
 goes s c h =
     let r = h .sound .ranged in

@@ -86,7 +86,7 @@ next-is s Call.highWater g = refl
 -- ---- what is answered
 
 -- the bytes of an output message that is chosen are as many as it says
-payload-length : (s : State) (buffer : List ℕ) (x : Stream) (n : ℕ) → isGood (s .runner) (bytesDo (s .runner .limits) (s .bytes)) ≡ true
+pub payload-length : (s : State) (buffer : List ℕ) (x : Stream) (n : ℕ) → isGood (s .runner) (bytesDo (s .runner .limits) (s .bytes)) ≡ true
     → Choice.Output x n ≡ choose (s .runner) (length buffer) → length (payload (s .runner) x n (s .bytes)) ≡ n
 unfolding payload
 payload-length s buffer x n g e =

@@ -18,3 +18,4 @@ pub mod Units
 pub mod Session
 pub mod Tight
 pub mod InputFifo
+pub mod Records

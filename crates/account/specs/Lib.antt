@@ -6,3 +6,4 @@ pub mod Claim
 pub mod Units
 pub mod LateClaim
 pub mod InputClaim
+pub mod Records
