@@ -2,13 +2,13 @@
 use Prim.Native.Nat.{ℕ}
 use mathlib.Core.Path.{_≡_, refl, sym, _∙_, ap}
 use native.Mathlib.Omega.{arith}
-use mathlib.Core.Bool.{Bool, true, false, cond, not, _||_}
+use mathlib.Core.Bool.{Bool, true, false, cond, not, _&&_, _||_}
 use Rattle.exec.specs.Time.{due}
 use Rattle.lifecycle.specs.Clocks.{clocksDue, timeout-waits, grace-waits, give-up-waits, abandon-waits}
 use Rattle.lifecycle.specs.Life.{settlingLate, expired-in-time}
 use Rattle.lifecycle.specs.Setters.{setSettling}
 use Rattle.runner.specs.declared.runner.Runner.{Runner}
-use Rattle.runner.specs.Life.{fire, ticked, isQuiet, passTimeout, passGrace, passSettlement, passGiveUp, passAbandonment}
+use Rattle.runner.specs.Life.{fire, ticked, anyDue, passTimeout, passGrace, passSettlement, passGiveUp, passAbandonment}
 use Rattle.runner.specs.State.{withLife}
 use Rattle.runner.proofs.Branch.{no}
 
@@ -43,22 +43,22 @@ module _ (r : Runner) (now : ℕ) where
       ∙ ap (λ x. passAbandonment x now) (give-up (give-up-waits (r .clocks) now h))
       ∙ abandonment (abandon-waits (r .clocks) now h)
 
--- the tests of isQuiet taken apart
-idle-of : (finished a b : Bool) → (finished || not (a || b)) ≡ true → finished ≡ false → (a ≡ false) × (b ≡ false)
+-- the tests of anyDue taken apart
+idle-of : (finished a b : Bool) → (not finished && (a || b)) ≡ false → finished ≡ false → (a ≡ false) × (b ≡ false)
 idle-of true a b h f = (let z : _≡_ {A = ℕ} 0 1 = cc in absurd (omega arith), let z : _≡_ {A = ℕ} 0 1 = cc in absurd (omega arith))
-idle-of false true b h f = (sym h, let z : _≡_ {A = ℕ} 0 1 = cc in absurd (omega arith))
-idle-of false false true h f = (refl, sym h)
+idle-of false true b h f = (h, let z : _≡_ {A = ℕ} 0 1 = cc in absurd (omega arith))
+idle-of false false true h f = (refl, h)
 idle-of false false false h f = (refl, refl)
 
-busy-of : (finished rest : Bool) → (finished || rest) ≡ false → finished ≡ false
-busy-of true rest h = h
+busy-of : (finished rest : Bool) → (not finished && rest) ≡ true → finished ≡ false
+busy-of true rest h = sym h
 busy-of false rest h = refl
 
 tick-by : (finished : Bool) (r r′ : Runner) → (finished ≡ false → r′ ≡ r) → r ≡ cond finished r r′
 tick-by true r r′ h = refl
 tick-by false r r′ h = sym (h refl)
 
-pub quiet : (r : Runner) (now : ℕ) → isQuiet r now ≡ true → r ≡ ticked r now
+pub quiet : (r : Runner) (now : ℕ) → anyDue r now ≡ false → r ≡ ticked r now
 unfolding ticked
 quiet r now h =
     tick-by (r .flags .finished) r (fire r now)
@@ -66,6 +66,6 @@ quiet r now h =
     let p = idle-of (r .flags .finished) (clocksDue (r .clocks) now) (settlingLate (r .life .settling) now) h f in
     idle r now (p .0) (p .1))
 
-pub busy : (r : Runner) (now : ℕ) → isQuiet r now ≡ false → fire r now ≡ ticked r now
+pub busy : (r : Runner) (now : ℕ) → anyDue r now ≡ true → fire r now ≡ ticked r now
 unfolding ticked
-busy r now h = sym (no _ _ (busy-of (r .flags .finished) (not (clocksDue (r .clocks) now || settlingLate (r .life .settling) now)) h))
+busy r now h = sym (no _ _ (busy-of (r .flags .finished) (clocksDue (r .clocks) now || settlingLate (r .life .settling) now) h))

@@ -116,9 +116,9 @@ fire r now = passAbandonment (passGiveUp (passSettlement (passGrace (passTimeout
 unfoldable pub ticked : Runner → ℕ → Runner
 ticked r now = cond (r .flags .finished) r (fire r now)
 
--- a tick has nothing to do: the execution ended, or no timer is due
-abbrev pub isQuiet : Runner → ℕ → Bool
-isQuiet r now = r .flags .finished || not (clocksDue (r .clocks) now || settlingLate (r .life .settling) now)
+-- a tick has something to do: the execution has not ended, and a timer is due
+abbrev pub anyDue : Runner → ℕ → Bool
+anyDue r now = not (r .flags .finished) && (clocksDue (r .clocks) now || settlingLate (r .life .settling) now)
 
 -- when the next timer fires; give-up and abandonment count only while there is something for them to do
 unfoldable pub deadlineOf : Runner → Deadline

@@ -21,7 +21,7 @@ ghost use Rattle.runner.specs.Life.{
   dropStreams,
   passAbandonment,
   fire,
-  isQuiet,
+  anyDue,
   ticked,
   deadlineOf,
   cancelled,
@@ -267,8 +267,8 @@ impl Runner {
         self
     }
 
-    // The timers in their order.
-    fn fire(self, now: u64) -> Runner
+    // The timers in their order. It has two callers, so that its passes are not made a part of every call that ticks.
+    pub(crate) fn fire(self, now: u64) -> Runner
         ensures { λ r. ⌜ r ≡ fire self now ⌝ }
     {
         let a = self.pass_timeout(now);
@@ -278,23 +278,24 @@ impl Runner {
         d.pass_abandonment(now)
     }
 
-    // Whether a tick has nothing to do. It copies nothing, which is why it is asked first.
-    fn is_quiet(self, now: u64) -> bool
-        ensures { λ r. ⌜ r ≡ isQuiet self now ⌝ }
+    // Whether a tick has something to do. It copies nothing, so it is asked before the runner is handed on.
+    pub(crate) fn any_due(self, now: u64) -> bool
+        ensures { λ r. ⌜ r ≡ anyDue self now ⌝ }
     {
         let clocks = self.clocks;
         let life = self.life;
         let settling = life.settling;
-        self.flags.finished | !(clocks.due(now) | settling.late(now))
+        !self.flags.finished & (clocks.due(now) | settling.late(now))
     }
 
-    pub(crate) fn ticked(self, now: u64) -> Runner
+    // The tick that comes first in a call. It is small, as `fire` stands outside of it.
+    fn ticked(self, now: u64) -> Runner
         ensures { λ r. ⌜ r ≡ ticked self now ⌝ }
     {
-        if self.is_quiet(now) {
-            return self;
+        if self.any_due(now) {
+            return self.fire(now);
         }
-        self.fire(now)
+        self
     }
 
     pub(crate) fn deadline_of(self) -> Deadline

@@ -465,9 +465,15 @@ impl Runner {
         ensures { λ r. ⌜ r ≡ tick self now ⌝ }
     {
         if self.is_good(true) {
-            let runner = self.ticked(now);
+            if self.any_due(now) {
+                let runner = self.fire(now);
+                return Noting {
+                    runner,
+                    reply: Reply::Ok,
+                };
+            }
             return Noting {
-                runner,
+                runner: self,
                 reply: Reply::Ok,
             };
         }
