@@ -3,5 +3,6 @@
 pub mod Branch
 pub mod Quiet
 pub mod Guards
+pub mod Cancels
 pub mod Flows
 pub mod Says

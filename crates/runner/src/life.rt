@@ -25,8 +25,6 @@ ghost use Rattle.runner.specs.Life.{
   ticked,
   deadlineOf,
   cancelled,
-  cancelAnswer,
-  cancelNext,
   noteStarted,
   noteLaunch,
   launchedNext,
@@ -46,7 +44,6 @@ ghost use Rattle.runner.specs.Life.{
 };
 use crate::answer::Hearing;
 use crate::runner::Runner;
-use exec::Admission;
 use exec::Cause;
 use exec::Deadline;
 use exec::LaunchResult;
@@ -167,7 +164,7 @@ impl Runner {
     }
 
     // Ends the workload if it still runs, and begins the grace of pending output, unless a termination began already.
-    fn terminate(self, now: u64, cause: Cause) -> Runner
+    pub(crate) fn terminate(self, now: u64, cause: Cause) -> Runner
         ensures { λ r. ⌜ r ≡ terminate self now cause ⌝ }
     {
         if self.clocks.terminated {
@@ -314,27 +311,8 @@ impl Runner {
         clocks.first(settling.by(), !clean, waits | (settling.is_fenced() & held))
     }
 
-    // The peer's cancellation.
-    pub(crate) fn cancel_as(self, admission: Admission, now: u64, cause: Cause) -> Hearing
-        ensures { λ r. ⌜ r ≡ record { runner = cancelNext admission self now cause; received = cancelAnswer admission self now } ⌝ }
-    {
-        match admission {
-            Admission::Refused(refusal) => Hearing {
-                runner: self,
-                received: Received::Refused(refusal),
-            },
-            Admission::Stale => Hearing {
-                runner: self,
-                received: Received::Receipt(Receipt::Stale),
-            },
-            Admission::Own => {
-                let r = self.ticked(now);
-                r.cancel_now(now, cause)
-            }
-        }
-    }
-
-    fn cancel_now(self, now: u64, cause: Cause) -> Hearing
+    // The peer's cancellation, of a runner that has ticked.
+    pub(crate) fn cancel_now(self, now: u64, cause: Cause) -> Hearing
         ensures { λ r. ⌜ r ≡ cancelled self now cause ⌝ }
     {
         if self.flags.finished | self.clocks.terminated {

@@ -57,6 +57,7 @@ use crate::answer::When;
 use crate::range::bytes_do;
 use crate::range::lengths_do;
 use credit::sender::Credit;
+use exec::Admission;
 use exec::Cause;
 use exec::Deadline;
 use exec::Key;
@@ -65,6 +66,8 @@ use exec::Limits;
 use exec::MaybeCause;
 use exec::MaybeStatus;
 use exec::Pool;
+use exec::Receipt;
+use exec::Received;
 use exec::Refusal;
 use exec::Reply;
 use exec::Settlement;
@@ -245,7 +248,38 @@ impl Runner {
     {
         if self.is_good(true) {
             let own = self.key;
-            return self.cancel_as(own.admits(key), now, cause);
+            let admission = own.admits(key);
+            match admission {
+                Admission::Refused(refusal) => {
+                    return Hearing {
+                        runner: self,
+                        received: Received::Refused(refusal),
+                    };
+                }
+                Admission::Stale => {
+                    return Hearing {
+                        runner: self,
+                        received: Received::Receipt(Receipt::Stale),
+                    };
+                }
+                Admission::Own => {
+                    if self.any_due(now) {
+                        let r = self.fire(now);
+                        return r.cancel_now(now, cause);
+                    }
+                    if self.flags.finished | self.clocks.terminated {
+                        return Hearing {
+                            runner: self,
+                            received: Received::Receipt(Receipt::Late),
+                        };
+                    }
+                    let runner = self.terminate(now, cause);
+                    return Hearing {
+                        runner,
+                        received: Received::Receipt(Receipt::Applied),
+                    };
+                }
+            }
         }
         self.unheard()
     }
