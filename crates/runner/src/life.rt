@@ -1,7 +1,5 @@
 // The runner in time: terminations, the timers and what they do, launch, exit and settlement.
 ghost use mathlib.Core.Path.{_≡_};
-ghost use Rattle.lifecycle.specs.Setters.{setLaunch};
-ghost use Rattle.runner.specs.State.{withLife};
 ghost use Rattle.runner.specs.Life.{
   awaitsLaunch,
   isCleanedUp,
@@ -338,34 +336,29 @@ impl Runner {
         self
     }
 
-    fn note_launch(self, result: LaunchResult) -> Runner
+    fn note_launch(mut self, result: LaunchResult) -> Runner
         ensures { λ r. ⌜ r ≡ noteLaunch self result ⌝ }
     {
         match result {
             LaunchResult::Started => self.note_started(),
             LaunchResult::Failed(failure) => {
-                let r = self.set_launch(Launch::Failed(failure));
-                r.close_input()
+                let lived = self.life;
+                let life = lived.set_launch(Launch::Failed(failure));
+                self.life = life;
+                self.close_input()
             }
         }
     }
 
-    fn set_launch(mut self, launch: Launch) -> Runner
-        ensures { λ r. ⌜ r ≡ withLife (setLaunch launch (self .life)) self ⌝ }
-    {
-        let lived = self.life;
-        let life = lived.set_launch(launch);
-        self.life = life;
-        self
-    }
-
-    fn note_started(self) -> Runner
+    fn note_started(mut self) -> Runner
         ensures { λ r. ⌜ r ≡ noteStarted self ⌝ }
     {
-        let mut r = self.set_launch(Launch::Started);
-        let told = !r.flags.detached;
-        r.flags.started_message = told;
-        r
+        let lived = self.life;
+        let life = lived.set_launch(Launch::Started);
+        self.life = life;
+        let told = !self.flags.detached;
+        self.flags.started_message = told;
+        self
     }
 
     // The workload's end.

@@ -16,7 +16,7 @@ returns-2 : tie.Need-returns-2
 unfolding noteLaunch
 returns-2 c =
     simp (
-      c .before .before .before .result .given .1,
+      c .before .before .before .before .result .given .1,
       c .close-input .ensures,
       c .before .set-launch .ensures,
     )
