@@ -6,8 +6,11 @@ ghost use lib.ListN.{length};
 ghost use Rattle.credit.specs.Need.{byteNeed, lengthNeed};
 ghost use Rattle.runner.specs.Calls.{noting, hearing};
 ghost use Rattle.runner.specs.Range.{inRange, bytesDo, lengthsDo, isGood, stop};
+use crate::answer::Count;
 use crate::answer::Hearing;
 use crate::answer::Noting;
+use crate::answer::Truth;
+use crate::answer::When;
 use crate::runner::Runner;
 use exec::Limits;
 use exec::Received;
@@ -88,5 +91,26 @@ impl Runner {
             runner: self,
             received: Received::Refused(refusal),
         }
+    }
+
+    // Refused questions, whose answers have no runner. Each hands the runner to `stop` itself, so that a question that is not
+    // refused copies nothing.
+
+    pub(crate) fn no_count(self) -> Count
+        ensures { λ r. ⌜ r ≡ Count.Refused (stop self) ⌝ }
+    {
+        Count::Refused(self.stop())
+    }
+
+    pub(crate) fn no_truth(self) -> Truth
+        ensures { λ r. ⌜ r ≡ Truth.Refused (stop self) ⌝ }
+    {
+        Truth::Refused(self.stop())
+    }
+
+    pub(crate) fn no_time(self) -> When
+        ensures { λ r. ⌜ r ≡ When.Refused (stop self) ⌝ }
+    {
+        When::Refused(self.stop())
     }
 }

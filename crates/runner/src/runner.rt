@@ -305,7 +305,7 @@ impl Runner {
         if self.is_good(true) {
             return Count::Is(self.allowance(stream));
         }
-        Count::Refused(self.stop())
+        self.no_count()
     }
 
     // Bytes that were read from a stream, in order, of which it takes as many as the allowance lets it. While the stream is
@@ -521,7 +521,7 @@ impl Runner {
         if self.is_good(true) {
             return When::Is(self.deadline_of());
         }
-        When::Refused(self.stop())
+        self.no_time()
     }
 
     // The next request to apply to the workload, if one waits.
@@ -561,7 +561,7 @@ impl Runner {
         if self.is_good(true) {
             return Truth::Is(self.flags.finished);
         }
-        Truth::Refused(self.stop())
+        self.no_truth()
     }
 
     // Whether the runner is detached from the peer.
@@ -571,7 +571,7 @@ impl Runner {
         if self.is_good(true) {
             return Truth::Is(self.flags.detached);
         }
-        Truth::Refused(self.stop())
+        self.no_truth()
     }
 
     // Whether the result of the settlement is awaited.
@@ -583,7 +583,7 @@ impl Runner {
             let settling = life.settling;
             return Truth::Is(settling.is_requested());
         }
-        Truth::Refused(self.stop())
+        self.no_truth()
     }
 
     // The most bytes that the runner holds at once.
@@ -594,7 +594,7 @@ impl Runner {
             let limits = self.limits;
             return Count::Is(credit::need::byte_need(limits));
         }
-        Count::Refused(self.stop())
+        self.no_count()
     }
 
     // The bytes that the runner holds now.
@@ -604,7 +604,7 @@ impl Runner {
         if self.is_good(true) {
             return Count::Is(self.held());
         }
-        Count::Refused(self.stop())
+        self.no_count()
     }
 
     // The most bytes that the runner has held at once.
@@ -614,7 +614,7 @@ impl Runner {
         if self.is_good(true) {
             return Count::Is(self.high_water);
         }
-        Count::Refused(self.stop())
+        self.no_count()
     }
 }
 

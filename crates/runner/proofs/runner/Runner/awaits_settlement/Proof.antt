@@ -18,7 +18,7 @@ unfolding awaitsSettlement
 returns-2 c =
     simp (
       sym (c .before .before .is-good .ensures) ∙ c .before .if1 .left,
-      c .stop .ensures,
+      c .no-truth .ensures,
     )
 
 pub awaits-settlement-spec : {M : Type 1} → statement M

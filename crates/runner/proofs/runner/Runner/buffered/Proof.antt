@@ -28,7 +28,7 @@ unfolding buffered
 returns-2 c =
     simp (
       sym (c .before .before .is-good .ensures) ∙ c .before .if1 .left,
-      c .stop .ensures,
+      c .no-count .ensures,
     )
 
 pub buffered-spec : {M : Type 1} → statement M

@@ -18,7 +18,7 @@ unfolding deadline
 returns-2 c =
     simp (
       sym (c .before .before .is-good .ensures) ∙ c .before .if1 .left,
-      c .stop .ensures,
+      c .no-time .ensures,
     )
 
 pub deadline-spec : {M : Type 1} → statement M

@@ -16,7 +16,7 @@ unfolding highWater
 returns-2 c =
     simp (
       sym (c .before .before .is-good .ensures) ∙ c .before .if1 .left,
-      c .stop .ensures,
+      c .no-count .ensures,
     )
 
 pub high-water-spec : {M : Type 1} → statement M

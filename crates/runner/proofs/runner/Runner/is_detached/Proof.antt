@@ -16,7 +16,7 @@ unfolding isDetached
 returns-2 c =
     simp (
       sym (c .before .before .is-good .ensures) ∙ c .before .if1 .left,
-      c .stop .ensures,
+      c .no-truth .ensures,
     )
 
 pub is-detached-spec : {M : Type 1} → statement M

@@ -16,7 +16,7 @@ unfolding isFinished
 returns-2 c =
     simp (
       sym (c .before .before .is-good .ensures) ∙ c .before .if1 .left,
-      c .stop .ensures,
+      c .no-truth .ensures,
     )
 
 pub is-finished-spec : {M : Type 1} → statement M

@@ -18,7 +18,7 @@ unfolding memoryBound
 returns-2 c =
     simp (
       sym (c .before .before .is-good .ensures) ∙ c .before .if1 .left,
-      c .stop .ensures,
+      c .no-count .ensures,
     )
 
 pub memory-bound-spec : {M : Type 1} → statement M

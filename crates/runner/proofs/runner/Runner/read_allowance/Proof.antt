@@ -19,7 +19,7 @@ unfolding readAllowance
 returns-2 c =
     simp (
       sym (c .before .before .is-good .ensures) ∙ c .before .if1 .left,
-      c .stop .ensures,
+      c .no-count .ensures,
     )
 
 pub read-allowance-spec : {M : Type 1} → statement M
