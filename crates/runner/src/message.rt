@@ -4,7 +4,6 @@ ghost use Prim.Native.Nat.{_≤_};
 ghost use lib.ListN.{length};
 ghost use Rattle.credit.specs.Need.{byteNeed};
 ghost use Rattle.exec.specs.Stream.{index};
-ghost use Rattle.runner.specs.Calls.{askedFor};
 ghost use Rattle.runner.specs.Message.{
   sendableOf,
   untold,
@@ -19,13 +18,10 @@ ghost use Rattle.runner.specs.Message.{
   wishFor,
   wish,
   handed,
-  wishEffect,
 };
 ghost use Rattle.runner.specs.MessageLaws.{Payable, Sendable};
 ghost use Rattle.runner.specs.RangeLaws.{InRange};
 ghost use Rattle.runner.specs.State.{other};
-use crate::answer::Asked;
-use crate::answer::Asking;
 use crate::answer::Message;
 use crate::answer::Request;
 use crate::answer::Said;
@@ -299,26 +295,8 @@ impl Runner {
         )
     }
 
-    // Hands it out.
-    pub(crate) fn ask(self, wish: Wish) -> Asking
-        ensures { λ r. ⌜ r ≡ record { runner = wishEffect wish self; asked = askedFor wish } ⌝ }
-    {
-        match wish {
-            Wish::None => Asking {
-                runner: self,
-                asked: Asked::None,
-            },
-            Wish::Request(request) => {
-                let runner = self.hand(request);
-                Asking {
-                    runner,
-                    asked: Asked::Request(request),
-                }
-            }
-        }
-    }
-
-    fn hand(mut self, request: Request) -> Runner
+    // The runner once a request is handed out.
+    pub(crate) fn hand(mut self, request: Request) -> Runner
         ensures { λ r. ⌜ r ≡ handed request self ⌝ }
     {
         match request {

@@ -54,6 +54,7 @@ use crate::answer::Taken;
 use crate::answer::Taking;
 use crate::answer::Truth;
 use crate::answer::When;
+use crate::message::Wish;
 use crate::range::bytes_do;
 use crate::range::lengths_do;
 use credit::sender::Credit;
@@ -529,7 +530,22 @@ impl Runner {
         ensures { λ r. ⌜ r ≡ nextRequest self ⌝ }
     {
         if self.is_good(true) {
-            return self.ask(self.wish());
+            let wanted = self.wish();
+            match wanted {
+                Wish::None => {
+                    return Asking {
+                        runner: self,
+                        asked: Asked::None,
+                    };
+                }
+                Wish::Request(request) => {
+                    let runner = self.hand(request);
+                    return Asking {
+                        runner,
+                        asked: Asked::Request(request),
+                    };
+                }
+            }
         }
         let refusal = self.stop();
         Asking {

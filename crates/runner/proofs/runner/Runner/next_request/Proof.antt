@@ -1,22 +1,31 @@
 -- `runner::runner::Runner::next_request` meets its contract.
 use mathlib.Core.Path.{_∙_, sym}
 use Rattle.runner.specs.Calls.{nextRequest}
+use Rattle.runner.specs.Message.{wishEffect}
 use borrow.Author.Needs.{needs}
 use Rattle.runner.proofs.runner.Runner.next_request.Statement.{statement}
 use Rattle.runner.proofs.runner.Runner.next_request.Tie as tie
 
 returns : tie.Need-returns
-unfolding nextRequest
+unfolding nextRequest wishEffect
 returns c =
     simp (
-      sym (c .before .before .before .is-good .ensures) ∙ c .before .before .if1 .taken,
-      c .ask .ensures,
-      c .before .wish .ensures,
+      sym (c .before .before .before .before .is-good .ensures) ∙ c .before .before .before .if1 .taken,
+      sym (c .before .before .wish .ensures) ∙ c .enum-told .given .1,
     )
 
 returns-2 : tie.Need-returns-2
-unfolding nextRequest
+unfolding nextRequest wishEffect
 returns-2 c =
+    simp (
+      sym (c .before .before .before .before .before .before .is-good .ensures) ∙ c .before .before .before .before .before .if1 .taken,
+      sym (c .before .before .before .before .wish .ensures) ∙ c .before .before .wanted .given .1,
+      c .hand .ensures,
+    )
+
+returns-3 : tie.Need-returns-3
+unfolding nextRequest
+returns-3 c =
     simp (
       sym (c .before .before .is-good .ensures) ∙ c .before .if1 .left,
       c .stop .ensures,
@@ -25,4 +34,13 @@ returns-2 c =
 pub next-request-spec : {M : Type 1} → statement M
 next-request-spec =
     tie.close
-    (tie.spec (λ c κs. search needs) (λ c κs. search needs) (λ c κs. search needs) returns (λ c κs. search needs) returns-2)
+    (tie.spec
+    (λ c κs. search needs)
+    (λ c κs. search needs)
+    (search needs)
+    returns
+    (search needs)
+    (λ c κs. search needs)
+    returns-2
+    (λ c κs. search needs)
+    returns-3)
