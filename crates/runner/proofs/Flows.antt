@@ -1,7 +1,7 @@
 -- Bytes and credit through the runner: output, grants and input, from what the calls on the parts ensure.
 use mathlib.Core.Path.{_≡_, refl, sym, ap, _∙_}
 use mathlib.Core.Bool.{Bool, true, false, cond, not, _&&_, _||_}
-use Prim.Native.Nat.{ℕ, _+_, _-_, _≤_, _<_, _^_}
+use Prim.Native.Nat.{ℕ, _+_, _-_, _≤_, _<_, _^_, max}
 use native.Mathlib.Omega.{arith}
 use mathlib.Core.List.{List}
 use lib.ListN.{length}
@@ -34,32 +34,21 @@ use Rattle.stdio.specs.Output.{After, after, takenIn, keeps, keeps-fit}
 use Rattle.stdio.proofs.Receives.{chunk-fits}
 use Rattle.runner.specs.declared.answer.Hearing.{Hearing}
 use Rattle.runner.specs.declared.answer.Taken.the-variants as Taken
-use Rattle.runner.specs.declared.answer.Taking.{Taking}
 use Rattle.runner.specs.declared.runner.Runner.{Runner}
 use Rattle.runner.specs.RangeLaws.{InRange}
 use Rattle.runner.specs.State.{withInput, withOutputs, withFlow, outOf, putOutput, base, creditAt, putCredit, buffered, noteBuffered}
-use Rattle.runner.specs.Streams.{keepsNone, isShut, room, outputFilled, outputNext, outputTaken, outputBytes, OutputAfter, outputAfter, outputFill, outputTook, creditIn, creditNext, receiptOf, isTaken, isApplied, heard, inputAnswer, inputNext, inputBytes, inputLengths, inputAfter, received, writtenNext, writtenLengths, wroteAfter, wrote}
+use Rattle.runner.specs.Streams.{keepsNone, isShut, room, outputFilled, outputNext, outputTaken, outputBytes, outputAfter, outputTook, creditIn, creditNext, receiptOf, isTaken, isApplied, heard, inputAnswer, inputNext, inputBytes, inputLengths, inputAfter, received, writtenNext, writtenLengths, wroteAfter, wrote}
 
 -- ---- output
 
 module _ (r : Runner) (x : Stream) (bytes store : List ℕ) where
-  pub fill-is : (o : Output) (at : ℕ) (t : Intake) (store′ : List ℕ) (next : List Output) → o ≡ outOf x r → at ≡ base x (r .limits .chunk)
+  pub took-is : (o : Output) (at : ℕ) (t : Intake) (store′ : List ℕ) (next : List Output) (none : Bool) (mark : ℕ) → o ≡ outOf x r → at ≡ base x (r .limits .chunk)
       → after t store′ ≡ takenIn o (r .flags .«gave_up») at (r .limits .chunk) bytes store → next ≡ putOutput x (t .output) (r .outputs)
-      → outputAfter (record { runner = withOutputs next r; taken = Taken.Bytes (t .taken) }) store′ ≡ outputFill r x bytes store
-  unfolding outputFill outputTaken outputBytes takenIn
-  fill-is o at t store′ next ho ha e hn =
-      rw (hn, ap (λ (a : After). a .answer .output) e, ap (λ (a : After). a .answer .taken) e, ap (λ (a : After). a .bytes) e, ho, ha)
-
-  pub took-none : (t : Taking) (store′ : List ℕ) → keepsNone x r ≡ true → outputAfter t store′ ≡ outputFill r x bytes store
-      → outputAfter t store′ ≡ outputTook r x bytes store
-  unfolding outputFill outputTook outputNext
-  took-none t store′ h e = rw h e
-
-  pub took-kept : (t : Taking) (r′ : Runner) (store′ : List ℕ) → keepsNone x r ≡ false → outputAfter t store′ ≡ outputFill r x bytes store
-      → r′ ≡ noteBuffered (t .runner) → outputAfter (record { runner = r′; taken = t .taken }) store′ ≡ outputTook r x bytes store
-  unfolding outputFill outputTook outputNext
-  took-kept t r′ store′ h e hr =
-      rw (h, hr, ap (λ (a : OutputAfter). a .taking .runner) e, ap (λ (a : OutputAfter). a .taking .taken) e, ap (λ (a : OutputAfter). a .bytes) e)
+      → none ≡ keepsNone x r → mark ≡ cond none (r .«high_water») (max (r .«high_water») (buffered (withOutputs next r)))
+      → outputAfter (record { runner = withFlow (r .credits) (r .turn) (r .flags) mark (withOutputs next r); taken = Taken.Bytes (t .taken) }) store′ ≡ outputTook r x bytes store
+  unfolding outputTook outputNext outputTaken outputBytes takenIn
+  took-is o at t store′ next none mark ho ha e hn hk hm =
+      rw (hm, hk, hn, ap (λ (a : After). a .answer .output) e, ap (λ (a : After). a .answer .taken) e, ap (λ (a : After). a .bytes) e, ho, ha)
 
 -- the queue that was filled is within its chunk, so all that is held is within the need
 pub filled-fits : (r : Runner) (x : Stream) (n : ℕ) → InRange r → buffered (outputFilled r x n) ≤ byteNeed (r .limits)
@@ -67,6 +56,15 @@ filled-fits r Stdout n h =
     omega (arith, h .stdout .most, h .stderr .most, h .input .most, keeps-fit (isShut Stdout r) (outOf Stdout r .discarding) (room Stdout r) n)
 filled-fits r Stderr n h =
     omega (arith, h .stdout .most, h .stderr .most, h .input .most, keeps-fit (isShut Stderr r) (outOf Stderr r .discarding) (room Stderr r) n)
+
+-- what is held then is a number of 64 bits
+pub filled-small : (r : Runner) (x : Stream) (bytes store : List ℕ) (o : Output) (at : ℕ) (t : Intake) (store′ : List ℕ) (next : List Output) → o ≡ outOf x r
+    → after t store′ ≡ takenIn o (r .flags .«gave_up») at (r .limits .chunk) bytes store → next ≡ putOutput x (t .output) (r .outputs)
+    → InRange r → byteNeed (r .limits) ≤ 2 ^ 64 - 1 → buffered (withOutputs next r) < 2 ^ 64
+unfolding takenIn
+filled-small r x bytes store o at t store′ next ho e hn h need =
+    let same : withOutputs next r ≡ outputFilled r x (length bytes) = rw (hn, ap (λ (a : After). a .answer .output) e, ho) in
+    omega (arith, ap buffered same, filled-fits r x (length bytes) h)
 
 pub held-fits : (r : Runner) → InRange r → buffered r ≤ byteNeed (r .limits)
 held-fits r h = omega (arith, h .stdout .most, h .stderr .most, h .input .most)

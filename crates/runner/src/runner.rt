@@ -55,6 +55,9 @@ use crate::answer::Taking;
 use crate::answer::Truth;
 use crate::answer::When;
 use crate::message::Wish;
+use crate::pairs::output_in;
+use crate::pairs::put_output;
+use crate::pairs::ring_base;
 use crate::range::bytes_do;
 use crate::range::lengths_do;
 use credit::sender::Credit;
@@ -311,12 +314,25 @@ impl Runner {
 
     // Bytes that were read from a stream, in order, of which it takes as many as the allowance lets it. While the stream is
     // discarded it takes all, and drops them.
-    pub fn output(self, stream: Stream, store: &mut [u8], bytes: &[u8]) -> Taking
+    pub fn output(mut self, stream: Stream, store: &mut [u8], bytes: &[u8]) -> Taking
         ensures { λ r. ⌜ outputAfter r (now (store .exit)) ≡ output self stream (now (bytes .entry)) (now (store .entry)) ⌝ }
     {
         let limits = self.limits;
         if self.is_good(bytes_do(limits, store.len())) {
-            return self.take_output(stream, store, bytes);
+            let none = self.keeps_none(stream);
+            let chunk = limits.chunk;
+            let outputs = self.outputs;
+            let output = output_in(stream, outputs);
+            let base = ring_base(stream, chunk);
+            let intake = output.take_in(self.flags.gave_up, store, base, chunk, bytes);
+            let next = put_output(stream, intake.output, outputs);
+            self.outputs = next;
+            let mark = self.mark(none);
+            self.high_water = mark;
+            return Taking {
+                runner: self,
+                taken: Taken::Bytes(intake.taken),
+            };
         }
         let refusal = self.stop();
         Taking {

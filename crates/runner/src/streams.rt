@@ -1,15 +1,13 @@
 // The output streams, the credit and the input: what each call does once it is not refused by 12, 10 or 11.
 ghost use mathlib.Core.Path.{_≡_};
-ghost use Prim.Native.Nat.{_+_, _≤_, _<_, _^_, max};
+ghost use mathlib.Core.Bool.{cond};
+ghost use Prim.Native.Nat.{_≤_, _<_, _^_, max};
 ghost use lib.ListN.{length};
 ghost use Rattle.credit.specs.Need.{byteNeed, lengthNeed};
 ghost use Rattle.runner.specs.RangeLaws.{InRange};
-ghost use Rattle.runner.specs.State.{buffered, noteBuffered};
+ghost use Rattle.runner.specs.State.{buffered};
 ghost use Rattle.runner.specs.Streams.{
   keepsNone,
-  outputAfter,
-  outputFill,
-  outputTook,
   readAllowanceOf,
   discardedNext,
   closedNext,
@@ -29,13 +27,10 @@ ghost use Rattle.runner.specs.Streams.{
   wrote,
 };
 use crate::answer::Hearing;
-use crate::answer::Taken;
-use crate::answer::Taking;
 use crate::pairs::credit_at;
 use crate::pairs::output_in;
 use crate::pairs::put_credit;
 use crate::pairs::put_output;
-use crate::pairs::ring_base;
 use crate::runner::Runner;
 use exec::Admission;
 use exec::PoolIndex;
@@ -56,19 +51,20 @@ impl Runner {
         stdio::outputs::buffered_of(outputs) + inbox.length
     }
 
-    // Notes them for the high-water mark.
-    fn note_buffered(mut self) -> Runner
+    // The high-water mark, given whether a call kept none of its bytes.
+    pub(crate) fn mark(self, none: bool) -> usize
         requires { ⌜ buffered self < 2 ^ 64 ⌝ }
-        ensures { λ r. ⌜ r ≡ noteBuffered self ⌝ }
+        ensures { λ r. ⌜ r ≡ cond none (self .«high_water») (max (self .«high_water») (buffered self)) ⌝ }
     {
+        if none {
+            return self.high_water;
+        }
         let held = self.held();
-        let mark = larger(self.high_water, held);
-        self.high_water = mark;
-        self
+        larger(self.high_water, held)
     }
 
     // Whether a stream's bytes are not kept: it closed, or the runner gave up on it or discards it.
-    fn keeps_none(self, stream: Stream) -> bool
+    pub(crate) fn keeps_none(self, stream: Stream) -> bool
         ensures { λ r. ⌜ r ≡ keepsNone stream self ⌝ }
     {
         let outputs = self.outputs;
@@ -84,39 +80,6 @@ impl Runner {
         let output = output_in(stream, outputs);
         let limits = self.limits;
         output.allowance(self.flags.gave_up, limits.chunk) as usize
-    }
-
-    // Takes bytes that were read from a stream.
-    pub(crate) fn take_output(self, stream: Stream, store: &mut [u8], bytes: &[u8]) -> Taking
-        requires { ⌜ InRange self × (byteNeed (self .limits) ≤ length (now store)) ⌝ }
-        ensures { λ r. ⌜ outputAfter r (now (store .exit)) ≡ outputTook self stream (now (bytes .entry)) (now (store .entry)) ⌝ }
-    {
-        let taking = self.fill_output(stream, store, bytes);
-        if self.keeps_none(stream) {
-            return taking;
-        }
-        let filled = taking.runner;
-        let runner = filled.note_buffered();
-        let taken = taking.taken;
-        Taking { runner, taken }
-    }
-
-    fn fill_output(mut self, stream: Stream, store: &mut [u8], bytes: &[u8]) -> Taking
-        requires { ⌜ InRange self × (byteNeed (self .limits) ≤ length (now store)) ⌝ }
-        ensures { λ r. ⌜ outputAfter r (now (store .exit)) ≡ outputFill self stream (now (bytes .entry)) (now (store .entry)) ⌝ }
-    {
-        let limits = self.limits;
-        let chunk = limits.chunk;
-        let outputs = self.outputs;
-        let output = output_in(stream, outputs);
-        let base = ring_base(stream, chunk);
-        let intake = output.take_in(self.flags.gave_up, store, base, chunk, bytes);
-        let next = put_output(stream, intake.output, outputs);
-        self.outputs = next;
-        Taking {
-            runner: self,
-            taken: Taken::Bytes(intake.taken),
-        }
     }
 
     // What the adapter reports of a stream.
@@ -256,13 +219,17 @@ impl Runner {
     }
 
     // The high water is noted where the message was kept.
-    fn heard(self, received: Received) -> Hearing
+    fn heard(mut self, received: Received) -> Hearing
         requires { ⌜ buffered self < 2 ^ 64 ⌝ }
         ensures { λ r. ⌜ r ≡ heard received self ⌝ }
     {
         if is_applied(received) {
-            let runner = self.note_buffered();
-            return Hearing { runner, received };
+            let mark = self.mark(false);
+            self.high_water = mark;
+            return Hearing {
+                runner: self,
+                received,
+            };
         }
         Hearing {
             runner: self,

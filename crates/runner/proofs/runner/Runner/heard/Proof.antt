@@ -10,7 +10,7 @@ unfolding heard
 returns c =
     simp (
       sym (c .before .before .is-applied .ensures) ∙ c .before .if1 .taken,
-      c .note-buffered .ensures,
+      c .mark .ensures,
     )
 
 returns-2 : tie.Need-returns-2
