@@ -262,7 +262,8 @@ impl Runner {
         self
     }
 
-    // The timers in their order. It has two callers, so that its passes are not made a part of every call that ticks.
+    // The timers in their order. Several calls share it, so that it is not made a part of each, and a call with nothing due
+    // does not enter it.
     pub(crate) fn fire(self, now: u64) -> Runner
         ensures { λ r. ⌜ r ≡ fire self now ⌝ }
     {

@@ -247,6 +247,7 @@ impl Runner {
 
     // The peer's cancellation: it ends the workload for `cause`, and begins the grace of its pending output. Late once a
     // termination began or the execution ended; nothing at all for a stale key.
+    // Its answers are all given here: a function below would copy the runner once more.
     pub fn cancel(self, now: u64, key: Key, cause: Cause) -> Hearing
         ensures { λ r. ⌜ r ≡ cancel self now key cause ⌝ }
     {
