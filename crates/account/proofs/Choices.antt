@@ -1,20 +1,17 @@
 -- What a choice of message may be.
-use mathlib.Core.Bool.{Bool, true, false, cond}
+use mathlib.Core.Bool.{Bool, true, false}
 use Prim.Native.Nat.{ℕ, _≤_, min}
 use native.Mathlib.Omega.{arith}
-use lib.Dec.{ltb}
 use Rattle.exec.specs.declared.Stream.{Stream}
-use Rattle.exec.specs.declared.Unit as Units
-use Rattle.exec.specs.declared.Unit.the-variants.{Bytes, Frames}
 use Rattle.runner.specs.declared.message.Choice.{Choice}
 use Rattle.runner.specs.declared.message.Choice.the-variants as Choice
 use Rattle.runner.specs.declared.runner.Runner.{Runner}
 use Rattle.runner.specs.Choose.{ifElse}
 use Rattle.exec.specs.Limits.{poolOf}
 use Rattle.exec.specs.Stream.{streamAt}
-use Rattle.credit.specs.Sender.{sendable}
 use Rattle.runner.specs.State.{outOf, other, creditAt}
 use Rattle.runner.specs.Message.{sendableOf, order, choose}
+use Rattle.runner.specs.MessageLaws.{least}
 
 -- no message carries more than the queue holds
 abbrev pub Sound : Runner → Choice → Type 0
@@ -34,17 +31,9 @@ unfolding ifElse
 sent-if s true x y p q = p
 sent-if s false x y p q = q
 
-sendable-most : (u : Units.Unit) (c w : ℕ) → sendable u c w ≤ w
-sendable-most Bytes c w = omega arith
-sendable-most Frames c w = go (ltb 0 c)
-  where
-    go : (b : Bool) → cond b w 0 ≤ w
-    go true = omega arith
-    go false = omega arith
-
 sendable-count : (s : Runner) (n : ℕ) (x : Stream) → sendableOf s n x ≤ outOf x s .queued
 unfolding sendableOf
-sendable-count s n x = let l = sendable-most (s .limits .output .unit) (creditAt (poolOf (s .limits) x) (s .credits) .available) (min (min (outOf x s .queued) (s .limits .chunk)) n) in omega arith
+sendable-count s n x = let l = least (s .limits .output .unit) (creditAt (poolOf (s .limits) x) (s .credits) .available) (min (min (outOf x s .queued) (s .limits .chunk)) n) in omega arith
 
 pub choose-sent : (s : Runner) (n : ℕ) → Sent s (choose s n)
 unfolding choose order

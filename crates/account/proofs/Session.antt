@@ -28,7 +28,7 @@ use Rattle.runner.specs.Choose.{ifElse}
 use Rattle.runner.specs.Life.{closeRunnerInput, endGrace, giveUp, abandonLaunch, abandonOpenStreams, beginTermination, passGrace, terminate, passTimeout, passSettlement, giveUpUnlessClean, passGiveUp, dropLaunch, dropStreams, passAbandonment, fire, ticked, cancelled, cancelAnswer, cancelNext, noteStarted, noteLaunch, launchedNext, isReady, outcomeOf}
 use Rattle.runner.specs.Message.{sendableOf, order, choose, outputPaid, outputSent, effect, payload}
 use Rattle.runner.specs.Range.{bytesDo, lengthsDo, opens, openStop, fresh}
-use Rattle.runner.specs.Streams.{outputTaken, outputNext, outputBytes, outputFill, outputTook, creditIn, creditAnswer, creditNext}
+use Rattle.runner.specs.Streams.{outputTaken, outputNext, outputBytes, outputTook, creditIn, creditAnswer, creditNext}
 use Rattle.account.specs.Call as Call
 use Rattle.account.specs.Call.{Conf, Call, Answer, Done}
 use Rattle.account.specs.Claim.{Opens}
@@ -93,7 +93,7 @@ answersOf ds = map (λ (d : Done). d .answer) ds
 -- only the first four bytes of the store are written
 computed : (a0 a1 a2 a3 : ℕ) (rest lengths : List ℕ)
     → answersOf (run (begun conf 0 (a0 ∷ a1 ∷ a2 ∷ a3 ∷ rest) lengths) calls) ≡ answers
-unfolding next answer said admits cost wrap ringRead ringFrom ringWrite copied takenIn sent ifElse closeRunnerInput endGrace giveUp abandonLaunch abandonOpenStreams beginTermination passGrace terminate passTimeout passSettlement giveUpUnlessClean passGiveUp dropLaunch dropStreams passAbandonment fire ticked cancelled cancelAnswer cancelNext noteStarted noteLaunch launchedNext isReady outcomeOf sendableOf order choose outputPaid outputSent effect payload fresh outputTaken outputNext outputBytes outputFill outputTook creditIn creditAnswer creditNext
+unfolding next answer said admits cost wrap ringRead ringFrom ringWrite copied takenIn sent ifElse closeRunnerInput endGrace giveUp abandonLaunch abandonOpenStreams beginTermination passGrace terminate passTimeout passSettlement giveUpUnlessClean passGiveUp dropLaunch dropStreams passAbandonment fire ticked cancelled cancelAnswer cancelNext noteStarted noteLaunch launchedNext isReady outcomeOf sendableOf order choose outputPaid outputSent effect payload fresh outputTaken outputNext outputBytes outputTook creditIn creditAnswer creditNext
 computed a0 a1 a2 a3 rest lengths = refl
 
 plain : (bytes lengths : List ℕ) → 16 ≤ length bytes → answersOf (run (begun conf 0 bytes lengths) calls) ≡ answers

@@ -4,18 +4,15 @@ use mathlib.Core.Path.{_≡_, refl, sym, ap, _∙_}
 use mathlib.Core.List.{List, _++_, append-assoc}
 use Prim.Native.Nat.{ℕ, _+_, _-_, _^_, _≤_, _<_, min}
 use native.Mathlib.Omega.{arith}
-use lib.Dec.{leb, ltb}
+use lib.Dec.{leb}
 use lib.ListN.{length, take, drop, length-append, length-take, length-drop, take-append-drop}
 use lib.Seq.{drop-drop}
 use Rattle.exec.specs.declared.Limits.{Limits}
 use Rattle.exec.specs.declared.Refusal.the-variants.{NoLimits, StoreShort, StateOutOfRange}
 use Rattle.exec.specs.declared.Reply.{Reply}
-use Rattle.exec.specs.declared.Unit as Units
-use Rattle.exec.specs.declared.Unit.the-variants.{Bytes, Frames}
 use Rattle.exec.specs.Limits.{isValid, poolOf}
 use Rattle.ring.specs.Runs.{copied, copied-length}
 use Rattle.credit.specs.Need.{byteNeed, lengthNeed}
-use Rattle.credit.specs.Sender.{sendable}
 use Rattle.runner.specs.declared.answer.Hearing.{Hearing}
 use Rattle.runner.specs.declared.answer.LimitsAnswer.{LimitsAnswer}
 use Rattle.runner.specs.declared.answer.LimitsAnswer.the-variants as LimitsAnswer
@@ -29,7 +26,7 @@ use Rattle.runner.specs.declared.message.Choice.the-variants as Choice
 use Rattle.runner.specs.declared.runner.Runner.{Runner}
 use Rattle.runner.specs.Calls as Calls
 use Rattle.runner.specs.Message.{MessageAfter, messageAfter, choose, saidFor, sendableOf}
-use Rattle.runner.specs.MessageLaws.{chosen}
+use Rattle.runner.specs.MessageLaws.{chosen, least}
 use Rattle.runner.specs.Range.{inRange, bytesDo, isGood, stop}
 use Rattle.runner.specs.State.{outOf, creditAt}
 use Rattle.runner.specs.Streams.{InputAfter, inputAfter}
@@ -139,15 +136,6 @@ roomy-sent true (Message.End x) room h = omega arith
 roomy-sent false (Message.End x) room h = tt
 roomy-sent ended Message.InputClosed room h = tt
 roomy-sent ended (Message.Terminal outcome) room h = omega arith
-
--- what a stream can send is no more than is asked of it
-least : (u : Units.Unit) (available m : ℕ) → sendable u available m ≤ m
-least Bytes available m = omega arith
-least Frames available m = at (ltb 0 available)
-  where
-    at : (b : Bool) → cond b m 0 ≤ m
-    at true = omega arith
-    at false = omega arith
 
 -- what next_message says in the buffer's part fits the record
 module _ (r : Runner) (store buffer : List ℕ) (narrow : r .limits .chunk < 2 ^ 32) (room : 13 + r .limits .chunk ≤ length buffer) where

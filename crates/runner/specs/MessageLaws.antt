@@ -90,7 +90,8 @@ chosen r buffer x n e =
 
 -- ---- what a stream can send
 
-least : (u : Units.Unit) (available m : ℕ) → sendable u available m ≤ m
+-- no more than is asked of it
+pub least : (u : Units.Unit) (available m : ℕ) → sendable u available m ≤ m
 least Bytes available m = omega arith
 least Frames available m = at (ltb 0 available)
   where

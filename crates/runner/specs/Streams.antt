@@ -67,13 +67,6 @@ pub record OutputAfter : Type 0 where
 abbrev pub outputAfter : Taking → List ℕ → OutputAfter
 outputAfter t store = record { taking = t; bytes = store }
 
--- the bytes taken in, before and after the high water is noted
-unfoldable pub outputFill : Runner → Stream → (bytes store : List ℕ) → OutputAfter
-outputFill r x bytes store =
-    outputAfter
-    (record { runner = outputFilled r x (length bytes); taken = Taken.Bytes (outputTaken r x (length bytes)) })
-    (outputBytes r x bytes store)
-
 unfoldable pub outputTook : Runner → Stream → (bytes store : List ℕ) → OutputAfter
 outputTook r x bytes store =
     outputAfter
