@@ -6,7 +6,7 @@ use mathlib.Core.List.{List, [], _∷_, _++_, append-assoc}
 use mathlib.Core.Logic.{inr}
 use Prim.Native.Nat.{ℕ, _+_, _*_, _≤_, _<_, min}
 use native.Mathlib.Omega.{arith}
-use lib.Dec.{ltb, leb}
+use lib.Dec.{leb}
 use lib.ListN.{length, drop, take-append-drop}
 use Rattle.exec.specs.declared.Admission.{Admission}
 use Rattle.exec.specs.declared.Admission.the-variants as Admission
@@ -14,11 +14,10 @@ use Rattle.exec.specs.declared.Cause.the-variants.{Dropped, Reset, Disconnected
 use Rattle.exec.specs.declared.Limits.{Limits}
 use Rattle.exec.specs.declared.Receipt.the-variants.{Applied, Late}
 use Rattle.exec.specs.declared.Received.the-variants.{Receipt, Refused}
-use Rattle.exec.specs.declared.Refusal.the-variants as Refusal
 use Rattle.exec.specs.declared.Stream.{Stream}
 use Rattle.exec.specs.declared.Stream.the-variants.{Stdout, Stderr}
 use Rattle.exec.specs.Key.{admits}
-use Rattle.exec.specs.Limits.{cost, inputBytes as inboxSize, offChunk}
+use Rattle.exec.specs.Limits.{inputBytes as inboxSize}
 use Rattle.ring.specs.Ring.{firstRun}
 use Rattle.ring.specs.RingLaws.{write-read, write-other, read-none, pending-front}
 use Rattle.credit.specs.Inbox as Inbox
@@ -27,7 +26,7 @@ use Rattle.credit.specs.Range.{inboxFits}
 use Rattle.credit.specs.RangeLaws as Fits
 use Rattle.credit.specs.Sender.{creditFits}
 use Rattle.stdio.specs.declared.input.Input.{Input}
-use Rattle.stdio.specs.Input.{pendingInput, receiveAnswer, isPaid, isKept, receiveInput, receiveBytes, closeWhenTaken, isTaken, peerEnds, popIn, endInput, writtenInput}
+use Rattle.stdio.specs.Input.{pendingInput, receiveAnswer, asked-of, isPaid, isKept, receiveInput, receiveBytes, closeWhenTaken, isTaken, peerEnds, popIn, endInput, writtenInput}
 use Rattle.stdio.specs.Output.{keeps as keepsOf}
 use Rattle.stdio.specs.Outputs.{outputsFit}
 use Rattle.runner.specs.declared.answer.Request.the-variants as Request
@@ -94,19 +93,13 @@ within s h =
 
 -- ---- bytes from the peer
 
-applied-by : (ended off unpaid closed : Bool)
-    → isApplied (receivedAs (cond ended (Refused Refusal.Ended) (cond off (Refused Refusal.Chunk) (cond unpaid (Refused Refusal.Window) (cond closed (Receipt Late) (Receipt Applied))))))
-    ≡ (not ((ended || off) || unpaid) && not closed)
-applied-by true off unpaid closed = refl
-applied-by false true unpaid closed = refl
-applied-by false false true closed = refl
-applied-by false false false true = refl
-applied-by false false false false = refl
-
 -- an answer is Applied exactly where the bytes are kept
+applied-by : (closed : Bool) → isApplied (receivedAs (cond closed (Receipt Late) (Receipt Applied))) ≡ not closed
+applied-by true = refl
+applied-by false = refl
+
 applied-is : (l : Limits) (i : Input) (n : ℕ) → isApplied (receivedAs (receiveAnswer l i n)) ≡ isKept l i n
-unfolding receiveAnswer
-applied-is l i n = applied-by (i .«peer_ended») (offChunk l n) (ltb (i .window .open) (cost (l .input .unit) n)) (i .closed)
+applied-is l i n = asked-of (λ x. isApplied (receivedAs x)) (λ x. refl) l i n (not (i .closed)) (applied-by (i .closed))
 
 receive-flow : (l : Limits) (i : Input) (b st : List ℕ) (k : Bool) → isKept l i (length b) ≡ k → Within l i st
     → (k ≡ true → i .inbox .length + length b ≤ inboxSize l)

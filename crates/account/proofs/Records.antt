@@ -6,8 +6,8 @@ use mathlib.Core.Option.{Option, none, some}
 use Prim.Native.Nat.{ℕ, _+_, _-_, _≤_}
 use native.Mathlib.Omega.{arith}
 use lib.Dec.{leb, eqb}
-use lib.ListN.{length, take, drop, getD, length-append, length-take, length-drop}
-use lib.Seq.{take-at, drop-at, length-take-le, take-append-le}
+use lib.ListN.{length, take, drop, getD, length-append}
+use lib.Seq.{drop-at, length-take-le, take-append-le}
 use borrow.Author.Tests.{leb-true}
 use Rattle.exec.specs.declared.Cause.{Cause}
 use Rattle.exec.specs.declared.Key.{Key}
@@ -15,8 +15,7 @@ use Rattle.exec.specs.declared.Pool.the-variants as Pool
 use Rattle.exec.specs.declared.Received.{Received}
 use Rattle.exec.specs.declared.Received.the-variants as Received
 use Rattle.exec.specs.declared.Receipt.the-variants as Receipt
-use Rattle.exec.specs.declared.Refusal.{Refusal}
-use Rattle.exec.specs.declared.Refusal.the-variants.{NotAChannel, BufferShort, BadLength, UnknownKind, OtherChannel, BadType}
+use Rattle.exec.specs.declared.Refusal.the-variants.{NotAChannel}
 use Rattle.exec.specs.declared.Reply.{Reply}
 use Rattle.exec.specs.declared.Reply.the-variants as Reply
 use Rattle.exec.specs.declared.Stream.{Stream}
@@ -36,7 +35,7 @@ use Rattle.channel.specs.declared.codec.Parsed.the-variants as Parsed
 use Rattle.channel.specs.declared.codec.Record.{Record}
 use Rattle.channel.specs.declared.codec.Record.the-variants as Record
 use Rattle.channel.specs.Calls as Channel
-use Rattle.channel.specs.Calls.{ReadAfter, WriteAfter, isChannel, admitted, heardAs, notedAs, parsedRead, admittedRead, admittedWrite, roomyWrite, sent, told, wrote, wroteBuffer, sentAs, sentBuffer, laid, partBack, hasEnded}
+use Rattle.channel.specs.Calls.{ReadAfter, isChannel, admitted, heardAs, notedAs, parsedRead, admittedRead, admittedWrite, roomyWrite, sent, told, wrote, wroteBuffer, sentAs, sentBuffer, laid, partBack, hasEnded}
 use Rattle.channel.specs.Codec.{start, size, kinded, isTyped, fitting, checked, read}
 use Rattle.channel.specs.CallLaws.{laid-front}
 use Rattle.channel.specs.RoundTrip.{payload-back}
@@ -46,8 +45,8 @@ use Rattle.account.specs.Step as Step
 use Rattle.account.specs.Step.{State, replied, receivedAs, says}
 use Rattle.account.specs.Account as Accounts
 use Rattle.account.specs.Account.{Account, account, tallyOf, cut, tickA}
-use Rattle.account.specs.Claim.{Demand3, Opens, IsPrefix, Silent, isMessage, isTerminal, anyTerminal, messages, isStop, accountOf}
-use Rattle.account.specs.Records.{Entry, call, readRecord, writeRecord, EntryDone, nextEntry, readAs, wroteAs, answerEntry, afterEntries, runEntries, callOf, roomy, made, consCall, callsOf, consDone, donesOf, entryAccount, anyTerminalIn, SilentIn, Whole}
+use Rattle.account.specs.Claim.{Demand3, Opens, IsPrefix, Silent, isMessage, isTerminal, anyTerminal, isStop, accountOf}
+use Rattle.account.specs.Records.{Entry, call, readRecord, writeRecord, nextEntry, readAs, wroteAs, answerEntry, afterEntries, runEntries, callOf, made, consCall, callsOf, consDone, donesOf, entryAccount, anyTerminalIn, SilentIn, Whole}
 use Rattle.account.proofs.Plain as Plain
 use Rattle.account.proofs.Guarded.{payload-length}
 use Rattle.account.proofs.Finish.{framed, framed-conf}

@@ -4,7 +4,6 @@ use mathlib.Core.Path.{_≡_, sym, refl, ap, _∙_, subst, subst⁻¹}
 use mathlib.Core.List.{List, [], _∷_}
 use Prim.Native.Nat.{ℕ, _+_, _-_, _≤_, min}
 use native.Mathlib.Omega.{arith}
-use lib.Dec.{ltb}
 use lib.ListN.{length}
 use Rattle.exec.specs.declared.Admission.{Admission}
 use Rattle.exec.specs.declared.Admission.the-variants as Admission
@@ -14,14 +13,13 @@ use Rattle.exec.specs.declared.Unit as Kinds
 use Rattle.exec.specs.declared.Unit.the-variants.{Bytes, Frames}
 use Rattle.exec.specs.declared.Receipt.the-variants.{Applied, Late}
 use Rattle.exec.specs.declared.Received.the-variants.{Receipt, Refused}
-use Rattle.exec.specs.declared.Refusal.the-variants as Refusal
 use Rattle.exec.specs.Key.{admits}
-use Rattle.exec.specs.Limits.{cost, offChunk}
+use Rattle.exec.specs.Limits.{cost}
 use Rattle.ring.specs.FrameLaws.{pop-most}
 use Rattle.credit.specs.declared.inbox.Inbox.{Inbox}
 use Rattle.credit.specs.Inbox.{newInbox, inboxHeld, pushed, freedBy, framesPopped, poppedBox, popFreed}
 use Rattle.stdio.specs.declared.input.Input.{Input}
-use Rattle.stdio.specs.Input.{receiveAnswer, isPaid, receiveInput, endInput, writtenInput}
+use Rattle.stdio.specs.Input.{receiveAnswer, asked-of, isPaid, receiveInput, endInput, writtenInput}
 use Rattle.runner.specs.declared.answer.Request.the-variants as Request
 use Rattle.runner.specs.declared.message.Choice.{Choice}
 use Rattle.runner.specs.declared.message.Choice.the-variants as Choice
@@ -80,18 +78,12 @@ receive-by l i n true false ep ec =
     rw (ep, ec, pushed-held (l .input .unit) n (i .inbox)) (omega (arith, paid l i n ep .enough))
 
 -- an answer is Late exactly then
-late-by : (ended off unpaid closed : Bool)
-    → isLate (receivedAs (cond ended (Refused Refusal.Ended) (cond off (Refused Refusal.Chunk) (cond unpaid (Refused Refusal.Window) (cond closed (Receipt Late) (Receipt Applied))))))
-    ≡ (not ((ended || off) || unpaid) && closed)
-late-by true off unpaid closed = refl
-late-by false true unpaid closed = refl
-late-by false false true closed = refl
-late-by false false false true = refl
-late-by false false false false = refl
+late-by : (closed : Bool) → isLate (receivedAs (cond closed (Receipt Late) (Receipt Applied))) ≡ closed
+late-by true = refl
+late-by false = refl
 
 late-is : (l : Limits) (i : Input) (n : ℕ) → isLate (receivedAs (receiveAnswer l i n)) ≡ (isPaid l i n && i .closed)
-unfolding receiveAnswer
-late-is l i n = late-by (i .«peer_ended») (offChunk l n) (ltb (i .window .open) (cost (l .input .unit) n)) (i .closed)
+late-is l i n = asked-of (λ x. isLate (receivedAs x)) (λ x. refl) l i n (i .closed) (late-by (i .closed))
 
 received-units : (a : Admission) (r : Runner) (n : ℕ) (f : Bool) → r .flags .finished ≡ f
     → unitsIn (r .limits) (inputNext a r n .input) + lateCost f (r .limits) n (receivedAs (inputAnswer a r n)) ≡ unitsIn (r .limits) (r .input)

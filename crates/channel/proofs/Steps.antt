@@ -31,16 +31,15 @@ use Rattle.runner.specs.Range.{inRange, bytesDo, isGood, stop}
 use Rattle.runner.specs.State.{outOf, creditAt}
 use Rattle.runner.specs.Streams.{InputAfter, inputAfter}
 use Rattle.channel.specs.declared.calls.Reading.{Reading}
-use Rattle.channel.specs.declared.calls.Sending.{Sending}
 use Rattle.channel.specs.declared.calls.Writing.{Writing}
 use Rattle.channel.specs.declared.codec.Record.{Record}
 use Rattle.channel.specs.declared.codec.Record.the-variants.{Adjust, Data, Extended, Eof, Close}
-use Rattle.channel.specs.Codec.{header, start, size, bytesOf}
+use Rattle.channel.specs.Codec.{header, start, size}
 use Rattle.channel.specs.CodecLaws.{header-laid}
 use Rattle.exec.specs.declared.Stream.{Stream}
 use Rattle.exec.specs.declared.Stream.the-variants.{Stdout, Stderr}
 use Rattle.exec.specs.declared.Reply.the-variants as Reply
-use Rattle.channel.specs.Calls.{outputRecord, isChannel, admitted, readAfter, heard, made, admittedRead, readRecord, writeAfter, hasEnded, sentAs, laid, partBack, told, sent, admittedWrite, writeRecord}
+use Rattle.channel.specs.Calls.{outputRecord, admitted, readAfter, heard, made, admittedRead, readRecord, writeAfter, hasEnded, sentAs, laid, partBack, told, sent, admittedWrite, writeRecord}
 use Rattle.channel.specs.CallLaws.{admittedLimits, admittedBy, rest, Narrow, Roomy, RoomyFor, Sayable}
 
 -- ---- what is met before a record

@@ -1,5 +1,5 @@
 -- The equations of an inbox from what its calls ensure, over plain variables: at the calls' places there is too much to compute.
-use mathlib.Core.Path.{_≡_, refl, ap}
+use mathlib.Core.Path.{_≡_, ap}
 use Prim.Native.Nat.{ℕ, _+_, _-_, min}
 use mathlib.Core.List.{List}
 use lib.ListN.{length, take, drop}

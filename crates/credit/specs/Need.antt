@@ -1,6 +1,4 @@
 -- What the stores need: two output rings of a chunk and the inbox; a length a frame.
-use mathlib.Core.Path.{_≡_, refl}
-use mathlib.Core.Bool.{false}
 use Prim.Native.Nat.{ℕ, _+_, _-_, _*_, _^_, _≤_, _<_}
 use native.Mathlib.Omega.{arith}
 use native.Mathlib.Nat.{mul-le-mul}

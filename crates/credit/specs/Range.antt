@@ -1,5 +1,5 @@
 -- The ranges of refusal 12 that concern the credit, and what the calls above ask, which follows from them.
-use Prim.Native.Nat.{ℕ, _+_, _-_, _*_, _^_, _≤_, _<_}
+use Prim.Native.Nat.{ℕ, _+_, _*_, _^_, _≤_, _<_}
 use mathlib.Core.Path.{_≡_}
 use mathlib.Core.Bool.{Bool, _&&_, _||_}
 use mathlib.Core.List.{List}

@@ -1,14 +1,14 @@
 -- The ranges as facts: what the calls on an inbox ask follows from them and from the needs of the stores.
-use Prim.Native.Nat.{ℕ, _+_, _-_, _*_, _^_, _≤_, _<_, min}
+use Prim.Native.Nat.{ℕ, _+_, _*_, _^_, _≤_, _<_, min}
 use native.Mathlib.Omega.{arith}
 use native.Mathlib.Decide.{decLt}
 use native.Mathlib.Nat.{mul-le-mul}
-use mathlib.Core.Path.{_≡_, refl, sym, ap, _∙_}
-use mathlib.Core.Bool.{Bool, true, false, _&&_, _||_}
+use mathlib.Core.Path.{_≡_, refl}
+use mathlib.Core.Bool.{Bool, true, false, _&&_}
 use mathlib.Core.List.{List}
-use lib.Dec.{leb, ltb, eqb}
+use lib.Dec.{leb, eqb}
 use lib.ListN.{length}
-use borrow.Author.Tests.{ltb-true, leb-true, eqb-true, le-ltb}
+use borrow.Author.Tests.{leb-true, eqb-true, le-ltb}
 use Rattle.exec.specs.declared.Limits.{Limits}
 use Rattle.exec.specs.declared.Unit as Units
 use Rattle.exec.specs.declared.Unit.the-variants.{Bytes, Frames}
@@ -19,7 +19,7 @@ use Rattle.credit.specs.declared.receiver.Granted.{Granted}
 use Rattle.credit.specs.Inbox.{inboxHeld, freedBy, popFreed}
 use Rattle.credit.specs.Receiver.{unitsFit}
 use Rattle.credit.specs.Need.{byteNeed, lengthNeed, need-fits}
-use Rattle.credit.specs.Range.{ringFits, framesFit, inboxFits, FrameRoom, Waiting, Pushable, Slots, Poppable}
+use Rattle.credit.specs.Range.{ringFits, framesFit, inboxFits, Waiting, Pushable, Poppable}
 
 pub both : (a b : Bool) → (a && b) ≡ true → (a ≡ true) × (b ≡ true)
 both true b h = (refl, h)

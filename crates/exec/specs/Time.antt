@@ -1,7 +1,7 @@
 -- Time: instants and durations are nanoseconds; a sum past 2^64 - 1 is no deadline; each is due at its time exactly.
 use Prim.Native.Nat.{ℕ, _+_, _-_, _^_, _≤_, _<_}
 use mathlib.Core.Path.{_≡_}
-use mathlib.Core.Bool.{Bool, true, false, cond}
+use mathlib.Core.Bool.{Bool, false, cond}
 use lib.Dec.{leb, ltb}
 use borrow.Author.Tests.{le-leb, lt-leb}
 use Rattle.exec.specs.declared.Deadline.{Deadline}

@@ -22,7 +22,7 @@ use Rattle.exec.specs.declared.Limits.{Limits}
 use Rattle.exec.specs.Limits.{cost, offChunk, inputBytes as inboxBytes}
 use Rattle.credit.specs.declared.sender.Credit.{Credit}
 use Rattle.credit.specs.declared.sender.Granting.{Granting}
-use Rattle.credit.specs.Need.{byteNeed, lengthNeed}
+use Rattle.credit.specs.Need.{byteNeed}
 use Rattle.credit.specs.RangeLaws as Inbox
 use Rattle.credit.specs.Sender.{grantable, grant}
 use Rattle.stdio.specs.declared.input.Input.{Input}
@@ -30,14 +30,14 @@ use Rattle.stdio.specs.declared.input.Receiving.{Receiving}
 use Rattle.stdio.specs.declared.output.Intake.{Intake}
 use Rattle.stdio.specs.declared.output.Output.{Output}
 use Rattle.stdio.specs.Input as In
-use Rattle.stdio.specs.Output.{After, after, takenIn, keeps, keeps-fit}
+use Rattle.stdio.specs.Output.{After, after, takenIn, keeps-fit}
 use Rattle.stdio.proofs.Receives.{chunk-fits}
 use Rattle.runner.specs.declared.answer.Hearing.{Hearing}
 use Rattle.runner.specs.declared.answer.Taken.the-variants as Taken
 use Rattle.runner.specs.declared.runner.Runner.{Runner}
 use Rattle.runner.specs.RangeLaws.{InRange}
 use Rattle.runner.specs.State.{withInput, withOutputs, withFlow, outOf, putOutput, base, creditAt, putCredit, buffered, noteBuffered}
-use Rattle.runner.specs.Streams.{keepsNone, isShut, room, outputFilled, outputNext, outputTaken, outputBytes, outputAfter, outputTook, creditIn, creditNext, receiptOf, isTaken, isApplied, heard, inputAnswer, inputNext, inputBytes, inputLengths, inputAfter, received, writtenNext, writtenLengths, wroteAfter, wrote}
+use Rattle.runner.specs.Streams.{keepsNone, isShut, room, outputFilled, outputNext, outputTaken, outputBytes, outputAfter, outputTook, creditIn, creditNext, receiptOf, isApplied, heard, inputAnswer, inputNext, inputBytes, inputLengths, inputAfter, received, writtenNext, writtenLengths, wroteAfter, wrote}
 
 -- ---- output
 
@@ -100,18 +100,12 @@ module _ (r : Runner) (bytes store lengths : List ℕ) where
   received-stale = refl
 
 -- a message is Applied exactly where it is kept
-applied-by : (ended off unpaid closed : Bool)
-    → isApplied (cond ended (Refused Refusal.Ended) (cond off (Refused Refusal.Chunk) (cond unpaid (Refused Refusal.Window) (cond closed (Receipt Late) (Receipt Applied)))))
-    ≡ (not ((ended || off) || unpaid) && not closed)
-applied-by true off unpaid closed = refl
-applied-by false true unpaid closed = refl
-applied-by false false true closed = refl
-applied-by false false false true = refl
-applied-by false false false false = refl
+applied-by : (closed : Bool) → isApplied (cond closed (Receipt Late) (Receipt Applied)) ≡ not closed
+applied-by true = refl
+applied-by false = refl
 
 applied-kept : (l : Limits) (i : Input) (n : ℕ) → isApplied (In.receiveAnswer l i n) ≡ In.isKept l i n
-unfolding In.receiveAnswer
-applied-kept l i n = applied-by (i .«peer_ended») (offChunk l n) (ltb (i .window .open) (cost (l .input .unit) n)) (i .closed)
+applied-kept l i n = In.asked-of isApplied (λ x. refl) l i n (not (i .closed)) (applied-by (i .closed))
 
 -- the high water, where it is noted and where not
 noted-by : (b : Bool) (r : Runner) → cond b (noteBuffered r) r ≡ withFlow (r .credits) (r .turn) (r .flags) (cond b (noteBuffered r .«high_water») (r .«high_water»)) r

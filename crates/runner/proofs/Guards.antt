@@ -1,9 +1,8 @@
 -- The calls that are lent a store, from the guard and from what the call's own function ensures.
-use mathlib.Core.Path.{_≡_, refl, sym, ap, _∙_}
-use mathlib.Core.Bool.{Bool, true, false, cond, _&&_}
+use mathlib.Core.Path.{_≡_, sym, ap, _∙_}
+use mathlib.Core.Bool.{Bool, true, false, _&&_}
 use Prim.Native.Nat.{ℕ, _≤_}
 use mathlib.Core.List.{List, []}
-use lib.Dec.{leb}
 use lib.ListN.{length}
 use borrow.Author.Tests.{leb-true}
 use Rattle.exec.specs.declared.Admission.{Admission}
@@ -32,7 +31,7 @@ use Rattle.runner.specs.declared.runner.Runner.{Runner}
 use Rattle.runner.specs.Calls.{«open», noting, storesDo, input, output, pendingAfter, pendingInput, writtenAfter, inputWritten, nextMessage}
 use Rattle.runner.specs.Message.{choose, messageAfter, saidAfter}
 use Rattle.runner.specs.Range.{bytesDo, lengthsDo, isGood, stop, opens, openStop, fresh}
-use Rattle.runner.specs.RangeLaws.{InRange, Good, is-good}
+use Rattle.runner.specs.RangeLaws.{InRange, is-good}
 use Rattle.runner.specs.Streams.{outputAfter, outputTook, inputAfter, received, pendingOf, wroteAfter, WroteAfter, wrote}
 
 -- what the code tested, as the definition tests it

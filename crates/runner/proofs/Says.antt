@@ -1,24 +1,15 @@
 -- What next_message leaves, from what the calls on the parts ensure.
-use mathlib.Core.Path.{_≡_, refl, ap}
+use mathlib.Core.Path.{_≡_, ap}
 use Prim.Native.Nat.{ℕ}
 use mathlib.Core.List.{List}
-use Rattle.exec.specs.declared.Outcome.{Outcome}
 use Rattle.exec.specs.declared.Stream.{Stream}
-use Rattle.exec.specs.Limits.{cost, poolOf}
-use Rattle.exec.specs.Stream.{index}
-use Rattle.credit.specs.declared.sender.Credit.{Credit}
-use Rattle.credit.specs.Sender.{spent}
-use Rattle.stdio.specs.declared.input.Crediting.{Crediting}
-use Rattle.stdio.specs.declared.input.Input.{Input}
 use Rattle.stdio.specs.declared.output.Output.{Output}
-use Rattle.stdio.specs.Input.{takeCredit, messageTold}
 use Rattle.stdio.specs.Output.{SendAfter, sendAfter, sent}
 use Rattle.runner.specs.declared.answer.Message.the-variants as Message
 use Rattle.runner.specs.declared.answer.Said.the-variants as Said
 use Rattle.runner.specs.declared.message.Choice.{Choice}
 use Rattle.runner.specs.declared.message.Choice.the-variants as Choice
 use Rattle.runner.specs.declared.runner.Runner.{Runner}
-use Rattle.runner.specs.Life.{outcomeOf}
 use Rattle.runner.specs.Message.{effect, outputPaid, outputSent, SentAfter, sentAfter, sentOutput, payload, bufferAfter, saidFor, messageAfter, saidAfter}
 use Rattle.runner.specs.State.{withOutputs, outOf, putOutput, base}
 

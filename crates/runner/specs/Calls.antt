@@ -1,12 +1,11 @@
 -- The calls, each whole: refusals 12, 10 and 11 first, which change nothing, and then what the call does. One definition a
 -- call, named after it: its answer, the next state and every lent list that it writes.
 use Prim.Native.Nat.{ℕ}
-use mathlib.Core.Bool.{Bool, true, false, cond, _&&_}
+use mathlib.Core.Bool.{Bool, true, cond, _&&_}
 use mathlib.Core.List.{List, []}
 use lib.ListN.{length}
 use Rattle.exec.specs.declared.Cause.{Cause}
 use Rattle.exec.specs.declared.Cause.the-variants as Cause
-use Rattle.exec.specs.declared.Deadline.{Deadline}
 use Rattle.exec.specs.declared.Key.{Key}
 use Rattle.exec.specs.declared.LaunchResult.{LaunchResult}
 use Rattle.exec.specs.declared.Limits.{Limits}

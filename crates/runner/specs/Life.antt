@@ -27,7 +27,7 @@ use Rattle.stdio.specs.Output.{graceEnded, givenUp, abandoned}
 use Rattle.stdio.specs.Outputs.{eachOutput, bothClosed, anyHeld, bothDelivered}
 use Rattle.runner.specs.declared.answer.Hearing.{Hearing}
 use Rattle.runner.specs.declared.runner.Runner.{Runner}
-use Rattle.runner.specs.State.{with, withClocks, withLife, withFlags, flagsOf, out0, out1}
+use Rattle.runner.specs.State.{with, withClocks, withLife, flagsOf, out0, out1}
 
 -- the launch result is still waited for: it has not arrived, and the runner has not given up on it
 abbrev pub awaitsLaunch : Runner → Bool

@@ -1,6 +1,6 @@
 -- What is met before a call: a state out of range (12), no limits (10), a lent store that is short (11); and open.
-use Prim.Native.Nat.{ℕ, _+_}
-use mathlib.Core.Bool.{Bool, true, false, cond, _&&_}
+use Prim.Native.Nat.{ℕ}
+use mathlib.Core.Bool.{Bool, false, cond, _&&_}
 use mathlib.Core.List.{List, [], _∷_}
 use lib.Dec.{leb}
 use lib.ListN.{length}
@@ -12,7 +12,7 @@ use Rattle.exec.specs.declared.Refusal.{Refusal}
 use Rattle.exec.specs.declared.Refusal.the-variants.{NoLimits, StoreShort, StateOutOfRange}
 use Rattle.exec.specs.declared.Timers.{Timers}
 use Rattle.exec.specs.Limits.{isValid, bytesWindow}
-use Rattle.exec.specs.Time.{timeoutAt, newTimers}
+use Rattle.exec.specs.Time.{timeoutAt}
 use Rattle.credit.specs.Need.{byteNeed, lengthNeed}
 use Rattle.credit.specs.Range.{inboxFits}
 use Rattle.credit.specs.Sender.{newCredit, creditFits}

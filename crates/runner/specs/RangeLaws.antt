@@ -1,25 +1,19 @@
 -- A state in range, as facts, which the calls' parts ask.
-use Prim.Native.Nat.{ℕ, _+_, _≤_, _<_, _^_}
-use native.Mathlib.Omega.{arith}
+use Prim.Native.Nat.{ℕ, _≤_}
 use mathlib.Core.Path.{_≡_}
 use mathlib.Core.Bool.{Bool, true, _&&_}
-use mathlib.Core.List.{List}
 use lib.Dec.{leb}
-use lib.ListN.{length}
 use borrow.Author.Tests.{leb-true}
-use Rattle.exec.specs.declared.Limits.{Limits}
 use Rattle.exec.specs.declared.Stream.{Stream}
 use Rattle.exec.specs.declared.Stream.the-variants.{Stdout, Stderr}
 use Rattle.exec.specs.Limits.{isValid}
-use Rattle.credit.specs.Need.{byteNeed, lengthNeed}
 use Rattle.credit.specs.Range.{inboxFits}
 use Rattle.credit.specs.RangeLaws as Inbox
 use Rattle.credit.specs.Sender.{creditFits}
 use Rattle.stdio.specs.declared.output.Output.{Output}
 use Rattle.stdio.specs.Output.{outputFits, output-range}
-use Rattle.stdio.specs.Outputs.{outputsFit}
 use Rattle.runner.specs.declared.runner.Runner.{Runner}
-use Rattle.runner.specs.Range.{inRange, bytesDo, lengthsDo, isGood}
+use Rattle.runner.specs.Range.{inRange, isGood}
 use Rattle.runner.specs.State.{out0, out1, outOf, credit0, credit1}
 
 -- a queue within its ring

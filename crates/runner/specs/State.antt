@@ -1,5 +1,5 @@
 -- The runner's state with some of its parts set, and its parts by stream and by pool.
-use Prim.Native.Nat.{ℕ, _+_, _^_, max}
+use Prim.Native.Nat.{ℕ, _+_, max}
 use mathlib.Core.Bool.{Bool, cond}
 use mathlib.Core.List.{List, [], _∷_}
 use lib.Dec.{eqb}

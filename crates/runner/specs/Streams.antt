@@ -1,7 +1,7 @@
 -- The output streams and the input: what each call does once it is not refused by 12, 10 or 11.
-use Prim.Native.Nat.{ℕ, _+_, _-_, max}
+use Prim.Native.Nat.{ℕ, _-_, max}
 use mathlib.Core.Bool.{Bool, true, false, cond, not, _&&_, _||_}
-use mathlib.Core.List.{List, []}
+use mathlib.Core.List.{List}
 use lib.Dec.{ltb}
 use lib.ListN.{length}
 use Rattle.exec.specs.declared.Admission.{Admission}
@@ -25,7 +25,7 @@ use Rattle.runner.specs.declared.answer.Hearing.{Hearing}
 use Rattle.runner.specs.declared.answer.Taken.the-variants as Taken
 use Rattle.runner.specs.declared.answer.Taking.{Taking}
 use Rattle.runner.specs.declared.runner.Runner.{Runner}
-use Rattle.runner.specs.State.{withInput, withOutputs, withFlow, out0, out1, outOf, putOutput, at, base, creditAt, putCredit, buffered, noteBuffered}
+use Rattle.runner.specs.State.{withInput, withFlow, outOf, at, base, creditAt, putCredit, buffered, noteBuffered}
 
 -- ---- output: closed or given up, it takes 0; while discarding it takes all and keeps none; else min(length, chunk - queued)
 

@@ -20,7 +20,6 @@ use Rattle.exec.specs.declared.Reply.the-variants as Reply
 use Rattle.exec.specs.Limits.{cost, offChunk, checkChunk}
 use Rattle.credit.specs.declared.inbox.Inbox.{Inbox}
 use Rattle.credit.specs.declared.inbox.Popping.{Popping}
-use Rattle.credit.specs.declared.receiver.Charging.{Charging}
 use Rattle.credit.specs.declared.receiver.Granted.{Granted}
 use Rattle.credit.specs.Inbox.{PushAfter, pushAfter, push, PopAfter, popAfter, pop}
 use Rattle.credit.specs.Receiver.{charge, freed}

@@ -1,5 +1,5 @@
 -- The workload's input: what each call does to it and to the stores.
-use Prim.Native.Nat.{ℕ, _+_, _-_, _^_, _≤_, _<_, min}
+use Prim.Native.Nat.{ℕ, _-_, _≤_, min}
 use mathlib.Core.Path.{_≡_}
 use mathlib.Core.Bool.{Bool, true, false, cond, not, _&&_, _||_}
 use mathlib.Core.List.{List, []}
@@ -9,11 +9,10 @@ use Rattle.exec.specs.declared.Limits.{Limits}
 use Rattle.exec.specs.declared.Receipt.the-variants.{Applied, Late}
 use Rattle.exec.specs.declared.Received.{Received}
 use Rattle.exec.specs.declared.Received.the-variants.{Receipt, Refused}
+use Rattle.exec.specs.declared.Refusal.{Refusal}
 use Rattle.exec.specs.declared.Refusal.the-variants as Refusal
 use Rattle.exec.specs.Limits.{cost, inputBytes, offChunk}
 use Rattle.ring.specs.Ring.{ringWrite}
-use Rattle.credit.specs.declared.inbox.Inbox.{Inbox}
-use Rattle.credit.specs.declared.receiver.Granted.{Granted}
 use Rattle.credit.specs.Inbox.{newInbox, inboxBase, pushed, lengthsPushed, front, poppedBox, popFreed, lengthsPopped}
 use Rattle.credit.specs.Need.{byteNeed, lengthNeed}
 use Rattle.credit.specs.RangeLaws.{InRange}
@@ -101,6 +100,21 @@ pub record Paid (l : Limits) (i : Input) (n : ℕ) : Type 0 where
 -- and kept
 abbrev pub isKept : Limits → Input → ℕ → Bool
 isKept l i n = isPaid l i n && not (i .closed)
+
+-- a question that every refusal answers no: its answer is told by whether the input is closed, where the message is charged
+module _ (P : Received → Bool) (refused : (x : Refusal) → P (Refused x) ≡ false) where
+  asked-by : (ended off unpaid closed b : Bool) → P (cond closed (Receipt Late) (Receipt Applied)) ≡ b
+      → P (cond ended (Refused Refusal.Ended) (cond off (Refused Refusal.Chunk) (cond unpaid (Refused Refusal.Window) (cond closed (Receipt Late) (Receipt Applied)))))
+      ≡ (not ((ended || off) || unpaid) && b)
+  asked-by true off unpaid closed b e = refused Refusal.Ended
+  asked-by false true unpaid closed b e = refused Refusal.Chunk
+  asked-by false false true closed b e = refused Refusal.Window
+  asked-by false false false closed b e = e
+
+  pub asked-of : (l : Limits) (i : Input) (n : ℕ) (b : Bool) → P (cond (i .closed) (Receipt Late) (Receipt Applied)) ≡ b
+      → P (receiveAnswer l i n) ≡ (isPaid l i n && b)
+  unfolding receiveAnswer
+  asked-of l i n b e = asked-by (i .«peer_ended») (offChunk l n) (ltb (i .window .open) (cost (l .input .unit) n)) (i .closed) b e
 
 unfoldable pub receiveInput : Limits → Input → ℕ → Input
 receiveInput l i n = record {

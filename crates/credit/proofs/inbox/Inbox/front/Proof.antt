@@ -1,6 +1,5 @@
 -- `credit::inbox::Inbox::front` meets its contract.
 use Rattle.credit.proofs.Ways.{front-is}
-use Rattle.credit.specs.Inbox.{front}
 use borrow.Author.Needs.{needs}
 use Rattle.credit.proofs.inbox.Inbox.front.Statement.{statement}
 use Rattle.credit.proofs.inbox.Inbox.front.Tie as tie

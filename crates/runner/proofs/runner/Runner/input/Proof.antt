@@ -1,8 +1,6 @@
 -- `runner::runner::Runner::input` meets its contract.
 use Rattle.runner.specs.Calls.{storesDo}
 use Rattle.runner.proofs.Guards.{guard, both-do, stores-good, input-goes, input-stops}
-use mathlib.Core.Path.{_∙_, sym}
-use Rattle.runner.specs.Calls.{input}
 use borrow.Author.Needs.{needs}
 use Rattle.runner.proofs.runner.Runner.input.Statement.{statement}
 use Rattle.runner.proofs.runner.Runner.input.Tie as tie

@@ -1,8 +1,6 @@
 -- `runner::runner::Runner::input_written` meets its contract.
 use Rattle.runner.specs.Range.{lengthsDo}
 use Rattle.runner.proofs.Guards.{guard, lengths-good, written-goes, written-stops}
-use mathlib.Core.Path.{_∙_, sym}
-use Rattle.runner.specs.Calls.{inputWritten}
 use borrow.Author.Needs.{needs}
 use Rattle.runner.proofs.runner.Runner.input_written.Statement.{statement}
 use Rattle.runner.proofs.runner.Runner.input_written.Tie as tie

@@ -1,8 +1,6 @@
 -- `runner::runner::Runner::next_message` meets its contract.
 use Rattle.runner.specs.Range.{bytesDo}
 use Rattle.runner.proofs.Guards.{guard, bytes-good, message-goes, message-stops}
-use mathlib.Core.Path.{_∙_, sym}
-use Rattle.runner.specs.Calls.{nextMessage}
 use borrow.Author.Needs.{needs}
 use Rattle.runner.proofs.runner.Runner.next_message.Statement.{statement}
 use Rattle.runner.proofs.runner.Runner.next_message.Tie as tie

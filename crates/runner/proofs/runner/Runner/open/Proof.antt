@@ -1,7 +1,5 @@
 -- `runner::runner::Runner::open` meets its contract.
 use Rattle.runner.proofs.Guards.{opens-is, open-goes, open-stops}
-use mathlib.Core.Path.{_∙_, sym}
-use Rattle.runner.specs.Calls.{«open»}
 use borrow.Author.Needs.{needs}
 use Rattle.runner.proofs.runner.Runner.open.Statement.{statement}
 use Rattle.runner.proofs.runner.Runner.open.Tie as tie

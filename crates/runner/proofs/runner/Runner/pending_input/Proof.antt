@@ -2,8 +2,6 @@
 use Rattle.runner.specs.Range.{bytesDo}
 use Rattle.credit.specs.RangeLaws.{is-waiting}
 use Rattle.runner.proofs.Guards.{guard, bytes-good, pending-goes, pending-stops}
-use mathlib.Core.Path.{_∙_, sym}
-use Rattle.runner.specs.Calls.{pendingInput}
 use borrow.Author.Needs.{needs}
 use Rattle.runner.proofs.runner.Runner.pending_input.Statement.{statement}
 use Rattle.runner.proofs.runner.Runner.pending_input.Tie as tie

@@ -1,7 +1,6 @@
 -- `runner::runner::Runner::ticked` meets its contract.
 use Rattle.runner.proofs.Quiet.{quiet, busy}
 use mathlib.Core.Path.{_∙_, sym}
-use Rattle.runner.specs.Life.{ticked}
 use borrow.Author.Needs.{needs}
 use Rattle.runner.proofs.runner.Runner.ticked.Statement.{statement}
 use Rattle.runner.proofs.runner.Runner.ticked.Tie as tie

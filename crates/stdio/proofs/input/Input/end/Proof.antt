@@ -1,6 +1,5 @@
 -- `stdio::input::Input::end` meets its contract.
 use Rattle.stdio.proofs.Receives.{end-late, end-applied}
-use mathlib.Core.Path.{_∙_, sym}
 use Rattle.stdio.specs.Input.{endInput, endAnswer}
 use borrow.Author.Needs.{needs}
 use Rattle.stdio.proofs.input.Input.end.Statement.{statement}

@@ -2,7 +2,7 @@
 use Rattle.credit.specs.Receiver.{charge}
 use Rattle.exec.specs.Limits.{cost}
 use Rattle.stdio.proofs.Receives.{check-is, check-refused, receive-off}
-use mathlib.Core.Path.{_≡_, sym, ap, _∙_}
+use mathlib.Core.Path.{sym, ap, _∙_}
 use borrow.Author.Needs.{needs}
 use Rattle.stdio.proofs.input.Input.receive_checked.Statement.{statement}
 use Rattle.stdio.proofs.input.Input.receive_checked.Tie as tie
