@@ -30,7 +30,7 @@ impl Credit {
     }
 
     // Adds a grant; one of no units, or of more than the window has left, is refused.
-    pub fn grant(self, units: u32) -> Granting
+    fn granted(self, units: u32) -> Granting
         ensures { λ r. ⌜ r ≡ grant self units ⌝ }
     {
         if units == 0 {
@@ -77,12 +77,34 @@ impl Credit {
     }
 
     // Spends the units of one data message.
-    pub fn spend(mut self, cost: u32) -> Credit
+    fn spent(mut self, cost: u32) -> Credit
         requires { ⌜ cost ≤ self .available ⌝ }
         ensures { λ r. ⌜ r ≡ spent self cost ⌝ }
     {
         self.available = self.available - cost;
         self
+    }
+
+    // As grant, for an account that is held by value: no proof above this one meets a lent account.
+    pub fn grant_in(self, units: u32) -> Granting
+        ensures { λ r. ⌜ r ≡ grant self units ⌝ }
+    {
+        let mut held = self;
+        let reply = grant(&mut held, units);
+        Granting {
+            credit: held,
+            reply,
+        }
+    }
+
+    // As spend, for an account that is held by value.
+    pub fn spend_in(self, cost: u32) -> Credit
+        requires { ⌜ cost ≤ self .available ⌝ }
+        ensures { λ r. ⌜ r ≡ spent self cost ⌝ }
+    {
+        let mut held = self;
+        spend(&mut held, cost);
+        held
     }
 
     // Whether no more is available than the window has.
@@ -91,4 +113,21 @@ impl Credit {
     {
         self.available <= self.window
     }
+}
+
+// Grants in place. This and spend only lend: what is lent is proved by hand, so the work is in granted and spent.
+pub fn grant(credit: &mut Credit, units: u32) -> Reply
+    ensures { λ r. ⌜ (now (credit .exit) ≡ grant (now (credit .entry)) units .credit) × (r ≡ grant (now (credit .entry)) units .reply) ⌝ }
+{
+    let granting = (*credit).granted(units);
+    *credit = granting.credit;
+    granting.reply
+}
+
+// Spends in place.
+pub fn spend(credit: &mut Credit, cost: u32)
+    requires { ⌜ cost ≤ now credit .available ⌝ }
+    ensures { λ _. ⌜ now (credit .exit) ≡ spent (now (credit .entry)) cost ⌝ }
+{
+    *credit = (*credit).spent(cost);
 }

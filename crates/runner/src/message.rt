@@ -253,7 +253,7 @@ impl Runner {
         let credits = self.credits;
         let pool = limits.pool_of(stream);
         let account = credit_at(pool, credits);
-        let spent = account.spend(window.cost(n));
+        let spent = account.spend_in(window.cost(n));
         let next = put_credit(pool, spent, credits);
         self.credits = next;
         self.turn = turn_after(stream);

@@ -164,7 +164,7 @@ impl Runner {
         }
         let credits = self.credits;
         let account = credit_at(index, credits);
-        let granting = account.grant(units);
+        let granting = account.grant_in(units);
         let next = put_credit(index, granting.credit, credits);
         self.credits = next;
         let reply = granting.reply;

@@ -12,7 +12,7 @@ returns c =
     (c .if1 .taken)
 
 returns-2 : tie.Need-returns-2
-returns-2 c = grant-is _ _ _ _ _ _ _ (c .before .before .before .before .before .if1 .left) (c .before .before .before .credit-at .ensures) (c .before .before .grant .ensures) (c .before .put-credit .ensures) (c .receipt-of .ensures)
+returns-2 c = grant-is _ _ _ _ _ _ _ (c .before .before .before .before .before .if1 .left) (c .before .before .before .credit-at .ensures) (c .before .before .grant-in .ensures) (c .before .put-credit .ensures) (c .receipt-of .ensures)
 
 pub grant-at-spec : {M : Type 1} → statement M
 grant-at-spec =

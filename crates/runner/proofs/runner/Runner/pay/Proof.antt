@@ -4,8 +4,8 @@ use borrow.Author.Needs.{needs}
 use Rattle.runner.proofs.runner.Runner.pay.Statement.{statement}
 use Rattle.runner.proofs.runner.Runner.pay.Tie as tie
 
-spend-requires : tie.Need-spend-requires
-spend-requires c κs = rw (c .cost .ensures, c .before .credit-at .ensures, c .before .before .pool-of .ensures) (c .before .before .before .before .before .before .pre .paid)
+spend-in-requires : tie.Need-spend-in-requires
+spend-in-requires c κs = rw (c .cost .ensures, c .before .credit-at .ensures, c .before .before .pool-of .ensures) (c .before .before .before .before .before .before .pre .paid)
 
 returns : tie.Need-returns
 unfolding outputPaid
@@ -13,7 +13,7 @@ returns c =
     simp (
       c .before .turn-after .ensures,
       c .before .before .put-credit .ensures,
-      c .before .before .before .spend .ensures,
+      c .before .before .before .spend-in .ensures,
       c .before .before .before .before .cost .ensures,
       c .before .before .before .before .before .credit-at .ensures,
       c .before .before .before .before .before .before .pool-of .ensures,
@@ -26,7 +26,7 @@ pay-spec =
     (λ c κs. search needs)
     (λ c κs. search needs)
     (λ c κs. search needs)
-    spend-requires
+    spend-in-requires
     (λ c κs. search needs)
     (λ c κs. search needs)
     returns)
