@@ -1,0 +1,2 @@
+// Numbers and bytes as text: decimal digits, and lowercase hexadecimal.
+pub mod decimal;
