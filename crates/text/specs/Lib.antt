@@ -1,5 +1,7 @@
--- What the contracts of `text` cite (Decimal, Answers), and its laws.
+-- What the contracts of `text` cite (Decimal, Hexadecimal, Answers), and their laws.
 pub mod Decimal
 pub mod DecimalLaws
+pub mod Hexadecimal
+pub mod HexadecimalLaws
 pub mod Answers
 pub mod RoundTrip

@@ -5,7 +5,7 @@ use Prim.Native.Nat.{_+_, _≤_}
 use native.Mathlib.Omega.{arith}
 use lib.ListN.{length}
 use Rattle.text.specs.Decimal.{digitsOf}
-use Rattle.text.specs.DecimalLaws.{count-one, count-more, count-least}
+use Rattle.text.specs.DecimalLaws.{count-one, count-more}
 use Rattle.text.specs.RoundTrip.{digits-most}
 use Rattle.text.proofs.decimal.places.Statement.{statement}
 use Rattle.text.proofs.decimal.places.Tie as tie
