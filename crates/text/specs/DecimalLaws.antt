@@ -1,6 +1,6 @@
 -- Laws of decimal numbers: the ways of one byte that is read, and the digits of a number by its tenth.
 use mathlib.Core.Path.{_≡_, refl, sym, ap, _∙_}
-use mathlib.Core.Bool.{true, false, and-false, true≢false}
+use mathlib.Core.Bool.{Bool, true, false, _&&_, and-false, true≢false, false≢true}
 use mathlib.Core.List.{List, [], _∷_, _++_}
 use mathlib.Core.Option.{none, some}
 use Prim.Native.Nat.{ℕ, zero, suc, _+_, _-_, _*_, _/_, _%_, _^_, _≤_, _<_}
@@ -14,6 +14,16 @@ use lib.Seq.{drop-cons, drop-length, length-take-le, take-suc, append-snoc, set-
 use Rattle.ring.specs.Runs.{copied}
 use Rattle.ring.specs.Lent.{copied-all}
 use Rattle.text.specs.Decimal.{isDigit, areDigits, valueFrom, numberFrom, number, takes, digitsBefore, digitsOf}
+
+-- ---- tests
+
+pub and-first : (a b : Bool) → a && b ≡ true → a ≡ true
+and-first true b h = refl
+and-first false b h = h
+
+pub and-second : (a b : Bool) → a && b ≡ true → b ≡ true
+and-second true b h = h
+and-second false b h = absurd (false≢true h)
 
 -- ---- read
 

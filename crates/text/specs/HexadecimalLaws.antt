@@ -1,6 +1,6 @@
 -- Laws of hexadecimal: a digit and its value, a list by index, and what a loop over it leaves.
 use mathlib.Core.Path.{_≡_, refl, sym, ap, _∙_}
-use mathlib.Core.Bool.{Bool, true, false, _&&_, true≢false, false≢true}
+use mathlib.Core.Bool.{Bool, true, false, _&&_, true≢false}
 use mathlib.Core.List.{List, [], _∷_, _++_}
 use mathlib.Core.Option.{none, some}
 use Prim.Native.Nat.{ℕ, zero, suc, _+_, _-_, _*_, _/_, _%_, _≤_, _<_}
@@ -14,17 +14,8 @@ use lib.ListN.{length, drop, getD, set}
 use lib.Seq.{drop-cons, drop-length}
 use Rattle.ring.specs.Runs.{copied, copied-step}
 use Rattle.ring.specs.Lent.{copied-all}
+use Rattle.text.specs.DecimalLaws.{and-first, and-second}
 use Rattle.text.specs.Hexadecimal.{hexDigit, hexOf, isHex, areHex, arePairs, hexValue, pairs, unhex}
-
--- ---- tests
-
-pub and-first : (a b : Bool) → a && b ≡ true → a ≡ true
-and-first true b h = refl
-and-first false b h = h
-
-pub and-second : (a b : Bool) → a && b ≡ true → b ≡ true
-and-second true b h = h
-and-second false b h = absurd (false≢true h)
 
 -- ---- a digit
 

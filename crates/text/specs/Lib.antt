@@ -4,4 +4,5 @@ pub mod DecimalLaws
 pub mod Hexadecimal
 pub mod HexadecimalLaws
 pub mod Answers
+pub mod SignedLaws
 pub mod RoundTrip

@@ -7,13 +7,15 @@ use Prim.Native.Nat.{ℕ, zero, suc, _+_, _-_, _*_, _/_, _%_, _^_, _≤_, _<_}
 use native.Mathlib.Omega.{arith}
 use native.Mathlib.Decide.{decLt}
 use native.Mathlib.Nat.{lt-trans}
-use lib.Dec.{lit<}
-use borrow.Author.Tests.{lt-ltb, le-ltb, le-leb, eq-eqb}
+use lib.Dec.{leb, ltb, lit<}
+use borrow.Author.Tests.{lt-ltb, le-ltb, le-leb, leb-true, eq-eqb, ne-eqb}
+use lib.IntN.{ℤ, pos, negsuc}
 use lib.ListN.{length, getD}
-use Rattle.text.specs.Decimal.{isDigit, areDigits, valueFrom, numberFrom, number, digitsBefore, digitsOf}
-use Rattle.text.specs.DecimalLaws.{number-from, count-least, count-most}
+use lib.Signed.{mag}
+use Rattle.text.specs.Decimal.{isDigit, areDigits, valueFrom, numberFrom, number, startsMinus, signed, digitsBefore, digitsOf, signedOf}
+use Rattle.text.specs.DecimalLaws.{and-first, and-second, number-from, count-least, count-most}
 use Rattle.text.specs.Hexadecimal.{hexDigit, hexOf, isHex, areHex, arePairs, hexValue, pairs, unhex}
-use Rattle.text.specs.HexadecimalLaws.{and-first, and-second, pairs-even, pairs-hex, value-decimal, value-letter, value-below, digit-decimal, digit-letter, value-digit, hex-length}
+use Rattle.text.specs.HexadecimalLaws.{pairs-even, pairs-hex, value-decimal, value-letter, value-below, digit-decimal, digit-letter, value-digit, hex-length}
 
 -- DECIMAL
 is-digit : (d : ℕ) → d < 10 → isDigit (48 + d) ≡ true
@@ -71,6 +73,27 @@ digits-first n h = before-first n n [] (omega arith) h
 pub digits-zero : digitsOf 0 ≡ 48 ∷ []
 unfolding digitsOf digitsBefore
 digits-zero = refl
+
+-- a minus is no digit, so a number with none is read as such
+first-digit : (s : List ℕ) → 0 < length s → areDigits s ≡ true → startsMinus s ≡ false
+unfolding areDigits
+first-digit [] h d = absurd (omega arith)
+first-digit (b ∷ s) h d =
+    let low = leb-true 48 b (and-first (leb 48 b) (ltb b 58) (and-first (isDigit b) (areDigits s) d)) in
+    ne-eqb b 45 (omega arith)
+
+-- every i32 that is written is read back
+pub signed-back : (n : ℤ) → mag n < 2147483648 → signed (signedOf n) ≡ some n
+unfolding signed signedOf digitsOf areDigits
+signed-back (pos n) h =
+    rw
+    (first-digit (digitsOf n) (count-least n) (before-digits n n [] (omega arith)), number-back 2147483647 n (omega arith))
+    refl
+signed-back (negsuc n) h = rw (number-back 2147483648 (suc n) (omega arith)) refl
+
+pub signed-zero : signed (45 ∷ 48 ∷ []) ≡ some (pos 0)
+unfolding signed number numberFrom areDigits valueFrom
+signed-zero = refl
 
 -- HEXADECIMAL
 digit-value : (d : ℕ) → d < 16 → hexValue (hexDigit d) ≡ d

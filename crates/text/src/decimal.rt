@@ -1,14 +1,21 @@
 // Decimal numbers, read from a text and written into a lent buffer. `0` is 48, `9` is 57.
 ghost use mathlib.Core.Path.{_≡_};
+ghost use mathlib.Core.List.{[], _∷_};
 ghost use Prim.Native.Nat.{_+_, _-_, _≤_, _<_};
 ghost use lib.ListN.{length};
 ghost use Rattle.ring.specs.Runs.{copied};
-ghost use Rattle.text.specs.Decimal.{takes, number, digitsOf};
-ghost use Rattle.text.specs.Answers.{maybeNumber};
+ghost use lib.IntN.{pos, negℤ, natAbs};
+ghost use Rattle.text.specs.Decimal.{takes, number, startsMinus, signed, digitsOf, signedOf};
+ghost use Rattle.text.specs.Answers.{maybeNumber, maybeSigned, AtMost, positive, negative};
 
 pub enum MaybeNumber {
     None,
     Some(u64),
+}
+
+pub enum MaybeSigned {
+    None,
+    Some(i32),
 }
 
 // ---- reading
@@ -51,6 +58,64 @@ pub fn read(text: &[u8], most: u64) -> MaybeNumber
     read
 }
 
+fn plus(n: u64) -> i32
+    requires { ⌜ n < 2147483648 ⌝ }
+    ensures { λ r. ⌜ r ≡ pos n ⌝ }
+{
+    n as i32
+}
+
+fn minus(n: u64) -> i32
+    requires { ⌜ n ≤ 2147483648 ⌝ }
+    ensures { λ r. ⌜ r ≡ negℤ (pos n) ⌝ }
+{
+    if n == 0 {
+        return 0;
+    }
+    !plus(n - 1)
+}
+
+fn positive(n: MaybeNumber) -> MaybeSigned
+    requires { ⌜ AtMost 2147483647 n ⌝ }
+    ensures { λ r. ⌜ r ≡ positive n ⌝ }
+{
+    match n {
+        MaybeNumber::None => MaybeSigned::None,
+        MaybeNumber::Some(m) => MaybeSigned::Some(plus(m)),
+    }
+}
+
+fn negative(n: MaybeNumber) -> MaybeSigned
+    requires { ⌜ AtMost 2147483648 n ⌝ }
+    ensures { λ r. ⌜ r ≡ negative n ⌝ }
+{
+    match n {
+        MaybeNumber::None => MaybeSigned::None,
+        MaybeNumber::Some(m) => MaybeSigned::Some(minus(m)),
+    }
+}
+
+fn starts_minus(text: &[u8]) -> bool
+    ensures { λ r. ⌜ r ≡ startsMinus (now (text .entry)) ⌝ }
+{
+    if text.len() == 0 {
+        return false;
+    }
+    text[0] == 45
+}
+
+// The number that all of text is, with a minus in front or none, if an i32 holds it.
+pub fn read_signed(text: &[u8]) -> MaybeSigned
+    ensures { λ r. ⌜ r ≡ maybeSigned (signed (now (text .entry))) ⌝ }
+{
+    if starts_minus(text) {
+        let n = text.len();
+        negative(read(&text[1..n], 2147483648))
+    } else {
+        positive(read(text, 2147483647))
+    }
+}
+
 // ---- writing
 
 // How many digits n has.
@@ -91,4 +156,34 @@ pub fn write(n: u64, out: &mut [u8], at: usize) -> usize
     let end = at + places(n);
     spell(n, out, end);
     end
+}
+
+// The number without its minus.
+fn magnitude(n: i32) -> u64
+    ensures { λ r. ⌜ r ≡ natAbs n ⌝ }
+{
+    if n < 0 {
+        return (!n) as u64 + 1;
+    }
+    n as u64
+}
+
+fn put_minus(out: &mut [u8], at: usize)
+    requires { ⌜ at < length (now out) ⌝ }
+    ensures { λ _. ⌜ now (out .exit) ≡ copied (now (out .entry)) at (45 ∷ []) 0 1 ⌝ }
+{
+    out[at] = 45;
+}
+
+// Writes n, with a minus in front where it is negative, from index at on, and returns the index behind it.
+pub fn write_signed(n: i32, out: &mut [u8], at: usize) -> usize
+    requires { ⌜ at + 21 ≤ length (now out) ⌝ }
+    ensures { λ _. ⌜ now (out .exit) ≡ copied (now (out .entry)) at (signedOf n) 0 (length (signedOf n)) ⌝ }
+    ensures { λ r. ⌜ r ≡ at + length (signedOf n) ⌝ }
+{
+    if n < 0 {
+        put_minus(out, at);
+        return write(magnitude(n), out, at + 1);
+    }
+    write(magnitude(n), out, at)
 }
