@@ -1,4 +1,5 @@
--- What the contracts of `text` cite (Decimal, Hexadecimal, Answers), and their laws.
+-- What the contracts of `text` cite (Decimal, Hexadecimal, Answers), their laws, what is read back from what is written, and
+-- small examples.
 pub mod Decimal
 pub mod DecimalLaws
 pub mod Hexadecimal
@@ -6,3 +7,4 @@ pub mod HexadecimalLaws
 pub mod Answers
 pub mod SignedLaws
 pub mod RoundTrip
+pub mod Edges

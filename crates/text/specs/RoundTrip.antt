@@ -91,10 +91,6 @@ signed-back (pos n) h =
     refl
 signed-back (negsuc n) h = rw (number-back 2147483648 (suc n) (omega arith)) refl
 
-pub signed-zero : signed (45 ∷ 48 ∷ []) ≡ some (pos 0)
-unfolding signed number numberFrom areDigits valueFrom
-signed-zero = refl
-
 -- HEXADECIMAL
 digit-value : (d : ℕ) → d < 16 → hexValue (hexDigit d) ≡ d
 digit-value d h =
