@@ -1,5 +1,6 @@
 //! Reads a session card from standard input, runs it on the published Rust runner, and prints
-//! one answer a line. With --ring, pending shows what our ring of the input hands back.
+//! one answer a line. With --ring, pending shows what our ring of the input hands back. With
+//! --many, the input holds card after card, each ended by a line `----`, and so do the answers.
 
 mod card;
 mod ring;
@@ -12,21 +13,33 @@ use session::Session;
 /// The number that refuses what is no line of the card.
 const BAD_LINE: u32 = 30;
 
+/// With --many, the line that ends a card and its answers.
+const SEPARATOR: &[u8] = b"----";
+
 fn main() -> io::Result<()> {
-    let flags: Vec<String> = std::env::args().skip(1).collect();
-    let as_ring = match flags.iter().map(String::as_str).collect::<Vec<_>>()[..] {
-        [] => false,
-        ["--ring"] => true,
-        _ => {
-            eprintln!("usage: oracle [--ring] <CARD");
-            std::process::exit(2);
+    let (mut as_ring, mut many) = (false, false);
+    for flag in std::env::args().skip(1) {
+        match flag.as_str() {
+            "--ring" => as_ring = true,
+            "--many" => many = true,
+            _ => {
+                eprintln!("usage: oracle [--ring] [--many] <CARD");
+                std::process::exit(2);
+            }
         }
-    };
+    }
     let mut input = io::stdin().lock();
     let mut output = io::BufWriter::new(io::stdout().lock());
     let mut session = None;
     let mut number = 0u64;
-    while let Some(line) = read_line(&mut input)? {
+    let mut line = Vec::new();
+    while read_line(&mut input, &mut line)? {
+        if many && line == SEPARATOR {
+            (session, number) = (None, 0);
+            output.write_all(SEPARATOR)?;
+            output.write_all(b"\n")?;
+            continue;
+        }
         number += 1;
         let answer = if number == 1 {
             open(&mut session, &line, as_ring)
@@ -41,14 +54,14 @@ fn main() -> io::Result<()> {
     output.flush()
 }
 
-/// The next line, without the byte 0a that ends it, or none at the end of the input.
-fn read_line(input: &mut impl BufRead) -> io::Result<Option<Vec<u8>>> {
-    let mut line = Vec::new();
-    if input.read_until(b'\n', &mut line)? == 0 {
-        return Ok(None);
+/// Reads the next line, without the byte 0a that ends it, unless the input is at its end.
+fn read_line(input: &mut impl BufRead, line: &mut Vec<u8>) -> io::Result<bool> {
+    line.clear();
+    if input.read_until(b'\n', line)? == 0 {
+        return Ok(false);
     }
     line.pop_if(|byte| *byte == b'\n');
-    Ok(Some(line))
+    Ok(true)
 }
 
 /// Answers the first line, which alone opens the session.
