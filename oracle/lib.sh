@@ -1,0 +1,32 @@
+# What the scripts here share. They run in the folder oracle.
+# The published sources stand in the folder NVX_SRC (default: shared/docs/src beside the repository).
+cd "$(dirname "$0")"
+exec_rs="$(cd "${NVX_SRC:-../../shared/docs/src}" && pwd)/nvx-rs/src/exec"
+
+# Lays out the library in target/$1: the published files as they are, ours beside them, with the
+# time of nvx/$2.rs.
+lay_out() {
+    rm -rf "target/$1"
+    mkdir -p "target/$1"
+    cp -r "$exec_rs" "target/$1/exec"
+    chmod -R u+w "target/$1/exec"
+    cp nvx/peer.rs "target/$1/exec/peer.rs"
+    cp nvx/lib.rs "target/$1/lib.rs"
+    cp "nvx/$2.rs" "target/$1/time.rs"
+    # The one change, with u64 time alone: Instant comes from nvx/nanos.rs.
+    if [ "$2" = nanos ]; then
+        sed -i 's/^use std::time::/use crate::time::/' "target/$1/exec/mod.rs" "target/$1/exec/runner.rs"
+    fi
+}
+
+# Compiles the library in target/$1, and over it the program target/$2.
+compile() {
+    rustc --edition 2024 -O --crate-type rlib --crate-name nvx --cap-lints allow \
+        -o "target/$1/libnvx.rlib" "target/$1/lib.rs"
+    rustc --edition 2024 -O --extern "nvx=target/$1/libnvx.rlib" -o "target/$2" src/main.rs
+}
+
+# Compiles one of our own programs, src/$1.rs.
+tool() {
+    rustc --edition 2024 -O -o "target/$1" "src/$1.rs"
+}
