@@ -19,14 +19,18 @@ lay_out() {
     fi
 }
 
+rust() {
+    rustc --edition 2024 -O -C codegen-units=1 -C strip=symbols "$@"
+}
+
 # Compiles the library in target/$1, and over it the program target/$2.
 compile() {
-    rustc --edition 2024 -O --crate-type rlib --crate-name nvx --cap-lints allow \
+    rust --crate-type rlib --crate-name nvx --cap-lints allow \
         -o "target/$1/libnvx.rlib" "target/$1/lib.rs"
-    rustc --edition 2024 -O --extern "nvx=target/$1/libnvx.rlib" -o "target/$2" src/main.rs
+    rust --extern "nvx=target/$1/libnvx.rlib" -o "target/$2" src/main.rs
 }
 
 # Compiles one of our own programs, src/$1.rs.
 tool() {
-    rustc --edition 2024 -O -o "target/$1" "src/$1.rs"
+    rust -o "target/$1" "src/$1.rs"
 }

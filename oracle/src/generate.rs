@@ -31,39 +31,20 @@ const POOLS: [&str; 4] = ["Stdout", "Stderr", "Output", "Input"];
 const CAUSES: [&str; 5] = ["Cancelled", "Dropped", "TimedOut", "Reset", "Disconnected"];
 
 /// The calls of a card after open, and one more: a line that is most likely bad.
-const CALLS: [&str; 30] = [
-    "credit",
-    "input",
-    "end_input",
-    "cancel",
-    "launched",
-    "read_allowance",
-    "output",
-    "discarded",
-    "output_closed",
-    "output_failed",
-    "output_hung_up",
-    "pending_input",
-    "input_written",
-    "input_closed",
-    "exited",
-    "settled",
-    "dropped",
-    "reset",
-    "disconnect",
-    "tick",
-    "deadline",
-    "request",
-    "message",
-    "is_finished",
-    "is_detached",
-    "awaits_settlement",
-    "memory_bound",
-    "buffered",
-    "high_water",
-    BAD,
-];
+const CALLS: &str = "credit input end_input cancel launched read_allowance output discarded \
+    output_closed output_failed output_hung_up pending_input input_written input_closed exited \
+    settled dropped reset disconnect tick deadline request message is_finished is_detached \
+    awaits_settlement memory_bound buffered high_water bad";
 const BAD: &str = "bad";
+
+/// What a card may be about: calls that it makes much oftener than others.
+const THEMES: [&str; 5] = [
+    "",
+    "",
+    "output credit message",
+    "input input_written message",
+    "tick exited settled request deadline",
+];
 
 fn main() -> io::Result<()> {
     let arguments: Vec<String> = std::env::args().skip(1).collect();
@@ -87,11 +68,11 @@ struct Card {
     random: Random,
     far: bool,
     model: Model,
-    /// How often this card makes each call, beside what its state asks for; none: all alike.
-    moods: Option<[u64; CALLS.len()]>,
+    /// How much this card heeds, for each call, what its state asks for: 0 is not at all.
+    moods: Vec<u64>,
     /// How rarely it makes calls that lead to its end.
     patience: u64,
-    /// One line in so many has a wrong key, pool or length, or is no line at all.
+    /// One line in so many has a wrong key, pool or length.
     slip: u64,
     /// One line in so many is followed by one that asks and does little else.
     probe: u64,
@@ -105,9 +86,17 @@ impl Card {
         let mut random = Random::new(seed);
         // Near and far cards of one seed have nothing in common.
         let mut random = Random::new(random.next() ^ u64::from(far));
-        let moods = [0, 4, 8, 8, 8, 16];
+        let moods: &[u64] = match random.once_in(5) {
+            true => &[0],
+            false => &[0, 4, 8, 8, 8, 16],
+        };
+        let theme = random.pick(&THEMES);
+        let mood = |call: &str| match theme.split(' ').any(|word| word == call) {
+            true => 40,
+            false => random.pick(moods),
+        };
         let mut card = Card {
-            moods: (!random.once_in(5)).then(|| [(); CALLS.len()].map(|()| random.pick(&moods))),
+            moods: CALLS.split(' ').map(mood).collect(),
             patience: random.pick(&[1, 1, 4, 16]),
             slip: random.pick(&[5, 20, 100, 1000]),
             probe: random.pick(&[2, 5, 20, 1000]),
@@ -124,7 +113,7 @@ impl Card {
     fn write(&mut self) {
         let opened = self.open();
         let lines = match opened {
-            true => self.random.pick(&[6, 15, 30, 50, 80]),
+            true => self.random.pick(&[6, 20, 40, 60, 80]),
             false => 4,
         };
         for _ in 0..self.random.from_to(lines / 3, lines) {
@@ -239,11 +228,10 @@ impl Card {
 
     /// One line of any kind, and then perhaps one that asks.
     fn any_line(&mut self) {
-        let weights = match self.moods {
-            None => [1; CALLS.len()],
-            Some(moods) => std::array::from_fn(|call| moods[call] * self.weight(CALLS[call]) + 1),
-        };
-        let call = CALLS[self.random.weighed(&weights)];
+        let calls: Vec<&str> = CALLS.split(' ').collect();
+        let weight = |(call, mood): (&&str, &u64)| mood * self.weight(call) + 1;
+        let weights: Vec<u64> = calls.iter().zip(&self.moods).map(weight).collect();
+        let call = calls[self.random.weighed(&weights)];
         self.call(call);
         if self.random.once_in(self.probe) {
             self.ask();
@@ -274,10 +262,11 @@ impl Card {
         // Once something ended, the rest follows soon.
         let end = |weight: u64| weight * 16 / if ending { 1 } else { self.patience };
         16 * match call {
-            "message" => when(model.ready(), 60, 8),
+            "message" => when(model.ready(), 60, 3),
             "output" => when(closed, 3, 40),
             "credit" => when(room(0) || !model.open.shared && room(1), 30, 3),
-            "input" => when(model.granted > 0 && !model.input_closed, 40, 3),
+            "input" if model.input_closed || model.peer_ended => 3,
+            "input" => when(model.granted > 0, 40, 10),
             "input_written" => when(model.waiting() > 0, 30, 2),
             "tick" => when(model.deadlines().is_empty(), 4, 16),
             "request" | "deadline" => when(ending, 12, 4),
@@ -291,7 +280,8 @@ impl Card {
             "discarded" => when(all(|stream| !stream.discarding), 1, 8),
             "cancel" => return end(when(model.begun, 2, 5)),
             "dropped" | "reset" | "disconnect" => return end(when(model.detached, 1, 2)),
-            "end_input" | "input_closed" => return end(when(model.input_closed, 1, 3)),
+            "end_input" => return end(when(model.input_closed || model.peer_ended, 1, 6)),
+            "input_closed" => return end(when(model.input_closed, 1, 2)),
             _ => 1,
         }
     }
@@ -305,7 +295,7 @@ impl Card {
             "credit" => self.credit(stream, slip),
             "input" => {
                 let chunk = self.model.open.chunk;
-                let length = self.length(slip, chunk.min(self.model.granted), chunk);
+                let length = self.length(slip, chunk.min(self.model.granted).max(1), chunk);
                 let (key, own) = self.key();
                 if own {
                     self.model.input(length);
@@ -456,7 +446,7 @@ impl Card {
     fn key(&mut self) -> (String, bool) {
         let (own_id, own_generation) = (self.model.open.id, self.model.open.generation);
         let (mut id, mut generation) = (own_id, own_generation);
-        if self.random.once_in(2 * self.slip) {
+        if self.random.once_in(self.slip) {
             match self.random.below(4) {
                 0 => id = self.random.pick(&[0, 7, 8, u64::MAX]),
                 1 => generation = self.random.next(),
@@ -472,7 +462,7 @@ impl Card {
     fn length(&mut self, slip: bool, room: u64, chunk: u64) -> u64 {
         let length = match self.random.below(8) {
             _ if slip => self.random.pick(&[0, chunk, chunk + 1]),
-            0 => self.random.pick(&[room + 1, chunk]),
+            0 => self.random.pick(&[0, room + 1, chunk]),
             1 | 2 => room,
             _ => self.random.from_to(room.min(1), room.min(20)),
         };
@@ -669,28 +659,9 @@ impl Card {
         let random = &mut self.random;
         let mut fields: Vec<&str> = line.split(',').collect();
         let place = random.below(fields.len() as u64) as usize;
-        let numbers = [
-            "",
-            "-",
-            "0",
-            "00",
-            "-0",
-            "-1",
-            "+1",
-            " 1",
-            "1 ",
-            "--1",
-            "0x1",
-            "1e3",
-            "2147483647",
-            "2147483648",
-            "-2147483648",
-            "-2147483649",
-            "4294967295",
-            "4294967296",
-            "18446744073709551616",
-            "99999999999999999999",
-        ];
+        let numbers = ",-,0,00,-0,-1,+1, 1,1 ,--1,0x1,1e3,2147483647,2147483648,-2147483648,\
+            -2147483649,4294967295,4294967296,18446744073709551616,99999999999999999999";
+        let numbers: Vec<&str> = numbers.split(',').collect();
         match random.below(12) {
             0 | 1 => fields.insert(place, fields[place]),
             2 | 3 => _ = fields.remove(place),
