@@ -1,8 +1,9 @@
 #!/bin/sh
 # Counts how often each side of each branch of the runner is taken by COUNT near and COUNT far
 # cards from SEED on. Prints the sides never taken, then how many there are in all; the counts
-# stay in target/branches.txt: how often taken, how often not, where, the branch.
-#     NVX_SRC=FOLDER oracle/branches.sh [COUNT [SEED]]
+# stay in target/branches.txt: how often taken, how often not, where, the branch. With `sample`
+# for COUNT the cards are those of sample/.
+#     NVX_SRC=FOLDER oracle/branches.sh [COUNT|sample [SEED]]
 set -e
 . "$(dirname "$0")/lib.sh"
 count="${1:-100000}"
@@ -20,7 +21,12 @@ for file in runner.rs credit.rs credit/inbox.rs credit/receiver.rs credit/sender
     cat target/branches.more >>target/branches.list
 done
 compile counted counted-oracle
-{ target/generate "$seed" "$count"; target/generate "$seed" "$count" --far; } |
+if [ "$count" = sample ]; then
+    cat sample/near.cards sample/far.cards
+else
+    target/generate "$seed" "$count"
+    target/generate "$seed" "$count" --far
+fi |
     HITS=target/hits target/counted-oracle --ring --many >/dev/null
 # The list names as many branches as there are; an arm of a match has no other side.
 awk '
