@@ -1,0 +1,200 @@
+-- A line of the card as a call: fields in fixed order parted by commas, no quoting. What is no line of the card is none (30).
+use mathlib.Core.Bool.{Bool, true, false, cond, _&&_}
+use mathlib.Core.List.{List, [], _∷_}
+use mathlib.Core.Option.{Option, none, some, Option·map}
+use Prim.Native.Nat.{ℕ, zero, suc, _-_, _^_}
+use lib.Dec.{eqb}
+use lib.ListN.{length, getD}
+use Rattle.exec.specs.declared.LaunchResult.{LaunchResult}
+use Rattle.exec.specs.declared.LaunchResult.the-variants as LaunchResult
+use Rattle.exec.specs.declared.Limits.{Limits}
+use Rattle.exec.specs.declared.MaybeDuration.{MaybeDuration}
+use Rattle.exec.specs.declared.MaybeDuration.the-variants as MaybeDuration
+use Rattle.exec.specs.declared.MaybeStatus.{MaybeStatus}
+use Rattle.exec.specs.declared.MaybeStatus.the-variants as MaybeStatus
+use Rattle.exec.specs.declared.Status.the-variants as Status
+use Rattle.exec.specs.declared.Timers.{Timers}
+use Rattle.exec.specs.declared.Window.{Window}
+use Rattle.exec.specs.Key.{newKey}
+use Rattle.text.specs.Decimal.{number, signed}
+use Rattle.text.specs.Hexadecimal.{unhex}
+use Rattle.account.specs.Call as Call
+use Rattle.account.specs.Call.{Conf, Call}
+use Rattle.card.specs.Words.{bytes, same, stream, pool, cause, settlement, unit}
+
+-- all the fields of a line have to be good
+abbrev pub on : {A B : Type 0} → Option A → (A → Option B) → Option B
+on none f = none
+on (some x) f = f x
+
+-- ---- fields
+
+-- a byte in front of the first field
+abbrev pub inFirst : ℕ → List (List ℕ) → List (List ℕ)
+inFirst b [] = (b ∷ []) ∷ []
+inFirst b (f ∷ fs) = (b ∷ f) ∷ fs
+
+-- cut at every comma (44): one field more than there are commas
+unfoldable pub fields : (line : List ℕ) → List (List ℕ)
+fields [] = [] ∷ []
+fields (b ∷ s) = cond (eqb b 44) ([] ∷ fields s) (inFirst b (fields s))
+
+-- ---- values: numbers within their types, bytes in hexadecimal, `-` for what is missing
+
+abbrev pub u64 : List ℕ → Option ℕ
+u64 field = number (2 ^ 64 - 1) field
+
+abbrev pub u32 : List ℕ → Option ℕ
+u32 field = number (2 ^ 32 - 1) field
+
+abbrev pub missing : List ℕ → Bool
+missing field = same field (bytes "-")
+
+-- 0 or 1
+unfoldable pub digit : List ℕ → Option Bool
+digit field = cond (same field (bytes "0")) (some false) (cond (same field (bytes "1")) (some true) none)
+
+-- the length of a message's buffer
+abbrev pub messageLength : List ℕ → Option ℕ
+messageLength field = number 16384 field
+
+-- Status is E or S with a number, or missing
+unfoldable pub status : List ℕ → Option MaybeStatus
+status [] = none
+status (b ∷ rest) =
+    cond (missing (b ∷ rest)) (some MaybeStatus.None)
+    (cond (eqb b 69) (Option·map (λ n. MaybeStatus.Some (Status.Exited n)) (signed rest))
+    (cond (eqb b 83) (Option·map (λ n. MaybeStatus.Some (Status.Signaled n)) (signed rest))
+    none))
+
+-- only the timeout may be missing
+unfoldable pub timeout : List ℕ → Option MaybeDuration
+timeout field = cond (missing field) (some MaybeDuration.None) (Option·map MaybeDuration.Some (u64 field))
+
+-- a launch result: OK 0 with nothing else, or 1 with stage and error
+unfoldable pub launchResult : (ok stage error : List ℕ) → Option LaunchResult
+launchResult ok stage error =
+    on (digit ok) λ failed.
+    cond failed
+    (on (u32 stage) λ n. on (signed error) λ e. some (LaunchResult.Failed (record { stage = n; error = e })))
+    (cond (missing stage && missing error) (some LaunchResult.Started) none)
+
+-- ---- calls: the method's name, and its arguments as in the Rust, a key as two fields
+
+-- a name, and the call that it makes
+pub record Entry (A : Type 0) : Type 0 where
+  pub name : List ℕ
+  pub call : A
+
+abbrev pub entry : {A : Type 0} → List ℕ → A → Entry A
+entry name call = record { name = name; call = call }
+
+unfoldable pub find : {A : Type 0} → (field : List ℕ) → List (Entry A) → Option A
+find field [] = none
+find field (e ∷ es) = cond (same field (e .name)) (some (e .call)) (find field es)
+
+-- with no argument
+abbrev pub plainCalls : List (Entry Call)
+plainCalls =
+    entry (bytes "pending_input") Call.pendingInput
+    ∷ entry (bytes "input_closed") Call.inputClosed
+    ∷ entry (bytes "deadline") Call.deadline
+    ∷ entry (bytes "request") Call.nextRequest
+    ∷ entry (bytes "is_finished") Call.isFinished
+    ∷ entry (bytes "is_detached") Call.isDetached
+    ∷ entry (bytes "awaits_settlement") Call.awaitsSettlement
+    ∷ entry (bytes "memory_bound") Call.memoryBound
+    ∷ entry (bytes "buffered") Call.buffered
+    ∷ entry (bytes "high_water") Call.highWater
+    ∷ []
+
+-- a buffer of so many bytes
+abbrev pub zeros : ℕ → List ℕ
+zeros zero = []
+zeros (suc n) = 0 ∷ zeros n
+
+-- with one
+abbrev pub calls1 : List (Entry (List ℕ → Option Call))
+calls1 =
+    entry (bytes "read_allowance") (λ a. Option·map Call.readAllowance (stream a))
+    ∷ entry (bytes "output_closed") (λ a. Option·map Call.outputClosed (stream a))
+    ∷ entry (bytes "output_failed") (λ a. Option·map Call.outputFailed (stream a))
+    ∷ entry (bytes "output_hung_up") (λ a. Option·map Call.outputHungUp (stream a))
+    ∷ entry (bytes "input_written") (λ a. Option·map Call.inputWritten (u64 a))
+    ∷ entry (bytes "settled") (λ a. Option·map Call.settled (settlement a))
+    ∷ entry (bytes "dropped") (λ a. Option·map Call.dropped (u64 a))
+    ∷ entry (bytes "reset") (λ a. Option·map Call.reset (u64 a))
+    ∷ entry (bytes "disconnect") (λ a. Option·map Call.disconnect (u64 a))
+    ∷ entry (bytes "tick") (λ a. Option·map Call.tick (u64 a))
+    ∷ entry (bytes "message") (λ a. Option·map (λ n. Call.nextMessage (zeros n)) (messageLength a))
+    ∷ []
+
+-- two
+abbrev pub calls2 : List (Entry (List ℕ → List ℕ → Option Call))
+calls2 =
+    entry (bytes "end_input") (λ a b. on (u64 a) λ id. on (u64 b) λ generation. some (Call.endInput (newKey id generation)))
+    ∷ entry (bytes "output") (λ a b. on (stream a) λ x. on (unhex b) λ bs. some (Call.output x bs))
+    ∷ entry (bytes "discarded") (λ a b. on (stream a) λ x. on (u64 b) λ n. some (Call.discarded x n))
+    ∷ entry (bytes "exited") (λ a b. on (u64 a) λ now. on (status b) λ x. some (Call.exited now x))
+    ∷ []
+
+-- three
+abbrev pub calls3 : List (Entry (List ℕ → List ℕ → List ℕ → Option Call))
+calls3 =
+    entry (bytes "launched") (λ a b c. Option·map Call.launched (launchResult a b c))
+    ∷ entry (bytes "input") (λ a b c. on (u64 a) λ id. on (u64 b) λ generation. on (unhex c) λ bs. some (Call.input (newKey id generation) bs))
+    ∷ []
+
+-- four
+abbrev pub calls4 : List (Entry (List ℕ → List ℕ → List ℕ → List ℕ → Option Call))
+calls4 =
+    entry (bytes "credit") (λ a b c d. on (u64 a) λ id. on (u64 b) λ generation. on (pool c) λ p. on (u32 d) λ n. some (Call.credit (newKey id generation) p n))
+    ∷ entry (bytes "cancel") (λ a b c d. on (u64 a) λ now. on (u64 b) λ id. on (u64 c) λ generation. on (cause d) λ x. some (Call.cancel now (newKey id generation) x))
+    ∷ []
+
+unfoldable pub callOf : List (List ℕ) → Option Call
+callOf [] = none
+callOf (name ∷ []) = find name plainCalls
+callOf (name ∷ a ∷ []) = on (find name calls1) λ f. f a
+callOf (name ∷ a ∷ b ∷ []) = on (find name calls2) λ f. f a b
+callOf (name ∷ a ∷ b ∷ c ∷ []) = on (find name calls3) λ f. f a b c
+callOf (name ∷ a ∷ b ∷ c ∷ d ∷ []) = on (find name calls4) λ f. f a b c d
+callOf (name ∷ a ∷ b ∷ c ∷ d ∷ e ∷ rest) = none
+
+-- the call of a line
+abbrev pub lineCall : (line : List ℕ) → Option Call
+lineCall line = callOf (fields line)
+
+-- ---- open
+
+-- what open is given: key, limits and timers, and the time
+pub record Opening : Type 0 where
+  pub conf : Conf
+  pub now : ℕ
+
+abbrev pub window : (unit size : List ℕ) → Option Window
+window u n = on (unit u) λ x. on (u32 n) λ k. some (record { unit = x; size = k })
+
+abbrev pub timers : (timeoutIn grace settlementIn : List ℕ) → Option Timers
+timers t g s = on (timeout t) λ x. on (u64 g) λ y. on (u64 s) λ z. some (record { timeout = x; grace = y; settlement = z })
+
+abbrev pub limits : (chunk unit1 size1 unit2 size2 shared : List ℕ) → Option Limits
+limits c u1 n1 u2 n2 sh =
+    on (u32 c) λ chunk. on (window u1 n1) λ i. on (window u2 n2) λ o. on (digit sh) λ b.
+    some (record { chunk = chunk; input = i; output = o; shared = b })
+
+-- the field at a place
+abbrev pub at : List (List ℕ) → ℕ → List ℕ
+at fs i = getD fs i []
+
+-- open,NOW,ID,GENERATION,CHUNK,UNIT,SIZE,UNIT,SIZE,SHARED,TIMEOUT,GRACE,SETTLEMENT
+unfoldable pub openOf : List (List ℕ) → Option Opening
+openOf fs =
+    cond (eqb (length fs) 13 && same (at fs 0) (bytes "open"))
+    (on (u64 (at fs 1)) λ now. on (u64 (at fs 2)) λ id. on (u64 (at fs 3)) λ generation.
+    on (limits (at fs 4) (at fs 5) (at fs 6) (at fs 7) (at fs 8) (at fs 9)) λ l. on (timers (at fs 10) (at fs 11) (at fs 12)) λ t.
+    some (record { conf = record { key = newKey id generation; limits = l; timers = t }; now = now }))
+    none
+
+abbrev pub lineOpen : (line : List ℕ) → Option Opening
+lineOpen line = openOf (fields line)

@@ -1,0 +1,77 @@
+-- The words of the card: every name stands here once, and is read and written by it.
+use mathlib.Core.Bool.{Bool, true, false, cond, _&&_}
+use mathlib.Core.List.{List, [], _∷_}
+use mathlib.Core.Option.{Option, none, some}
+use Prim.Native.Char.{code}
+use Prim.Native.Nat.{ℕ}
+use Prim.Native.String as Text
+use Prim.Native.String.{String}
+use lib.Dec.{eqb}
+use Rattle.exec.specs.declared.Cause.{Cause}
+use Rattle.exec.specs.declared.Cause.the-variants as Cause
+use Rattle.exec.specs.declared.Pool.{Pool}
+use Rattle.exec.specs.declared.Pool.the-variants as Pool
+use Rattle.exec.specs.declared.Settlement.{Settlement}
+use Rattle.exec.specs.declared.Settlement.the-variants as Settlement
+use Rattle.exec.specs.declared.Stream.{Stream}
+use Rattle.exec.specs.declared.Stream.the-variants as Stream
+use Rattle.exec.specs.declared.Unit as Units
+use Rattle.exec.specs.declared.Unit.the-variants as Unit
+
+-- the bytes of a text
+unfoldable pub bytes : String → List ℕ
+bytes Text.[] = []
+bytes (Text._∷_ c s) = code c ∷ bytes s
+
+-- two texts are the same
+unfoldable pub same : List ℕ → List ℕ → Bool
+same [] [] = true
+same [] (c ∷ t) = false
+same (b ∷ s) [] = false
+same (b ∷ s) (c ∷ t) = eqb b c && same s t
+
+-- ---- names, and what is named: the first of a list whose name a field is
+
+abbrev pub streamName : Stream → List ℕ
+streamName Stream.Stdout = bytes "Stdout"
+streamName Stream.Stderr = bytes "Stderr"
+
+abbrev pub poolName : Pool → List ℕ
+poolName Pool.Input = bytes "Input"
+poolName Pool.Stdout = bytes "Stdout"
+poolName Pool.Stderr = bytes "Stderr"
+poolName Pool.Output = bytes "Output"
+
+abbrev pub causeName : Cause → List ℕ
+causeName Cause.Cancelled = bytes "Cancelled"
+causeName Cause.Dropped = bytes "Dropped"
+causeName Cause.TimedOut = bytes "TimedOut"
+causeName Cause.Reset = bytes "Reset"
+causeName Cause.Disconnected = bytes "Disconnected"
+
+abbrev pub settlementName : Settlement → List ℕ
+settlementName Settlement.Settled = bytes "Settled"
+settlementName Settlement.Failed = bytes "Failed"
+
+abbrev pub unitName : Units.Unit → List ℕ
+unitName Unit.Bytes = bytes "B"
+unitName Unit.Frames = bytes "F"
+
+unfoldable pub named : {A : Type 0} → (A → List ℕ) → List A → (field : List ℕ) → Option A
+named name [] field = none
+named name (x ∷ xs) field = cond (same field (name x)) (some x) (named name xs field)
+
+abbrev pub stream : List ℕ → Option Stream
+stream field = named streamName (Stream.Stdout ∷ Stream.Stderr ∷ []) field
+
+abbrev pub pool : List ℕ → Option Pool
+pool field = named poolName (Pool.Input ∷ Pool.Stdout ∷ Pool.Stderr ∷ Pool.Output ∷ []) field
+
+abbrev pub cause : List ℕ → Option Cause
+cause field = named causeName (Cause.Cancelled ∷ Cause.Dropped ∷ Cause.TimedOut ∷ Cause.Reset ∷ Cause.Disconnected ∷ []) field
+
+abbrev pub settlement : List ℕ → Option Settlement
+settlement field = named settlementName (Settlement.Settled ∷ Settlement.Failed ∷ []) field
+
+abbrev pub unit : List ℕ → Option Units.Unit
+unit field = named unitName (Unit.Bytes ∷ Unit.Frames ∷ []) field
