@@ -365,7 +365,7 @@ fn sent_as(ended: bool, message: Message) -> Sending
             if ended {
                 return Sending::Record(Record::Eof);
             }
-            Sending::Nothing
+            Sending::Nothing // the other stream goes on
         }
         Message::InputClosed => Sending::Nothing,
         Message::Terminal(_) => Sending::Record(Record::Close),
