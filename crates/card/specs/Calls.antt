@@ -1,5 +1,5 @@
--- What a card makes of a runner is a list of calls: the runner and its stores after a card are those after its calls, so that
--- demand 3 holds of what a card prints.
+-- What a card makes of a runner is a list of calls: the runner and its stores after a card are those after its calls. (That the
+-- answers which it prints are those of that list is not stated yet.)
 use mathlib.Core.Bool.{Bool, true, false, cond}
 use mathlib.Core.Path.{_≡_, refl}
 use mathlib.Core.List.{List, [], _∷_, _++_}
