@@ -62,18 +62,18 @@ readAs (Reads.Receipt Receipt.Late) = Call.Late
 readAs Reads.Ok = Call.Ok
 readAs (Reads.Refused x) = Call.Refused (number x)
 
--- the message of a record that was written: the payload of an Output is the last of the record's bytes
-abbrev pub messageIn : Messages.Message → (length : ℕ) (buffer : List ℕ) → Answer
-messageIn (Message.Credit n) length buffer = Call.Says (Call.Credit n)
-messageIn Message.Started length buffer = Call.Says Call.Started
-messageIn (Message.Output x n) length buffer = Call.Says (Call.Output x (drop (length - n) (take length buffer)))
-messageIn (Message.End x) length buffer = Call.Says (Call.End x)
-messageIn Message.InputClosed length buffer = Call.Says Call.InputClosed
-messageIn (Message.Terminal o) length buffer = Call.Says (Call.Terminal o)
+-- the message of a record that was written, of whole bytes: the payload of an Output is the last of them
+abbrev pub messageIn : Messages.Message → (whole : ℕ) (buffer : List ℕ) → Answer
+messageIn (Message.Credit n) whole buffer = Call.Says (Call.Credit n)
+messageIn Message.Started whole buffer = Call.Says Call.Started
+messageIn (Message.Output x n) whole buffer = Call.Says (Call.Output x (drop (whole - n) (take whole buffer)))
+messageIn (Message.End x) whole buffer = Call.Says (Call.End x)
+messageIn Message.InputClosed whole buffer = Call.Says Call.InputClosed
+messageIn (Message.Terminal o) whole buffer = Call.Says (Call.Terminal o)
 
 abbrev pub wroteAs : Wrote → (buffer : List ℕ) → Answer
 wroteAs Wrote.None buffer = Call.Nothing
-wroteAs (Wrote.Message m length) buffer = messageIn m length buffer
+wroteAs (Wrote.Message m whole) buffer = messageIn m whole buffer
 wroteAs (Wrote.Refused x) buffer = Call.Refused (number x)
 
 unfoldable pub answerEntry : State → Entry → Answer
