@@ -109,47 +109,104 @@ plainCalls =
     ∷ []
 
 -- a buffer of so many bytes
-abbrev pub zeros : ℕ → List ℕ
+unfoldable pub zeros : ℕ → List ℕ
 zeros zero = []
 zeros (suc n) = 0 ∷ zeros n
 
 -- with one
+abbrev pub readAllowanceOf : List ℕ → Option Call
+readAllowanceOf a = Option·map Call.readAllowance (stream a)
+
+abbrev pub outputClosedOf : List ℕ → Option Call
+outputClosedOf a = Option·map Call.outputClosed (stream a)
+
+abbrev pub outputFailedOf : List ℕ → Option Call
+outputFailedOf a = Option·map Call.outputFailed (stream a)
+
+abbrev pub outputHungUpOf : List ℕ → Option Call
+outputHungUpOf a = Option·map Call.outputHungUp (stream a)
+
+abbrev pub inputWrittenOf : List ℕ → Option Call
+inputWrittenOf a = Option·map Call.inputWritten (u64 a)
+
+abbrev pub settledOf : List ℕ → Option Call
+settledOf a = Option·map Call.settled (settlement a)
+
+abbrev pub droppedOf : List ℕ → Option Call
+droppedOf a = Option·map Call.dropped (u64 a)
+
+abbrev pub resetOf : List ℕ → Option Call
+resetOf a = Option·map Call.reset (u64 a)
+
+abbrev pub disconnectOf : List ℕ → Option Call
+disconnectOf a = Option·map Call.disconnect (u64 a)
+
+abbrev pub tickOf : List ℕ → Option Call
+tickOf a = Option·map Call.tick (u64 a)
+
+abbrev pub messageOf : List ℕ → Option Call
+messageOf a = Option·map (λ n. Call.nextMessage (zeros n)) (messageLength a)
+
 abbrev pub calls1 : List (Entry (List ℕ → Option Call))
 calls1 =
-    entry (bytes "read_allowance") (λ a. Option·map Call.readAllowance (stream a))
-    ∷ entry (bytes "output_closed") (λ a. Option·map Call.outputClosed (stream a))
-    ∷ entry (bytes "output_failed") (λ a. Option·map Call.outputFailed (stream a))
-    ∷ entry (bytes "output_hung_up") (λ a. Option·map Call.outputHungUp (stream a))
-    ∷ entry (bytes "input_written") (λ a. Option·map Call.inputWritten (u64 a))
-    ∷ entry (bytes "settled") (λ a. Option·map Call.settled (settlement a))
-    ∷ entry (bytes "dropped") (λ a. Option·map Call.dropped (u64 a))
-    ∷ entry (bytes "reset") (λ a. Option·map Call.reset (u64 a))
-    ∷ entry (bytes "disconnect") (λ a. Option·map Call.disconnect (u64 a))
-    ∷ entry (bytes "tick") (λ a. Option·map Call.tick (u64 a))
-    ∷ entry (bytes "message") (λ a. Option·map (λ n. Call.nextMessage (zeros n)) (messageLength a))
+    entry (bytes "read_allowance") readAllowanceOf
+    ∷ entry (bytes "output_closed") outputClosedOf
+    ∷ entry (bytes "output_failed") outputFailedOf
+    ∷ entry (bytes "output_hung_up") outputHungUpOf
+    ∷ entry (bytes "input_written") inputWrittenOf
+    ∷ entry (bytes "settled") settledOf
+    ∷ entry (bytes "dropped") droppedOf
+    ∷ entry (bytes "reset") resetOf
+    ∷ entry (bytes "disconnect") disconnectOf
+    ∷ entry (bytes "tick") tickOf
+    ∷ entry (bytes "message") messageOf
     ∷ []
 
--- two
+-- with two
+abbrev pub endInputOf : List ℕ → List ℕ → Option Call
+endInputOf a b = on (u64 a) λ id. on (u64 b) λ generation. some (Call.endInput (newKey id generation))
+
+abbrev pub outputOf : List ℕ → List ℕ → Option Call
+outputOf a b = on (stream a) λ x. on (unhex b) λ bs. some (Call.output x bs)
+
+abbrev pub discardedOf : List ℕ → List ℕ → Option Call
+discardedOf a b = on (stream a) λ x. on (u64 b) λ n. some (Call.discarded x n)
+
+abbrev pub exitedOf : List ℕ → List ℕ → Option Call
+exitedOf a b = on (u64 a) λ now. on (status b) λ x. some (Call.exited now x)
+
 abbrev pub calls2 : List (Entry (List ℕ → List ℕ → Option Call))
 calls2 =
-    entry (bytes "end_input") (λ a b. on (u64 a) λ id. on (u64 b) λ generation. some (Call.endInput (newKey id generation)))
-    ∷ entry (bytes "output") (λ a b. on (stream a) λ x. on (unhex b) λ bs. some (Call.output x bs))
-    ∷ entry (bytes "discarded") (λ a b. on (stream a) λ x. on (u64 b) λ n. some (Call.discarded x n))
-    ∷ entry (bytes "exited") (λ a b. on (u64 a) λ now. on (status b) λ x. some (Call.exited now x))
+    entry (bytes "end_input") endInputOf
+    ∷ entry (bytes "output") outputOf
+    ∷ entry (bytes "discarded") discardedOf
+    ∷ entry (bytes "exited") exitedOf
     ∷ []
 
--- three
+-- with three
+abbrev pub launchedOf : List ℕ → List ℕ → List ℕ → Option Call
+launchedOf a b c = Option·map Call.launched (launchResult a b c)
+
+abbrev pub inputOf : List ℕ → List ℕ → List ℕ → Option Call
+inputOf a b c = on (u64 a) λ id. on (u64 b) λ generation. on (unhex c) λ bs. some (Call.input (newKey id generation) bs)
+
 abbrev pub calls3 : List (Entry (List ℕ → List ℕ → List ℕ → Option Call))
 calls3 =
-    entry (bytes "launched") (λ a b c. Option·map Call.launched (launchResult a b c))
-    ∷ entry (bytes "input") (λ a b c. on (u64 a) λ id. on (u64 b) λ generation. on (unhex c) λ bs. some (Call.input (newKey id generation) bs))
+    entry (bytes "launched") launchedOf
+    ∷ entry (bytes "input") inputOf
     ∷ []
 
--- four
+-- with four
+abbrev pub creditOf : List ℕ → List ℕ → List ℕ → List ℕ → Option Call
+creditOf a b c d = on (u64 a) λ id. on (u64 b) λ generation. on (pool c) λ p. on (u32 d) λ n. some (Call.credit (newKey id generation) p n)
+
+abbrev pub cancelOf : List ℕ → List ℕ → List ℕ → List ℕ → Option Call
+cancelOf a b c d = on (u64 a) λ now. on (u64 b) λ id. on (u64 c) λ generation. on (cause d) λ x. some (Call.cancel now (newKey id generation) x)
+
 abbrev pub calls4 : List (Entry (List ℕ → List ℕ → List ℕ → List ℕ → Option Call))
 calls4 =
-    entry (bytes "credit") (λ a b c d. on (u64 a) λ id. on (u64 b) λ generation. on (pool c) λ p. on (u32 d) λ n. some (Call.credit (newKey id generation) p n))
-    ∷ entry (bytes "cancel") (λ a b c d. on (u64 a) λ now. on (u64 b) λ id. on (u64 c) λ generation. on (cause d) λ x. some (Call.cancel now (newKey id generation) x))
+    entry (bytes "credit") creditOf
+    ∷ entry (bytes "cancel") cancelOf
     ∷ []
 
 unfoldable pub callOf : List (List ℕ) → Option Call

@@ -1,1 +1,4 @@
-// The session card: what a line and an answer are, and what a session prints, in specs/. It has no code of its own yet.
+// The session card: lines read, calls made of a runner, answers written.
+pub mod fields;
+pub mod lines;
+pub mod words;

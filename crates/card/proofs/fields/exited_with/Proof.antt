@@ -1,0 +1,34 @@
+use mathlib.Core.Path.{_∙_, sym, ap}
+use Rattle.card.specs.Meaning.{signedIs}
+use mathlib.Core.Path.{_≡_}
+use mir.Syntax.{w32}
+use mir.Val.{SFits}
+use mir.ValLaws.{toZ-ofZ}
+use borrow.Author.Needs.{needs}
+use Rattle.card.proofs.fields.exited_with.Statement.{statement}
+use Rattle.card.proofs.fields.exited_with.Tie as tie
+
+integer-requires : tie.Need-integer-requires
+integer-requires c κs = search needs
+
+enum-known-n : tie.Need-enum-known-n
+enum-known-n c = search needs
+
+enum-told : tie.Need-enum-told
+enum-told c = search needs
+
+returns : tie.Need-returns
+returns c =
+    simp
+    (sym (c .before .before .integer .ensures) ∙ ap signedIs (c .enum-told .given .1))
+
+returns-2 : tie.Need-returns-2
+returns-2 c =
+    let fit : SFits w32 (c .before .n .given .0 .0) = search needs in
+    let known : c .known-told .given ≡ c .known-told .given = ? in
+    simp
+    (sym (c .before .before .before .integer .ensures) ∙ ap signedIs (c .before .n .given .1),
+    toZ-ofZ w32 (c .before .n .given .0 .0) fit)
+
+pub exited-with-spec : {M : Type 1} → statement M
+exited-with-spec = tie.close (tie.spec integer-requires enum-known-n enum-told returns returns-2)

@@ -1,0 +1,27 @@
+use mathlib.Core.Path.{_∙_, sym, ap}
+use Rattle.card.specs.Meaning.{signedIs}
+use borrow.Author.Needs.{needs}
+use Rattle.card.proofs.fields.signaled_with.Statement.{statement}
+use Rattle.card.proofs.fields.signaled_with.Tie as tie
+
+integer-requires : tie.Need-integer-requires
+integer-requires c κs = search needs
+
+enum-known-n : tie.Need-enum-known-n
+enum-known-n c = search needs
+
+enum-told : tie.Need-enum-told
+enum-told c = search needs
+
+returns : tie.Need-returns
+returns c =
+    simp
+    (sym (c .before .before .integer .ensures) ∙ ap signedIs (c .enum-told .given .1))
+
+returns-2 : tie.Need-returns-2
+returns-2 c =
+    simp
+    (sym (c .before .before .before .integer .ensures) ∙ ap signedIs (c .before .n .given .1))
+
+pub signaled-with-spec : {M : Type 1} → statement M
+signaled-with-spec = tie.close (tie.spec integer-requires enum-known-n enum-told returns returns-2)

@@ -1,0 +1,25 @@
+use mathlib.Core.Path.{_∙_, sym}
+use borrow.Author.Needs.{needs}
+use Rattle.card.proofs.fields.started.Statement.{statement}
+use Rattle.card.proofs.fields.started.Tie as tie
+
+missing-requires : tie.Need-missing-requires
+missing-requires c κs = search needs
+
+missing-requires-2 : tie.Need-missing-requires-2
+missing-requires-2 c κs = search needs
+
+returns : tie.Need-returns
+returns c =
+    simp
+    (sym (c .before .missing2 .ensures) ∙ c .if1 .taken,
+    c .before .before .missing .ensures)
+
+returns-2 : tie.Need-returns-2
+returns-2 c =
+    simp
+    (sym (c .before .missing2 .ensures) ∙ c .if1 .left,
+    c .before .before .missing .ensures)
+
+pub started-spec : {M : Type 1} → statement M
+started-spec = tie.close (tie.spec missing-requires missing-requires-2 returns returns-2)

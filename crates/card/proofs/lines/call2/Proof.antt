@@ -1,0 +1,94 @@
+use mathlib.Core.Path.{_∙_, sym, ap}
+use Rattle.card.specs.Lines.{callOf}
+use Rattle.card.specs.Meaning.{verb2Is}
+use borrow.Author.Needs.{needs}
+use Rattle.card.proofs.lines.call2.Statement.{statement}
+use Rattle.card.proofs.lines.call2.Tie as tie
+
+verb-of-2-requires : tie.Need-verb-of-2-requires
+verb-of-2-requires c κs = search needs
+
+enum-told : tie.Need-enum-told
+enum-told c = search needs
+
+enum-told-2 : tie.Need-enum-told-2
+enum-told-2 c = search needs
+
+end-input-requires : tie.Need-end-input-requires
+end-input-requires c κs = search needs
+
+enum-told-3 : tie.Need-enum-told-3
+enum-told-3 c = search needs
+
+output-requires : tie.Need-output-requires
+output-requires c κs = search needs
+
+enum-told-4 : tie.Need-enum-told-4
+enum-told-4 c = search needs
+
+discarded-requires : tie.Need-discarded-requires
+discarded-requires c κs = search needs
+
+enum-told-5 : tie.Need-enum-told-5
+enum-told-5 c = search needs
+
+exited-requires : tie.Need-exited-requires
+exited-requires c κs = search needs
+
+returns : tie.Need-returns
+unfolding callOf
+returns c =
+    simp
+    (sym (c .before .before .verb-of-2 .ensures) ∙ ap verb2Is (c .enum-told .given .1))
+
+returns-2 : tie.Need-returns-2
+unfolding callOf
+returns-2 c =
+    simp
+    (sym (c .before .before .before .verb-of-2 .ensures) ∙ ap verb2Is (c .before .enum-told2 .given .1),
+    c .end-input .ensures _)
+
+same-length : tie.Need-same-length
+same-length c = search needs
+
+returns-3 : tie.Need-returns-3
+unfolding callOf
+returns-3 c =
+    simp
+    (sym (c .before .before .before .before .before .before .verb-of-2 .ensures) ∙ ap verb2Is (c .before .before .before .before .enum-told3 .given .1),
+    c .before .before .output .ensures)
+
+returns-4 : tie.Need-returns-4
+unfolding callOf
+returns-4 c =
+    simp
+    (sym (c .before .before .before .verb-of-2 .ensures) ∙ ap verb2Is (c .before .enum-told4 .given .1),
+    c .discarded .ensures _)
+
+returns-5 : tie.Need-returns-5
+unfolding callOf
+returns-5 c =
+    simp
+    (sym (c .before .before .before .verb-of-2 .ensures) ∙ ap verb2Is (c .before .enum-told5 .given .1),
+    c .exited .ensures _)
+
+pub call2-spec : {M : Type 1} → statement M
+call2-spec =
+    tie.close
+    (tie.spec
+    verb-of-2-requires
+    enum-told
+    enum-told-2
+    end-input-requires
+    enum-told-3
+    output-requires
+    enum-told-4
+    discarded-requires
+    enum-told-5
+    exited-requires
+    returns
+    returns-2
+    same-length
+    returns-3
+    returns-4
+    returns-5)

@@ -1,0 +1,62 @@
+use mathlib.Core.Path.{_∙_, sym, ap}
+use Rattle.card.specs.Lines.{callOf}
+use Rattle.card.specs.Meaning.{verb3Is}
+use borrow.Author.Needs.{needs}
+use Rattle.card.proofs.lines.call3.Statement.{statement}
+use Rattle.card.proofs.lines.call3.Tie as tie
+
+verb-of-3-requires : tie.Need-verb-of-3-requires
+verb-of-3-requires c κs = search needs
+
+enum-told : tie.Need-enum-told
+enum-told c = search needs
+
+enum-told-2 : tie.Need-enum-told-2
+enum-told-2 c = search needs
+
+launched-requires : tie.Need-launched-requires
+launched-requires c κs = search needs
+
+enum-told-3 : tie.Need-enum-told-3
+enum-told-3 c = search needs
+
+input-requires : tie.Need-input-requires
+input-requires c κs = search needs
+
+returns : tie.Need-returns
+unfolding callOf
+returns c =
+    simp
+    (sym (c .before .before .verb-of-3 .ensures) ∙ ap verb3Is (c .enum-told .given .1))
+
+returns-2 : tie.Need-returns-2
+unfolding callOf
+returns-2 c =
+    simp
+    (sym (c .before .before .before .verb-of-3 .ensures) ∙ ap verb3Is (c .before .enum-told2 .given .1),
+    c .launched .ensures _)
+
+same-length : tie.Need-same-length
+same-length c = search needs
+
+returns-3 : tie.Need-returns-3
+unfolding callOf
+returns-3 c =
+    simp
+    (sym (c .before .before .before .before .before .before .verb-of-3 .ensures) ∙ ap verb3Is (c .before .before .before .before .enum-told3 .given .1),
+    c .before .before .input .ensures)
+
+pub call3-spec : {M : Type 1} → statement M
+call3-spec =
+    tie.close
+    (tie.spec
+    verb-of-3-requires
+    enum-told
+    enum-told-2
+    launched-requires
+    enum-told-3
+    input-requires
+    returns
+    returns-2
+    same-length
+    returns-3)

@@ -1,0 +1,52 @@
+use mathlib.Core.Path.{_∙_, sym}
+use Rattle.card.specs.Lines.{digit}
+use Rattle.card.specs.Words.{bytes}
+use borrow.Author.Needs.{needs}
+use Rattle.card.proofs.words.flag.Statement.{statement}
+use Rattle.card.proofs.words.flag.Tie as tie
+
+slice-aggregate-is : tie.Need-slice-aggregate-is
+slice-aggregate-is c = search needs
+
+is-requires : tie.Need-is-requires
+is-requires c κs = search needs
+
+returns : tie.Need-returns
+unfolding bytes digit
+returns c =
+    simp
+    (sym (c .before .is .ensures) ∙ c .if1 .taken)
+
+slice-aggregate-is-2 : tie.Need-slice-aggregate-is-2
+slice-aggregate-is-2 c = search needs
+
+is-requires-2 : tie.Need-is-requires-2
+is-requires-2 c κs = search needs
+
+returns-2 : tie.Need-returns-2
+unfolding bytes digit
+returns-2 c =
+    simp (
+      sym (c .before .is2 .ensures) ∙ c .if2 .taken,
+      sym (c .before .before .before .before .is .ensures) ∙ c .before .before .before .if1 .left,
+    )
+
+returns-3 : tie.Need-returns-3
+unfolding bytes digit
+returns-3 c =
+    simp (
+      sym (c .before .is2 .ensures) ∙ c .if2 .left,
+      sym (c .before .before .before .before .is .ensures) ∙ c .before .before .before .if1 .left,
+    )
+
+pub flag-spec : {M : Type 1} → statement M
+flag-spec =
+    tie.close
+    (tie.spec
+    slice-aggregate-is
+    is-requires
+    returns
+    slice-aggregate-is-2
+    is-requires-2
+    returns-2
+    returns-3)

@@ -1,0 +1,51 @@
+use mathlib.Core.Path.{_∙_, sym}
+use Rattle.card.specs.Words.{named, bytes}
+use borrow.Author.Needs.{needs}
+use Rattle.card.proofs.words.stream.Statement.{statement}
+use Rattle.card.proofs.words.stream.Tie as tie
+
+slice-aggregate-is : tie.Need-slice-aggregate-is
+slice-aggregate-is c = search needs
+
+is-requires : tie.Need-is-requires
+is-requires c κs = search needs
+
+returns : tie.Need-returns
+unfolding named bytes
+returns c =
+    simp
+    (sym (c .before .is .ensures) ∙ c .if1 .taken)
+
+slice-aggregate-is-2 : tie.Need-slice-aggregate-is-2
+slice-aggregate-is-2 c = search needs
+
+is-requires-2 : tie.Need-is-requires-2
+is-requires-2 c κs = search needs
+
+returns-2 : tie.Need-returns-2
+unfolding named bytes
+returns-2 c =
+    simp (
+      sym (c .before .is2 .ensures) ∙ c .if2 .taken,
+      sym (c .before .before .before .before .is .ensures) ∙ c .before .before .before .if1 .left,
+    )
+
+returns-3 : tie.Need-returns-3
+unfolding named bytes
+returns-3 c =
+    simp (
+      sym (c .before .is2 .ensures) ∙ c .if2 .left,
+      sym (c .before .before .before .before .is .ensures) ∙ c .before .before .before .if1 .left,
+    )
+
+pub stream-spec : {M : Type 1} → statement M
+stream-spec =
+    tie.close
+    (tie.spec
+    slice-aggregate-is
+    is-requires
+    returns
+    slice-aggregate-is-2
+    is-requires-2
+    returns-2
+    returns-3)

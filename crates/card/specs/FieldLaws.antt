@@ -1,0 +1,71 @@
+-- Where the fields of a line are cut.
+use mathlib.Core.Bool.{Bool, true, false, cond}
+use mathlib.Core.Path.{_≡_, refl, sym, ap, _∙_}
+use mathlib.Core.List.{List, [], _∷_}
+use mathlib.Core.Option.{none}
+use Prim.Native.Nat.{ℕ, suc, _+_, _≤_, _<_}
+use native.Mathlib.Omega.{arith}
+use native.Mathlib.Numerals.{add-one}
+use native.Mathlib.Nat.{zero-add}
+use lib.Dec.{eqb}
+use lib.ListN.{length, take, drop, getD}
+use lib.Seq.{drop-cons, drop-length}
+use Rattle.card.specs.Lines.{inFirst, fields, callOf}
+
+-- the index of the first comma, or the length where there is none
+unfoldable pub commaAt : List ℕ → ℕ
+commaAt [] = 0
+commaAt (b ∷ s) = cond (eqb b 44) 0 (suc (commaAt s))
+
+pub comma-turn : (s : List ℕ) (i : ℕ) → i < length s → commaAt (drop i s) ≡ cond (eqb (getD s i 0) 44) 0 (suc (commaAt (drop (i + 1) s)))
+unfolding commaAt
+comma-turn s i h = rw (drop-cons s i 0 h, add-one) refl
+
+pub comma-end : (s : List ℕ) → commaAt (drop (length s) s) ≡ 0
+unfolding commaAt
+comma-end s = rw (drop-length s) refl
+
+-- no comma: one field
+pub fields-last : (s : List ℕ) → commaAt s ≡ length s → fields s ≡ s ∷ []
+unfolding commaAt fields
+fields-last [] h = refl
+fields-last (b ∷ s) h = by (eqb b 44) (fields-last s) h
+  where
+    by : (e : Bool) → (commaAt s ≡ length s → fields s ≡ s ∷ []) → cond e 0 (suc (commaAt s)) ≡ suc (length s)
+        → cond e ([] ∷ fields s) (inFirst b (fields s)) ≡ (b ∷ s) ∷ []
+    by true f h = absurd (omega arith)
+    by false f h = ap (inFirst b) (f (omega arith))
+
+-- a comma: the field before it, and the fields behind
+cut : (s : List ℕ) → commaAt s < length s → fields s ≡ take (commaAt s) s ∷ fields (drop (suc (commaAt s)) s)
+unfolding commaAt fields
+cut [] h = absurd (omega arith)
+cut (b ∷ s) h = by (eqb b 44) (cut s) h
+  where
+    by : (e : Bool) → (commaAt s < length s → fields s ≡ take (commaAt s) s ∷ fields (drop (suc (commaAt s)) s)) → cond e 0 (suc (commaAt s)) < suc (length s)
+        → cond e ([] ∷ fields s) (inFirst b (fields s)) ≡ take (cond e 0 (suc (commaAt s))) (b ∷ s) ∷ fields (drop (suc (cond e 0 (suc (commaAt s)))) (b ∷ s))
+    by true f h = refl
+    by false f h = ap (inFirst b) (f (omega arith))
+
+pub fields-cut : (s : List ℕ) → commaAt s < length s → fields s ≡ take (commaAt s) s ∷ fields (drop (commaAt s + 1) s)
+fields-cut s h = rw add-one (cut s h)
+
+-- there is a first field always
+pub record Some (fs : List (List ℕ)) : Type 0 where
+  pub head : List ℕ
+  pub tail : List (List ℕ)
+  pub is : fs ≡ head ∷ tail
+
+first-of : (b : ℕ) (e : Bool) (fs : List (List ℕ)) → Some fs → Some (cond e ([] ∷ fs) (inFirst b fs))
+first-of b true fs x = record { head = []; tail = fs; is = refl }
+first-of b false fs x = record { head = b ∷ x .head; tail = x .tail; is = ap (inFirst b) (x .is) }
+
+pub fields-some : (s : List ℕ) → Some (fields s)
+unfolding fields
+fields-some [] = record { head = []; tail = []; is = refl }
+fields-some (b ∷ s) = first-of b (eqb b 44) (fields s) (fields-some s)
+
+-- five arguments or more are none
+pub five-none : (name a b c d t : List ℕ) → callOf (name ∷ a ∷ b ∷ c ∷ d ∷ fields t) ≡ none
+unfolding callOf
+five-none name a b c d t = let f = fields-some t in rw (f .is) refl
