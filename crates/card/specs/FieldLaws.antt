@@ -2,15 +2,17 @@
 use mathlib.Core.Bool.{Bool, true, false, cond}
 use mathlib.Core.Path.{_≡_, refl, sym, ap, _∙_}
 use mathlib.Core.List.{List, [], _∷_}
-use mathlib.Core.Option.{none}
-use Prim.Native.Nat.{ℕ, suc, _+_, _≤_, _<_}
+use mathlib.Core.Option.{none, some}
+use Prim.Native.Nat.{ℕ, suc, _+_, _-_, _≤_, _<_}
 use native.Mathlib.Omega.{arith}
 use native.Mathlib.Numerals.{add-one}
 use native.Mathlib.Nat.{zero-add}
 use lib.Dec.{eqb}
-use lib.ListN.{length, take, drop, getD}
-use lib.Seq.{drop-cons, drop-length}
-use Rattle.card.specs.Lines.{inFirst, fields, callOf}
+use lib.ListN.{length, take, drop, getD, length-drop}
+use lib.Seq.{drop-cons, drop-length, take-all}
+use Rattle.exec.specs.declared.MaybeStatus.the-variants as MaybeStatus
+use Rattle.card.specs.Lines.{inFirst, missing, fields, status, callOf}
+use Rattle.card.specs.Meaning.{exitedWith, signaledWith}
 
 -- the index of the first comma, or the length where there is none
 unfoldable pub commaAt : List ℕ → ℕ
@@ -69,3 +71,27 @@ fields-some (b ∷ s) = first-of b (eqb b 44) (fields s) (fields-some s)
 pub five-none : (name a b c d t : List ℕ) → callOf (name ∷ a ∷ b ∷ c ∷ d ∷ fields t) ≡ none
 unfolding callOf
 five-none name a b c d t = let f = fields-some t in rw (f .is) refl
+
+-- the same with the parts of a line as the code makes them
+pub fields-at : (s : List ℕ) (at n : ℕ) → at ≡ commaAt s → at ≤ length s → n ≡ length s → (at ≡ n → ⊥)
+    → fields s ≡ take (at - 0) s ∷ fields (take (n - (at + 1)) (drop (at + 1) s))
+fields-at s at n e l m ne =
+    let less : commaAt s < length s = omega arith in
+    let start : at - 0 ≡ at = omega arith in
+    let all : take (n - (at + 1)) (drop (at + 1) s) ≡ drop (at + 1) s = take-all (n - (at + 1)) (drop (at + 1) s) (simp length-drop (omega arith)) in
+    fields-cut s less ∙ rw (start, ← e) (ap (λ (t : List ℕ). take at s ∷ fields t) (sym all))
+
+-- a status by its first byte
+pub status-by : (s : List ℕ) (n : ℕ) → n ≡ length s → 1 ≤ n
+    → status s
+    ≡ cond (missing s) (some MaybeStatus.None)
+    (cond (eqb (getD s 0 0) 69) (exitedWith (take (n - 1) (drop 1 s)))
+    (cond (eqb (getD s 0 0) 83) (signaledWith (take (n - 1) (drop 1 s))) none))
+unfolding status
+status-by [] n e h = absurd (omega arith)
+status-by (b ∷ s) n e h = let all : take (n - 1) s ≡ s = take-all (n - 1) s (omega arith) in rw all refl
+
+pub status-none : (s : List ℕ) → length s ≡ 0 → status s ≡ none
+unfolding status
+status-none [] e = refl
+status-none (b ∷ s) e = absurd (omega arith)

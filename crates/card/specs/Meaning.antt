@@ -94,10 +94,6 @@ abbrev pub narrowIs : MaybeU32 → Option ℕ
 narrowIs MaybeU32.None = none
 narrowIs (MaybeU32.Some n) = some n
 
-abbrev pub Narrow : MaybeNumber → Type 0
-Narrow MaybeNumber.None = Unit {0}
-Narrow (MaybeNumber.Some n) = n ≤ 4294967295
-
 abbrev pub signedIs : MaybeSigned → Option ℤ
 signedIs MaybeSigned.None = none
 signedIs (MaybeSigned.Some n) = some n

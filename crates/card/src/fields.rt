@@ -2,6 +2,7 @@
 ghost use mathlib.Core.Path.{_≡_};
 ghost use Prim.Native.Nat.{_≤_, _/_};
 ghost use lib.ListN.{length};
+ghost use Rattle.text.specs.Answers.{AtMost};
 ghost use Rattle.text.specs.Decimal.{signed};
 ghost use Rattle.text.specs.Hexadecimal.{unhex};
 ghost use Rattle.card.specs.Lines.{u64, u32, messageLength, status, timeout, launchResult};
@@ -13,7 +14,6 @@ ghost use Rattle.card.specs.Meaning.{
   timeoutIs,
   launchIs,
   bytesIs,
-  Narrow,
   exitedWith,
   signaledWith,
   failureOf,
@@ -45,7 +45,7 @@ pub enum MaybeU32 {
 }
 
 fn narrowed(n: MaybeNumber) -> MaybeU32
-    requires { ⌜ Narrow n ⌝ }
+    requires { ⌜ AtMost 4294967295 n ⌝ }
     ensures { λ r. ⌜ narrowIs r ≡ numberIs n ⌝ }
 {
     match n {

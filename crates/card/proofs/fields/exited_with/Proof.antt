@@ -1,6 +1,5 @@
 use mathlib.Core.Path.{_∙_, sym, ap}
 use Rattle.card.specs.Meaning.{signedIs}
-use mathlib.Core.Path.{_≡_}
 use mir.Syntax.{w32}
 use mir.Val.{SFits}
 use mir.ValLaws.{toZ-ofZ}
@@ -25,10 +24,10 @@ returns c =
 returns-2 : tie.Need-returns-2
 returns-2 c =
     let fit : SFits w32 (c .before .n .given .0 .0) = search needs in
-    let known : c .known-told .given ≡ c .known-told .given = ? in
-    simp
-    (sym (c .before .before .before .integer .ensures) ∙ ap signedIs (c .before .n .given .1),
-    toZ-ofZ w32 (c .before .n .given .0 .0) fit)
+    simp (
+      sym (c .before .before .before .integer .ensures) ∙ ap signedIs (c .before .n .given .1),
+      toZ-ofZ w32 (c .before .n .given .0 .0) fit,
+    )
 
 pub exited-with-spec : {M : Type 1} → statement M
 exited-with-spec = tie.close (tie.spec integer-requires enum-known-n enum-told returns returns-2)

@@ -1,3 +1,6 @@
+use mir.Syntax.{w32}
+use mir.Val.{SFits}
+use mir.ValLaws.{toZ-ofZ}
 use mathlib.Core.Path.{_∙_, sym, ap}
 use Rattle.card.specs.Meaning.{narrowIs, signedIs}
 use borrow.Author.Needs.{needs}
@@ -29,15 +32,19 @@ enum-told-2 c = search needs
 
 returns-2 : tie.Need-returns-2
 returns-2 c =
-    simp
-    (sym (c .before .before .integer .ensures) ∙ ap signedIs (c .enum-told2 .given .1),
-    sym (c .before .before .before .before .before .before .narrow .ensures) ∙ ap narrowIs (c .before .before .before .before .n .given .1))
+    simp (
+      sym (c .before .before .integer .ensures) ∙ ap signedIs (c .enum-told2 .given .1),
+      sym (c .before .before .before .before .before .before .narrow .ensures) ∙ ap narrowIs (c .before .before .before .before .n .given .1),
+    )
 
 returns-3 : tie.Need-returns-3
 returns-3 c =
-    simp
-    (sym (c .before .before .before .integer .ensures) ∙ ap signedIs (c .before .e .given .1),
-    sym (c .before .before .before .before .before .before .before .narrow .ensures) ∙ ap narrowIs (c .before .before .before .before .before .n .given .1))
+    let fit : SFits w32 (c .before .e .given .0 .0) = search needs in
+    simp (
+      toZ-ofZ w32 (c .before .e .given .0 .0) fit,
+      sym (c .before .before .before .integer .ensures) ∙ ap signedIs (c .before .e .given .1),
+      sym (c .before .before .before .before .before .before .before .narrow .ensures) ∙ ap narrowIs (c .before .before .before .before .before .n .given .1),
+    )
 
 pub failure-spec : {M : Type 1} → statement M
 failure-spec =

@@ -26,10 +26,11 @@ failure-requires c κs = search needs
 returns-2 : tie.Need-returns-2
 unfolding launchResult
 returns-2 c =
-    simp
-    (sym (c .before .before .before .before .before .flag .ensures) ∙ ap flagIs (c .before .before .before .failed .given .1),
-    c .before .if1 .taken,
-    c .failure .ensures)
+    simp (
+      sym (c .before .before .before .before .before .flag .ensures) ∙ ap flagIs (c .before .before .before .failed .given .1),
+      c .before .if1 .taken,
+      c .failure .ensures,
+    )
 
 started-requires : tie.Need-started-requires
 started-requires c κs = search needs
@@ -37,10 +38,11 @@ started-requires c κs = search needs
 returns-3 : tie.Need-returns-3
 unfolding launchResult
 returns-3 c =
-    simp
-    (sym (c .before .before .before .before .before .flag .ensures) ∙ ap flagIs (c .before .before .before .failed .given .1),
-    c .before .if1 .left,
-    c .started .ensures)
+    simp (
+      sym (c .before .before .before .before .before .flag .ensures) ∙ ap flagIs (c .before .before .before .failed .given .1),
+      c .before .if1 .left,
+      c .started .ensures,
+    )
 
 pub launch-result-spec : {M : Type 1} → statement M
 launch-result-spec =

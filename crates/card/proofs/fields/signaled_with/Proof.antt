@@ -1,3 +1,6 @@
+use mir.Syntax.{w32}
+use mir.Val.{SFits}
+use mir.ValLaws.{toZ-ofZ}
 use mathlib.Core.Path.{_∙_, sym, ap}
 use Rattle.card.specs.Meaning.{signedIs}
 use borrow.Author.Needs.{needs}
@@ -20,8 +23,11 @@ returns c =
 
 returns-2 : tie.Need-returns-2
 returns-2 c =
-    simp
-    (sym (c .before .before .before .integer .ensures) ∙ ap signedIs (c .before .n .given .1))
+    let fit : SFits w32 (c .before .n .given .0 .0) = search needs in
+    simp (
+      sym (c .before .before .before .integer .ensures) ∙ ap signedIs (c .before .n .given .1),
+      toZ-ofZ w32 (c .before .n .given .0 .0) fit,
+    )
 
 pub signaled-with-spec : {M : Type 1} → statement M
 signaled-with-spec = tie.close (tie.spec integer-requires enum-known-n enum-told returns returns-2)

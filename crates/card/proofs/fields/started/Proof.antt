@@ -10,16 +10,10 @@ missing-requires-2 : tie.Need-missing-requires-2
 missing-requires-2 c κs = search needs
 
 returns : tie.Need-returns
-returns c =
-    simp
-    (sym (c .before .missing2 .ensures) ∙ c .if1 .taken,
-    c .before .before .missing .ensures)
+returns c = simp (rw (c .before .before .missing .ensures, c .before .missing2 .ensures) at (c .if1 .taken))
 
 returns-2 : tie.Need-returns-2
-returns-2 c =
-    simp
-    (sym (c .before .missing2 .ensures) ∙ c .if1 .left,
-    c .before .before .missing .ensures)
+returns-2 c = simp (rw (c .before .before .missing .ensures, c .before .missing2 .ensures) at (c .if1 .left))
 
 pub started-spec : {M : Type 1} → statement M
 started-spec = tie.close (tie.spec missing-requires missing-requires-2 returns returns-2)

@@ -1,19 +1,15 @@
+use mathlib.Core.Path.{sym}
+use Rattle.card.specs.FieldLaws.{status-none}
 use borrow.Author.Needs.{needs}
 use Rattle.card.proofs.fields.status.Statement.{statement}
 use Rattle.card.proofs.fields.status.Tie as tie
-use Rattle.card.proofs.fields.status.Reads as reads
-use Rattle.card.proofs.fields.status.Lts as lts
-use Rattle.card.proofs.fields.status_by.Reads as status-by-reads
 
--- src/fields.rt:123:9
 returns : tie.Need-returns
-returns c = ?
+returns c = sym (status-none _ (c .if1 .taken))
 
--- src/fields.rt:125:5
 status-by-requires : tie.Need-status-by-requires
 status-by-requires c κs = search needs
 
--- src/fields.rt:119:1
 returns-2 : tie.Need-returns-2
 returns-2 c = search needs
 

@@ -26,16 +26,18 @@ enum-told c = search needs
 returns-2 : tie.Need-returns-2
 unfolding timeout
 returns-2 c =
-    simp
-    (sym (c .before .before .wide .ensures) ∙ ap numberIs (c .enum-told .given .1),
-    sym (c .before .before .before .before .missing .ensures) ∙ c .before .before .before .if1 .left)
+    simp (
+      sym (c .before .before .wide .ensures) ∙ ap numberIs (c .enum-told .given .1),
+      sym (c .before .before .before .before .missing .ensures) ∙ c .before .before .before .if1 .left,
+    )
 
 returns-3 : tie.Need-returns-3
 unfolding timeout
 returns-3 c =
-    simp
-    (sym (c .before .before .before .wide .ensures) ∙ ap numberIs (c .before .n .given .1),
-    sym (c .before .before .before .before .before .missing .ensures) ∙ c .before .before .before .before .if1 .left)
+    simp (
+      sym (c .before .before .before .wide .ensures) ∙ ap numberIs (c .before .n .given .1),
+      sym (c .before .before .before .before .before .missing .ensures) ∙ c .before .before .before .before .if1 .left,
+    )
 
 pub timeout-spec : {M : Type 1} → statement M
 timeout-spec =

@@ -1,17 +1,15 @@
+use mathlib.Core.Path.{ap, _∙_}
+use Rattle.card.specs.Meaning.{numberIs}
+use Rattle.card.specs.WordLaws.{number-is}
 use borrow.Author.Needs.{needs}
 use Rattle.card.proofs.fields.wide.Statement.{statement}
 use Rattle.card.proofs.fields.wide.Tie as tie
-use Rattle.card.proofs.fields.wide.Reads as reads
-use Rattle.card.proofs.fields.wide.Lts as lts
-use Rattle.text.proofs.decimal.read.Reads as read-reads
 
--- src/fields.rt:39:5
 read-requires : tie.Need-read-requires
 read-requires c κs = search needs
 
--- src/fields.rt:36:1
 returns : tie.Need-returns
-returns c = ?
+returns c = ap numberIs (c .read .ensures) ∙ number-is _
 
 pub wide-spec : {M : Type 1} → statement M
 wide-spec = tie.close (tie.spec read-requires returns)

@@ -1,26 +1,28 @@
+use mathlib.Core.Path.{refl, sym, ap, _∙_}
+use mathlib.Core.List.{List, _∷_}
+use Prim.Native.Nat.{ℕ}
+use Rattle.card.specs.Lines.{callOf}
+use Rattle.card.specs.FieldLaws.{fields-last, fields-at, five-none}
 use borrow.Author.Needs.{needs}
 use Rattle.card.proofs.lines.after4.Statement.{statement}
 use Rattle.card.proofs.lines.after4.Tie as tie
-use Rattle.card.proofs.lines.after4.Reads as reads
-use Rattle.card.proofs.lines.after4.Lts as lts
-use Rattle.card.proofs.lines.call4.Reads as call4-reads
-use Rattle.card.proofs.lines.comma.Reads as comma-reads
 
--- src/lines.rt:546:8
 comma-requires : tie.Need-comma-requires
 comma-requires c κs = search needs
 
--- src/lines.rt:547:9
 call4-requires : tie.Need-call4-requires
 call4-requires c κs = search needs
 
--- src/lines.rt:547:9
 returns : tie.Need-returns
-returns c = ?
+returns c w =
+    let a = c .before .before .before .before .before .before .before .before .args in
+    c .call4 .ensures w
+    ∙ ap (λ (fs : List (List ℕ)). callOf (a .name .now ∷ a .a .now ∷ a .b .now ∷ a .c .now ∷ fs)) (sym (fields-last (a .rest .now) (sym (c .before .before .comma .ensures .0) ∙ c .before .if1 .taken)))
 
--- src/lines.rt:543:1
 returns-2 : tie.Need-returns-2
-returns-2 c = ?
+returns-2 c w =
+    let a = c .before .before .before .before .before .before .before .args in
+    sym (ap (λ (fs : List (List ℕ)). callOf (a .name .now ∷ a .a .now ∷ a .b .now ∷ a .c .now ∷ fs)) (fields-at (a .rest .now) _ _ (c .before .comma .ensures .0) (c .before .comma .ensures .1) refl (c .if1 .left)) ∙ five-none _ _ _ _ _ _)
 
 pub after4-spec : {M : Type 1} → statement M
 after4-spec = tie.close (tie.spec comma-requires call4-requires returns returns-2)

@@ -32,9 +32,10 @@ returns c =
 returns-2 : tie.Need-returns-2
 unfolding callOf
 returns-2 c =
-    simp
-    (sym (c .before .before .before .verb-of-3 .ensures) ∙ ap verb3Is (c .before .enum-told2 .given .1),
-    c .launched .ensures _)
+    simp (
+      sym (c .before .before .before .verb-of-3 .ensures) ∙ ap verb3Is (c .before .enum-told2 .given .1),
+      c .launched .ensures (c .before .before .before .before .before .before .before .before .before .args .work .now),
+    )
 
 same-length : tie.Need-same-length
 same-length c = search needs
@@ -42,9 +43,10 @@ same-length c = search needs
 returns-3 : tie.Need-returns-3
 unfolding callOf
 returns-3 c =
-    simp
-    (sym (c .before .before .before .before .before .before .verb-of-3 .ensures) ∙ ap verb3Is (c .before .before .before .before .enum-told3 .given .1),
-    c .before .before .input .ensures)
+    simp (
+      sym (c .before .before .before .before .before .before .verb-of-3 .ensures) ∙ ap verb3Is (c .before .before .before .before .enum-told3 .given .1),
+      c .before .before .input .ensures,
+    )
 
 pub call3-spec : {M : Type 1} → statement M
 call3-spec =

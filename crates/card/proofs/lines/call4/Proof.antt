@@ -32,16 +32,18 @@ returns c w =
 returns-2 : tie.Need-returns-2
 unfolding callOf
 returns-2 c w =
-    simp
-    (sym (c .before .before .before .verb-of-4 .ensures) ∙ ap verb4Is (c .before .enum-told2 .given .1),
-    c .credit .ensures w)
+    simp (
+      sym (c .before .before .before .verb-of-4 .ensures) ∙ ap verb4Is (c .before .enum-told2 .given .1),
+      c .credit .ensures w,
+    )
 
 returns-3 : tie.Need-returns-3
 unfolding callOf
 returns-3 c w =
-    simp
-    (sym (c .before .before .before .verb-of-4 .ensures) ∙ ap verb4Is (c .before .enum-told3 .given .1),
-    c .cancel .ensures w)
+    simp (
+      sym (c .before .before .before .verb-of-4 .ensures) ∙ ap verb4Is (c .before .enum-told3 .given .1),
+      c .cancel .ensures w,
+    )
 
 pub call4-spec : {M : Type 1} → statement M
 call4-spec =

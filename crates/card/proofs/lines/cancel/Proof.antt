@@ -29,9 +29,10 @@ enum-told-2 c = search needs
 
 returns-2 : tie.Need-returns-2
 returns-2 c w =
-    simp
-    (sym (c .before .before .wide2 .ensures) ∙ ap numberIs (c .enum-told2 .given .1),
-    sym (c .before .before .before .before .before .before .wide .ensures) ∙ ap numberIs (c .before .before .before .before .now .given .1))
+    simp (
+      sym (c .before .before .wide2 .ensures) ∙ ap numberIs (c .enum-told2 .given .1),
+      sym (c .before .before .before .before .before .before .wide .ensures) ∙ ap numberIs (c .before .before .before .before .now .given .1),
+    )
 
 wide-requires-3 : tie.Need-wide-requires-3
 wide-requires-3 c κs = search needs
@@ -44,10 +45,11 @@ enum-told-3 c = search needs
 
 returns-3 : tie.Need-returns-3
 returns-3 c w =
-    simp
-    (sym (c .before .before .wide3 .ensures) ∙ ap numberIs (c .enum-told3 .given .1),
-    sym (c .before .before .before .before .before .before .wide2 .ensures) ∙ ap numberIs (c .before .before .before .before .id .given .1),
-    sym (c .before .before .before .before .before .before .before .before .before .before .wide .ensures) ∙ ap numberIs (c .before .before .before .before .before .before .before .before .now .given .1))
+    simp (
+      sym (c .before .before .wide3 .ensures) ∙ ap numberIs (c .enum-told3 .given .1),
+      sym (c .before .before .before .before .before .before .wide2 .ensures) ∙ ap numberIs (c .before .before .before .before .id .given .1),
+      sym (c .before .before .before .before .before .before .before .before .before .before .wide .ensures) ∙ ap numberIs (c .before .before .before .before .before .before .before .before .now .given .1),
+    )
 
 cause-requires : tie.Need-cause-requires
 cause-requires c κs = search needs
@@ -60,23 +62,25 @@ enum-told-4 c = search needs
 
 returns-4 : tie.Need-returns-4
 returns-4 c w =
-    simp
-    (sym (c .before .before .cause .ensures) ∙ ap causeIs (c .enum-told4 .given .1),
-    sym (c .before .before .before .before .before .before .wide3 .ensures) ∙ ap numberIs (c .before .before .before .before .generation .given .1),
-    sym (c .before .before .before .before .before .before .before .before .before .before .wide2 .ensures) ∙ ap numberIs (c .before .before .before .before .before .before .before .before .id .given .1),
-    sym (c .before .before .before .before .before .before .before .before .before .before .before .before .before .before .wide .ensures) ∙ ap numberIs (c .before .before .before .before .before .before .before .before .before .before .before .before .now .given .1))
+    simp (
+      sym (c .before .before .cause .ensures) ∙ ap causeIs (c .enum-told4 .given .1),
+      sym (c .before .before .before .before .before .before .wide3 .ensures) ∙ ap numberIs (c .before .before .before .before .generation .given .1),
+      sym (c .before .before .before .before .before .before .before .before .before .before .wide2 .ensures) ∙ ap numberIs (c .before .before .before .before .before .before .before .before .id .given .1),
+      sym (c .before .before .before .before .before .before .before .before .before .before .before .before .before .before .wide .ensures) ∙ ap numberIs (c .before .before .before .before .before .before .before .before .before .before .before .before .now .given .1),
+    )
 
 new-requires : tie.Need-new-requires
 new-requires c κs = search needs
 
 returns-5 : tie.Need-returns-5
 returns-5 c w =
-    simp
-    (sym (c .before .before .before .before .cause .ensures) ∙ ap causeIs (c .before .before .x .given .1),
-    sym (c .before .before .before .before .before .before .before .before .wide3 .ensures) ∙ ap numberIs (c .before .before .before .before .before .before .generation .given .1),
-    sym (c .before .before .before .before .before .before .before .before .before .before .before .before .wide2 .ensures) ∙ ap numberIs (c .before .before .before .before .before .before .before .before .before .before .id .given .1),
-    sym (c .before .before .before .before .before .before .before .before .before .before .before .before .before .before .before .before .wide .ensures) ∙ ap numberIs (c .before .before .before .before .before .before .before .before .before .before .before .before .before .before .now .given .1),
-    c .new .ensures)
+    simp (
+      sym (c .before .before .before .before .cause .ensures) ∙ ap causeIs (c .before .before .x .given .1),
+      sym (c .before .before .before .before .before .before .before .before .wide3 .ensures) ∙ ap numberIs (c .before .before .before .before .before .before .generation .given .1),
+      sym (c .before .before .before .before .before .before .before .before .before .before .before .before .wide2 .ensures) ∙ ap numberIs (c .before .before .before .before .before .before .before .before .before .before .id .given .1),
+      sym (c .before .before .before .before .before .before .before .before .before .before .before .before .before .before .before .before .wide .ensures) ∙ ap numberIs (c .before .before .before .before .before .before .before .before .before .before .before .before .before .before .now .given .1),
+      c .new .ensures,
+    )
 
 pub cancel-spec : {M : Type 1} → statement M
 cancel-spec =

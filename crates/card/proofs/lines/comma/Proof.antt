@@ -1,41 +1,55 @@
+-- `lines::comma` meets its contract. The invariant: no byte before the i-th is a comma.
+use mathlib.Core.Path.{_≡_, refl, _∙_}
+use Prim.Native.Nat.{suc, _-_, _+_, _≤_}
+use native.Mathlib.Omega.{arith}
+use borrow.Author.Needs.{needs}
+use borrow.Author.Tests.{eq-eqb, ne-eqb}
+use lib.ListN.{length, drop}
+use Rattle.card.specs.FieldLaws.{commaAt, comma-turn, comma-end}
 use Rattle.card.proofs.lines.comma.Statement.{statement}
 use Rattle.card.proofs.lines.comma.Tie as tie
-use Rattle.card.proofs.lines.comma.Reads as reads
-use Rattle.card.proofs.lines.comma.Lts as lts
 
 abbrev Inv-loop : tie.InvT-loop
-Inv-loop text n i₀ i = ?
+Inv-loop text n i₀ i = (i ≤ n) × (n ≡ length text) × (i + commaAt (drop i text) ≡ commaAt text)
 
 abbrev μ-loop : tie.MeasureT-loop
-μ-loop text n i₀ i = ?
+μ-loop text n i₀ i = n - i
 
--- src/lines.rt:534:5
 loop-holds : tie.Need-loop-holds Inv-loop μ-loop
-loop-holds c = ?
+loop-holds c = (omega arith, refl, omega arith)
 
--- src/lines.rt:535:12
 shared-slice-read-if1 : tie.Need-shared-slice-read-if1 Inv-loop μ-loop
-shared-slice-read-if1 c = ?
+shared-slice-read-if1 c = search needs
 
--- src/lines.rt:536:13
 returns : tie.Need-returns Inv-loop μ-loop
-returns c = ?
+returns c =
+    let l = c .before .before .before .loop in
+    let t = c .before .before .before .before .args .text .now in
+    let turn = comma-turn t (l .i) (omega arith) in
+    let e : commaAt (drop (l .i) t) ≡ 0 = turn ∙ simp (eq-eqb _ _ (c .if1 .taken)) in
+    (omega (arith, l .inv .2), omega arith)
 
--- src/lines.rt:538:9
 add-i : tie.Need-add-i Inv-loop μ-loop
-add-i c = ?
+add-i c = search needs
 
--- src/lines.rt:534:5
 loop-less : tie.Need-loop-less Inv-loop μ-loop
-loop-less c = ?
+loop-less c = search needs
 
--- src/lines.rt:534:5
 loop-again : tie.Need-loop-again Inv-loop μ-loop
-loop-again c = ?
+loop-again c =
+    let l = c .before .before .before .loop in
+    let t = c .before .before .before .before .args .text .now in
+    let turn = comma-turn t (l .i) (omega arith) in
+    let e : commaAt (drop (l .i) t) ≡ suc (commaAt (drop (l .i + 1) t)) = turn ∙ simp (ne-eqb _ _ (c .if1 .left)) in
+    (omega arith, l .inv .1, omega (arith, l .inv .2))
 
--- src/lines.rt:529:1
 returns-2 : tie.Need-returns-2 Inv-loop μ-loop
-returns-2 c = ?
+returns-2 c =
+    let l = c .before .loop in
+    let t = c .before .before .args .text .now in
+    let i : l .i ≡ length t = omega arith in
+    let e : commaAt (drop (l .i) t) ≡ 0 = rw i (comma-end t) in
+    (omega (arith, l .inv .2), omega arith)
 
 pub comma-spec : {M : Type 1} → statement M
 comma-spec =

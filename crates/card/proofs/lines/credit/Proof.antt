@@ -29,9 +29,10 @@ enum-told-2 c = search needs
 
 returns-2 : tie.Need-returns-2
 returns-2 c w =
-    simp
-    (sym (c .before .before .wide2 .ensures) ∙ ap numberIs (c .enum-told2 .given .1),
-    sym (c .before .before .before .before .before .before .wide .ensures) ∙ ap numberIs (c .before .before .before .before .id .given .1))
+    simp (
+      sym (c .before .before .wide2 .ensures) ∙ ap numberIs (c .enum-told2 .given .1),
+      sym (c .before .before .before .before .before .before .wide .ensures) ∙ ap numberIs (c .before .before .before .before .id .given .1),
+    )
 
 pool-requires : tie.Need-pool-requires
 pool-requires c κs = search needs
@@ -44,10 +45,11 @@ enum-told-3 c = search needs
 
 returns-3 : tie.Need-returns-3
 returns-3 c w =
-    simp
-    (sym (c .before .before .pool .ensures) ∙ ap poolIs (c .enum-told3 .given .1),
-    sym (c .before .before .before .before .before .before .wide2 .ensures) ∙ ap numberIs (c .before .before .before .before .generation .given .1),
-    sym (c .before .before .before .before .before .before .before .before .before .before .wide .ensures) ∙ ap numberIs (c .before .before .before .before .before .before .before .before .id .given .1))
+    simp (
+      sym (c .before .before .pool .ensures) ∙ ap poolIs (c .enum-told3 .given .1),
+      sym (c .before .before .before .before .before .before .wide2 .ensures) ∙ ap numberIs (c .before .before .before .before .generation .given .1),
+      sym (c .before .before .before .before .before .before .before .before .before .before .wide .ensures) ∙ ap numberIs (c .before .before .before .before .before .before .before .before .id .given .1),
+    )
 
 narrow-requires : tie.Need-narrow-requires
 narrow-requires c κs = search needs
@@ -60,23 +62,25 @@ enum-told-4 c = search needs
 
 returns-4 : tie.Need-returns-4
 returns-4 c w =
-    simp
-    (sym (c .before .before .narrow .ensures) ∙ ap narrowIs (c .enum-told4 .given .1),
-    sym (c .before .before .before .before .before .before .pool .ensures) ∙ ap poolIs (c .before .before .before .before .p .given .1),
-    sym (c .before .before .before .before .before .before .before .before .before .before .wide2 .ensures) ∙ ap numberIs (c .before .before .before .before .before .before .before .before .generation .given .1),
-    sym (c .before .before .before .before .before .before .before .before .before .before .before .before .before .before .wide .ensures) ∙ ap numberIs (c .before .before .before .before .before .before .before .before .before .before .before .before .id .given .1))
+    simp (
+      sym (c .before .before .narrow .ensures) ∙ ap narrowIs (c .enum-told4 .given .1),
+      sym (c .before .before .before .before .before .before .pool .ensures) ∙ ap poolIs (c .before .before .before .before .p .given .1),
+      sym (c .before .before .before .before .before .before .before .before .before .before .wide2 .ensures) ∙ ap numberIs (c .before .before .before .before .before .before .before .before .generation .given .1),
+      sym (c .before .before .before .before .before .before .before .before .before .before .before .before .before .before .wide .ensures) ∙ ap numberIs (c .before .before .before .before .before .before .before .before .before .before .before .before .id .given .1),
+    )
 
 new-requires : tie.Need-new-requires
 new-requires c κs = search needs
 
 returns-5 : tie.Need-returns-5
 returns-5 c w =
-    simp
-    (sym (c .before .before .before .before .narrow .ensures) ∙ ap narrowIs (c .before .before .n .given .1),
-    sym (c .before .before .before .before .before .before .before .before .pool .ensures) ∙ ap poolIs (c .before .before .before .before .before .before .p .given .1),
-    sym (c .before .before .before .before .before .before .before .before .before .before .before .before .wide2 .ensures) ∙ ap numberIs (c .before .before .before .before .before .before .before .before .before .before .generation .given .1),
-    sym (c .before .before .before .before .before .before .before .before .before .before .before .before .before .before .before .before .wide .ensures) ∙ ap numberIs (c .before .before .before .before .before .before .before .before .before .before .before .before .before .before .id .given .1),
-    c .new .ensures)
+    simp (
+      sym (c .before .before .before .before .narrow .ensures) ∙ ap narrowIs (c .before .before .n .given .1),
+      sym (c .before .before .before .before .before .before .before .before .pool .ensures) ∙ ap poolIs (c .before .before .before .before .before .before .p .given .1),
+      sym (c .before .before .before .before .before .before .before .before .before .before .before .before .wide2 .ensures) ∙ ap numberIs (c .before .before .before .before .before .before .before .before .before .before .generation .given .1),
+      sym (c .before .before .before .before .before .before .before .before .before .before .before .before .before .before .before .before .wide .ensures) ∙ ap numberIs (c .before .before .before .before .before .before .before .before .before .before .before .before .before .before .id .given .1),
+      c .new .ensures,
+    )
 
 pub credit-spec : {M : Type 1} → statement M
 credit-spec =

@@ -29,15 +29,17 @@ enum-told-2 c = search needs
 
 returns-2 : tie.Need-returns-2
 returns-2 c w =
-    simp
-    (sym (c .before .before .wide .ensures) ∙ ap numberIs (c .enum-told2 .given .1),
-    sym (c .before .before .before .before .before .before .stream .ensures) ∙ ap streamIs (c .before .before .before .before .x .given .1))
+    simp (
+      sym (c .before .before .wide .ensures) ∙ ap numberIs (c .enum-told2 .given .1),
+      sym (c .before .before .before .before .before .before .stream .ensures) ∙ ap streamIs (c .before .before .before .before .x .given .1),
+    )
 
 returns-3 : tie.Need-returns-3
 returns-3 c w =
-    simp
-    (sym (c .before .before .before .wide .ensures) ∙ ap numberIs (c .before .n .given .1),
-    sym (c .before .before .before .before .before .before .before .stream .ensures) ∙ ap streamIs (c .before .before .before .before .before .x .given .1))
+    simp (
+      sym (c .before .before .before .wide .ensures) ∙ ap numberIs (c .before .n .given .1),
+      sym (c .before .before .before .before .before .before .before .stream .ensures) ∙ ap streamIs (c .before .before .before .before .before .x .given .1),
+    )
 
 pub discarded-spec : {M : Type 1} → statement M
 discarded-spec =

@@ -29,19 +29,21 @@ enum-told-2 c = search needs
 
 returns-2 : tie.Need-returns-2
 returns-2 c w =
-    simp
-    (sym (c .before .before .wide2 .ensures) ∙ ap numberIs (c .enum-told2 .given .1),
-    sym (c .before .before .before .before .before .before .wide .ensures) ∙ ap numberIs (c .before .before .before .before .id .given .1))
+    simp (
+      sym (c .before .before .wide2 .ensures) ∙ ap numberIs (c .enum-told2 .given .1),
+      sym (c .before .before .before .before .before .before .wide .ensures) ∙ ap numberIs (c .before .before .before .before .id .given .1),
+    )
 
 new-requires : tie.Need-new-requires
 new-requires c κs = search needs
 
 returns-3 : tie.Need-returns-3
 returns-3 c w =
-    simp
-    (sym (c .before .before .before .before .wide2 .ensures) ∙ ap numberIs (c .before .before .generation .given .1),
-    sym (c .before .before .before .before .before .before .before .before .wide .ensures) ∙ ap numberIs (c .before .before .before .before .before .before .id .given .1),
-    c .new .ensures)
+    simp (
+      sym (c .before .before .before .before .wide2 .ensures) ∙ ap numberIs (c .before .before .generation .given .1),
+      sym (c .before .before .before .before .before .before .before .before .wide .ensures) ∙ ap numberIs (c .before .before .before .before .before .before .id .given .1),
+      c .new .ensures,
+    )
 
 pub end-input-spec : {M : Type 1} → statement M
 end-input-spec =

@@ -1,5 +1,6 @@
+use Rattle.text.specs.declared.hexadecimal.MaybeLength.{MaybeLength}
 use mathlib.Core.Path.{_∙_, sym, ap}
-use Rattle.card.specs.Meaning.{streamIs}
+use Rattle.card.specs.Meaning.{streamIs, bytesIs}
 use borrow.Author.Needs.{needs}
 use Rattle.card.proofs.lines.output.Statement.{statement}
 use Rattle.card.proofs.lines.output.Tie as tie
@@ -32,20 +33,20 @@ same-length c = search needs
 
 returns-2 : tie.Need-returns-2
 returns-2 c =
-    simp
-    (c .enum-told2 .given .1,
-    sym (c .before .before .before .before .before .before .before .before .before .stream .ensures) ∙ ap streamIs (c .before .before .before .before .before .before .before .x .given .1),
-    c .before .before .before .before .bytes .ensures)
+    simp (
+      sym (c .before .before .before .before .before .before .before .before .before .stream .ensures) ∙ ap streamIs (c .before .before .before .before .before .before .before .x .given .1),
+      sym (c .before .before .before .before .bytes .ensures) ∙ ap (λ (x : MaybeLength). bytesIs x (c .before .before .before .before .bytes .last .1 .0)) (c .enum-told2 .given .1),
+    )
 
 same-length-2 : tie.Need-same-length-2
 same-length-2 c = search needs
 
 returns-3 : tie.Need-returns-3
 returns-3 c =
-    simp
-    (c .before .n .given .1,
-    sym (c .before .before .before .before .before .before .before .before .before .before .stream .ensures) ∙ ap streamIs (c .before .before .before .before .before .before .before .before .x .given .1),
-    c .before .before .before .before .before .bytes .ensures)
+    simp (
+      sym (c .before .before .before .before .before .before .before .before .before .before .stream .ensures) ∙ ap streamIs (c .before .before .before .before .before .before .before .before .x .given .1),
+      sym (c .before .before .before .before .before .bytes .ensures) ∙ ap (λ (x : MaybeLength). bytesIs x (c .before .before .before .before .before .bytes .last .1 .0)) (c .before .n .given .1),
+    )
 
 pub output-spec : {M : Type 1} → statement M
 output-spec =

@@ -26,9 +26,10 @@ is-requires-2 c κs = search needs
 returns-2 : tie.Need-returns-2
 unfolding find bytes
 returns-2 c =
-    simp
-    (sym (c .before .is2 .ensures) ∙ c .if2 .taken,
-    sym (c .before .before .before .before .is .ensures) ∙ c .before .before .before .if1 .left)
+    simp (
+      sym (c .before .is2 .ensures) ∙ c .if2 .taken,
+      sym (c .before .before .before .before .is .ensures) ∙ c .before .before .before .if1 .left,
+    )
 
 slice-aggregate-is-3 : tie.Need-slice-aggregate-is-3
 slice-aggregate-is-3 c = search needs
@@ -39,10 +40,11 @@ is-requires-3 c κs = search needs
 returns-3 : tie.Need-returns-3
 unfolding find bytes
 returns-3 c =
-    simp
-    (sym (c .before .is3 .ensures) ∙ c .if3 .taken,
-    sym (c .before .before .before .before .is2 .ensures) ∙ c .before .before .before .if2 .left,
-    sym (c .before .before .before .before .before .before .before .is .ensures) ∙ c .before .before .before .before .before .before .if1 .left)
+    simp (
+      sym (c .before .is3 .ensures) ∙ c .if3 .taken,
+      sym (c .before .before .before .before .is2 .ensures) ∙ c .before .before .before .if2 .left,
+      sym (c .before .before .before .before .before .before .before .is .ensures) ∙ c .before .before .before .before .before .before .if1 .left,
+    )
 
 slice-aggregate-is-4 : tie.Need-slice-aggregate-is-4
 slice-aggregate-is-4 c = search needs
@@ -53,20 +55,22 @@ is-requires-4 c κs = search needs
 returns-4 : tie.Need-returns-4
 unfolding find bytes
 returns-4 c =
-    simp
-    (sym (c .before .is4 .ensures) ∙ c .if4 .taken,
-    sym (c .before .before .before .before .is3 .ensures) ∙ c .before .before .before .if3 .left,
-    sym (c .before .before .before .before .before .before .before .is2 .ensures) ∙ c .before .before .before .before .before .before .if2 .left,
-    sym (c .before .before .before .before .before .before .before .before .before .before .is .ensures) ∙ c .before .before .before .before .before .before .before .before .before .if1 .left)
+    simp (
+      sym (c .before .is4 .ensures) ∙ c .if4 .taken,
+      sym (c .before .before .before .before .is3 .ensures) ∙ c .before .before .before .if3 .left,
+      sym (c .before .before .before .before .before .before .before .is2 .ensures) ∙ c .before .before .before .before .before .before .if2 .left,
+      sym (c .before .before .before .before .before .before .before .before .before .before .is .ensures) ∙ c .before .before .before .before .before .before .before .before .before .if1 .left,
+    )
 
 returns-5 : tie.Need-returns-5
 unfolding find bytes
 returns-5 c =
-    simp
-    (sym (c .before .is4 .ensures) ∙ c .if4 .left,
-    sym (c .before .before .before .before .is3 .ensures) ∙ c .before .before .before .if3 .left,
-    sym (c .before .before .before .before .before .before .before .is2 .ensures) ∙ c .before .before .before .before .before .before .if2 .left,
-    sym (c .before .before .before .before .before .before .before .before .before .before .is .ensures) ∙ c .before .before .before .before .before .before .before .before .before .if1 .left)
+    simp (
+      sym (c .before .is4 .ensures) ∙ c .if4 .left,
+      sym (c .before .before .before .before .is3 .ensures) ∙ c .before .before .before .if3 .left,
+      sym (c .before .before .before .before .before .before .before .is2 .ensures) ∙ c .before .before .before .before .before .before .if2 .left,
+      sym (c .before .before .before .before .before .before .before .before .before .before .is .ensures) ∙ c .before .before .before .before .before .before .before .before .before .if1 .left,
+    )
 
 pub verb-of-2-spec : {M : Type 1} → statement M
 verb-of-2-spec =

@@ -26,16 +26,18 @@ is-requires-2 c κs = search needs
 returns-2 : tie.Need-returns-2
 unfolding find bytes
 returns-2 c =
-    simp
-    (sym (c .before .is2 .ensures) ∙ c .if2 .taken,
-    sym (c .before .before .before .before .is .ensures) ∙ c .before .before .before .if1 .left)
+    simp (
+      sym (c .before .is2 .ensures) ∙ c .if2 .taken,
+      sym (c .before .before .before .before .is .ensures) ∙ c .before .before .before .if1 .left,
+    )
 
 returns-3 : tie.Need-returns-3
 unfolding find bytes
 returns-3 c =
-    simp
-    (sym (c .before .is2 .ensures) ∙ c .if2 .left,
-    sym (c .before .before .before .before .is .ensures) ∙ c .before .before .before .if1 .left)
+    simp (
+      sym (c .before .is2 .ensures) ∙ c .if2 .left,
+      sym (c .before .before .before .before .is .ensures) ∙ c .before .before .before .if1 .left,
+    )
 
 pub verb-of-3-spec : {M : Type 1} → statement M
 verb-of-3-spec =
