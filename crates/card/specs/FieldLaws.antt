@@ -8,10 +8,13 @@ use native.Mathlib.Omega.{arith}
 use native.Mathlib.Numerals.{add-one}
 use native.Mathlib.Nat.{zero-add}
 use lib.Dec.{eqb}
+use borrow.Author.Tests.{eq-eqb, ne-eqb}
+use Prim.Native.Nat.{zero}
+use native.Mathlib.Decide.{decLt}
 use lib.ListN.{length, take, drop, getD, length-drop}
 use lib.Seq.{drop-cons, drop-length, take-all}
 use Rattle.exec.specs.declared.MaybeStatus.the-variants as MaybeStatus
-use Rattle.card.specs.Lines.{inFirst, missing, fields, status, callOf}
+use Rattle.card.specs.Lines.{inFirst, at, missing, fields, status, callOf}
 use Rattle.card.specs.Meaning.{exitedWith, signaledWith}
 
 -- the index of the first comma, or the length where there is none
@@ -95,3 +98,66 @@ pub status-none : (s : List ℕ) → length s ≡ 0 → status s ≡ none
 unfolding status
 status-none [] e = refl
 status-none (b ∷ s) e = absurd (omega arith)
+
+-- ---- fields by their places
+
+-- where the text behind the first field begins; the text's end, where there is one field only
+unfoldable pub behindOf : List ℕ → ℕ
+behindOf s = cond (eqb (commaAt s) (length s)) (length s) (commaAt s + 1)
+
+-- i is where the k-th field begins
+pub record Place (s : List ℕ) (k i : ℕ) : Type 0 where
+  pub is : at (fields s) k ≡ at (fields (drop i s)) 0
+  pub most : i ≤ length s
+
+-- one field further on
+none-left : (m : ℕ) → at ([] ∷ []) m ≡ []
+none-left zero = refl
+none-left (suc m) = refl
+
+pub place-on : (t : List ℕ) (m : ℕ) → commaAt t ≤ length t → at (fields t) (m + 1) ≡ at (fields (drop (behindOf t) t)) m
+unfolding behindOf fields
+place-on t m l =
+    elim (decLt (commaAt t) (length t)) [
+      | yes h ↦ rw (ne-eqb (commaAt t) (length t) (λ e. absurd (omega arith)), fields-cut t h, add-one) refl
+      | no h ↦ let e : commaAt t ≡ length t = omega arith in rw (eq-eqb (commaAt t) (length t) e, fields-last t e, drop-length t, add-one) (sym (none-left m))
+    ]
+
+-- a field that begins at i
+first-field : (t : List ℕ) → commaAt t ≤ length t → at (fields t) 0 ≡ take (commaAt t) t
+first-field t l =
+    elim (decLt (commaAt t) (length t)) [
+      | yes h ↦ rw (fields-cut t h) refl
+      | no h ↦ let e : commaAt t ≡ length t = omega arith in rw (fields-last t e) (sym (take-all (commaAt t) t (omega arith)))
+    ]
+
+pub comma-most : (t : List ℕ) → commaAt t ≤ length t
+unfolding commaAt
+comma-most [] = omega arith
+comma-most (b ∷ t) = by (eqb b 44) (comma-most t)
+  where
+    by : (e : Bool) → commaAt t ≤ length t → cond e 0 (suc (commaAt t)) ≤ suc (length t)
+    by true l = omega arith
+    by false l = omega arith
+
+pub place-field : (s : List ℕ) (k i : ℕ) → Place s k i → at (fields s) k ≡ take (commaAt (drop i s)) (drop i s)
+place-field s k i p = p .is ∙ first-field (drop i s) (comma-most (drop i s))
+
+-- a turn of the loop that counts
+in-first : (b : ℕ) (fs : List (List ℕ)) → Some fs → length (inFirst b fs) ≡ length fs
+in-first b fs x = rw (x .is) refl
+
+pub count-turn : (s : List ℕ) (i : ℕ) → i < length s → length (fields (drop i s)) ≡ cond (eqb (getD s i 0) 44) 1 0 + length (fields (drop (i + 1) s))
+unfolding fields
+count-turn s i h = rw (drop-cons s i 0 h, add-one) (by (eqb (getD s i 0) 44))
+  where
+    rest : List ℕ
+    rest = drop (suc i) s
+
+    by : (e : Bool) → length (cond e ([] ∷ fields (drop (suc i) s)) (inFirst (getD s i 0) (fields (drop (suc i) s)))) ≡ cond e 1 0 + length (fields (drop (suc i) s))
+    by true = omega arith
+    by false = in-first (getD s i 0) (fields (drop (suc i) s)) (fields-some (drop (suc i) s)) ∙ omega arith
+
+pub count-end : (s : List ℕ) → length (fields (drop (length s) s)) ≡ 1
+unfolding fields
+count-end s = rw (drop-length s) refl

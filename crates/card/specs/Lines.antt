@@ -232,26 +232,30 @@ pub record Opening : Type 0 where
 abbrev pub window : (unit size : List ℕ) → Option Window
 window u n = on (unit u) λ x. on (u32 n) λ k. some (record { unit = x; size = k })
 
-abbrev pub timers : (timeoutIn grace settlementIn : List ℕ) → Option Timers
-timers t g s = on (timeout t) λ x. on (u64 g) λ y. on (u64 s) λ z. some (record { timeout = x; grace = y; settlement = z })
-
-abbrev pub limits : (chunk unit1 size1 unit2 size2 shared : List ℕ) → Option Limits
-limits c u1 n1 u2 n2 sh =
-    on (u32 c) λ chunk. on (window u1 n1) λ i. on (window u2 n2) λ o. on (digit sh) λ b.
-    some (record { chunk = chunk; input = i; output = o; shared = b })
-
 -- the field at a place
 abbrev pub at : List (List ℕ) → ℕ → List ℕ
 at fs i = getD fs i []
 
 -- open,NOW,ID,GENERATION,CHUNK,UNIT,SIZE,UNIT,SIZE,SHARED,TIMEOUT,GRACE,SETTLEMENT
+unfoldable pub isOpen : List (List ℕ) → Bool
+isOpen fs = eqb (length fs) 13 && same (at fs 0) (bytes "open")
+
+unfoldable pub limitsOf : List (List ℕ) → Option Limits
+limitsOf fs =
+    on (u32 (at fs 4)) λ chunk. on (window (at fs 5) (at fs 6)) λ i. on (window (at fs 7) (at fs 8)) λ o. on (digit (at fs 9)) λ b.
+    some (record { chunk = chunk; input = i; output = o; shared = b })
+
+unfoldable pub timersOf : List (List ℕ) → Option Timers
+timersOf fs =
+    on (timeout (at fs 10)) λ x. on (u64 (at fs 11)) λ y. on (u64 (at fs 12)) λ z. some (record { timeout = x; grace = y; settlement = z })
+
+unfoldable pub openingOf : List (List ℕ) → Option Opening
+openingOf fs =
+    on (u64 (at fs 1)) λ now. on (u64 (at fs 2)) λ id. on (u64 (at fs 3)) λ generation. on (limitsOf fs) λ l. on (timersOf fs) λ t.
+    some (record { conf = record { key = newKey id generation; limits = l; timers = t }; now = now })
+
 unfoldable pub openOf : List (List ℕ) → Option Opening
-openOf fs =
-    cond (eqb (length fs) 13 && same (at fs 0) (bytes "open"))
-    (on (u64 (at fs 1)) λ now. on (u64 (at fs 2)) λ id. on (u64 (at fs 3)) λ generation.
-    on (limits (at fs 4) (at fs 5) (at fs 6) (at fs 7) (at fs 8) (at fs 9)) λ l. on (timers (at fs 10) (at fs 11) (at fs 12)) λ t.
-    some (record { conf = record { key = newKey id generation; limits = l; timers = t }; now = now }))
-    none
+openOf fs = cond (isOpen fs) (openingOf fs) none
 
 abbrev pub lineOpen : (line : List ℕ) → Option Opening
 lineOpen line = openOf (fields line)

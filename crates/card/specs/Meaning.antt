@@ -8,12 +8,15 @@ use mathlib.Core.Option.{Option·map}
 use Prim.Native.Nat.{ℕ, _≤_}
 use lib.IntN.{ℤ}
 use lib.ListN.{take}
-use Rattle.card.specs.Lines.{on, u32, missing, zeros, find, readAllowanceOf, outputClosedOf, outputFailedOf, outputHungUpOf, inputWrittenOf, settledOf, droppedOf, resetOf, disconnectOf, tickOf, messageOf, endInputOf, outputOf, discardedOf, exitedOf, launchedOf, inputOf, creditOf, cancelOf}
+use Rattle.card.specs.Lines.{Opening, on, u32, missing, zeros, find, readAllowanceOf, outputClosedOf, outputFailedOf, outputHungUpOf, inputWrittenOf, settledOf, droppedOf, resetOf, disconnectOf, tickOf, messageOf, endInputOf, outputOf, discardedOf, exitedOf, launchedOf, inputOf, creditOf, cancelOf}
 use Rattle.exec.specs.declared.Cause.{Cause}
 use Rattle.exec.specs.declared.LaunchResult.{LaunchResult}
 use Rattle.exec.specs.declared.LaunchResult.the-variants as LaunchResult
 use Rattle.exec.specs.declared.MaybeCause.{MaybeCause}
 use Rattle.exec.specs.declared.MaybeCause.the-variants as MaybeCause
+use Rattle.exec.specs.declared.Limits.{Limits}
+use Rattle.exec.specs.declared.Timers.{Timers}
+use Rattle.exec.specs.declared.Window.{Window}
 use Rattle.exec.specs.declared.MaybeDuration.{MaybeDuration}
 use Rattle.exec.specs.declared.MaybeStatus.{MaybeStatus}
 use Rattle.exec.specs.declared.MaybeStatus.the-variants as MaybeStatus
@@ -31,6 +34,14 @@ use Rattle.text.specs.declared.hexadecimal.MaybeLength.the-variants as MaybeLen
 use Rattle.text.specs.Decimal.{signed}
 use Rattle.account.specs.Call as Call
 use Rattle.account.specs.Call.{Call}
+use Rattle.card.specs.declared.opening.MaybeWindow.{MaybeWindow}
+use Rattle.card.specs.declared.opening.MaybeWindow.the-variants as MaybeWindow
+use Rattle.card.specs.declared.opening.MaybeLimits.{MaybeLimits}
+use Rattle.card.specs.declared.opening.MaybeLimits.the-variants as MaybeLimits
+use Rattle.card.specs.declared.opening.MaybeTimers.{MaybeTimers}
+use Rattle.card.specs.declared.opening.MaybeTimers.the-variants as MaybeTimers
+use Rattle.card.specs.declared.opening.MaybeOpening.{MaybeOpening}
+use Rattle.card.specs.declared.opening.MaybeOpening.the-variants as MaybeOpening
 use Rattle.card.specs.declared.words.MaybeFlag.{MaybeFlag}
 use Rattle.card.specs.declared.words.MaybeFlag.the-variants as MaybeFlag
 use Rattle.card.specs.declared.words.MaybePool.{MaybePool}
@@ -114,6 +125,22 @@ launchIs (FoundLaunch.Some x) = some x
 abbrev pub bytesIs : MaybeLength → (work : List ℕ) → Option (List ℕ)
 bytesIs MaybeLength.None work = none
 bytesIs (MaybeLength.Some n) work = some (take n work)
+
+abbrev pub windowIs : MaybeWindow → Option Window
+windowIs MaybeWindow.None = none
+windowIs (MaybeWindow.Some x) = some x
+
+abbrev pub limitsIs : MaybeLimits → Option Limits
+limitsIs MaybeLimits.None = none
+limitsIs (MaybeLimits.Some x) = some x
+
+abbrev pub timersIs : MaybeTimers → Option Timers
+timersIs MaybeTimers.None = none
+timersIs (MaybeTimers.Some x) = some x
+
+abbrev pub openingIs : MaybeOpening → Option Opening
+openingIs MaybeOpening.None = none
+openingIs (MaybeOpening.Some x) = some (record { conf = record { key = x .key; limits = x .limits; timers = x .timers }; now = x .now })
 
 -- ---- the parts of a status and of a launch result
 

@@ -22,7 +22,7 @@ use Rattle.text.specs.Hexadecimal.{unhex, arePairs, areHex, pairs, hexValue, he
 use Rattle.account.specs.Call as Call
 use Rattle.account.specs.Call.{Call, Answer}
 use Rattle.card.specs.Words.{bytes, same, named}
-use Rattle.card.specs.Lines.{fields, digit, status, timeout, launchResult, find, callOf, openOf, lineCall, lineOpen, zeros}
+use Rattle.card.specs.Lines.{fields, digit, status, timeout, launchResult, find, callOf, openOf, isOpen, openingOf, limitsOf, timersOf, lineCall, lineOpen, zeros}
 use Rattle.account.specs.Step.{State}
 use Rattle.card.specs.Answers.{answerText, lineText}
 use Rattle.card.specs.Feed.{First, Running, Over, bad, first, later, answered}
@@ -37,7 +37,7 @@ prints n a = lineText n a
 
 table-open : lineOpen (bytes "open,0,7,2,4,B,8,B,8,0,-,10,5")
     ≡ some (record { conf = record { key = newKey 7 2; limits = record { chunk = 4; input = bytesWindow 8; output = bytesWindow 8; shared = false }; timers = newTimers 10 5 }; now = 0 })
-unfolding calls openOf timeout
+unfolding calls openOf isOpen openingOf limitsOf timersOf timeout
 table-open = refl
 
 table-calls : (calls "launched,0,-,-" ≡ some (Call.launched LaunchResult.Started))
@@ -100,5 +100,5 @@ session-lines : (s : State)
     × (answered (Running s 9) (bytes "open,9,7,2,4,B,8,B,8,0,-,10,5") ≡ bad (Running s 9))
     × (answered First (bytes "tick,8") ≡ bad Over)
     × (answered Over (bytes "tick,9") ≡ bad Over)
-unfolding calls openOf answered first later
+unfolding calls openOf isOpen answered first later
 session-lines s = (refl, refl, refl, refl, refl)
