@@ -10,8 +10,8 @@ use lib.Seq.{take-all}
 use mir.Syntax.{w32}
 use mir.Val.{SFits}
 use Rattle.ring.specs.Runs.{copied}
-use Rattle.card.specs.Written.{Wrote, wrote, named}
-use Rattle.text.specs.Decimal.{digitsOf, signedOf}
+use Rattle.card.specs.Written.{Wrote, wrote, same-text}
+use Rattle.text.specs.Decimal.{signedOf}
 use Rattle.text.specs.DecimalLaws.{count-most}
 
 pub signed-most : (z : ℤ) → SFits w32 z → length (signedOf z) ≤ 12
@@ -36,4 +36,4 @@ pub wrote-signed : {out then : List ℕ} {at to : ℕ} (y z : ℤ) → y ≡ z �
 wrote-signed {out} y z e f h g r =
     let l = signed-most z f in
     let k = ap (λ (x : ℤ). length (signedOf x)) e in
-    named (ap signedOf e) (wrote (signedOf y) h g (omega arith) (omega arith))
+    same-text (ap signedOf e) (wrote (signedOf y) h g (omega arith) (omega arith))

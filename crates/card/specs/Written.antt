@@ -1,14 +1,14 @@
 -- A text written into a lent area from an index on, and texts written one behind the other.
 use mathlib.Core.Path.{_≡_, refl, sym, ap, _∙_}
-use mathlib.Core.List.{List, [], _∷_, _++_, append-assoc}
-use Prim.Native.Nat.{ℕ, _+_, _*_, _≤_, _<_}
+use mathlib.Core.List.{List, _++_, append-assoc}
+use Prim.Native.Nat.{ℕ, _+_, _≤_}
 use native.Mathlib.Omega.{arith}
 use lib.ListN.{length, length-append}
 use Rattle.ring.specs.Runs.{copied, copied-length}
 use Rattle.ring.specs.Lent.{copied-join}
 
--- `out` became `then` by the text, whose first byte stands at index `at` and behind whose last one is index `to`. The text has
--- at most `most` bytes. (The last two fields follow from the first; they stand here for omega to read.)
+-- `out` became `then` by the text, which has at most `most` bytes and stands from index `at` to before index `to`, all of it
+-- within `out`. (`size` follows: it stands here for omega to read.)
 pub record Wrote (most : ℕ) (out then : List ℕ) (at to : ℕ) (text : List ℕ) : Type 0 where
   pub holds : then ≡ copied out at text 0 (length text)
   pub ends : to ≡ at + length text
@@ -50,16 +50,16 @@ pub within : {a b : ℕ} {out then : List ℕ} {at to : ℕ} {text : List ℕ} �
     → Wrote b out then at to text
 within w h = record { holds = w .holds; ends = w .ends; short = omega arith; room = w .room; size = w .size }
 
-pub named : {most : ℕ} {out then : List ℕ} {at to : ℕ} {s t : List ℕ} → s ≡ t → Wrote most out then at to s → Wrote most out then at to t
-named e w = rw e at w
+pub same-text : {most : ℕ} {out then : List ℕ} {at to : ℕ} {s t : List ℕ} → s ≡ t → Wrote most out then at to s → Wrote most out then at to t
+same-text e w = rw e at w
 
 -- where the second text was written at once and is told in its parts
 pub joined-two : {a b : ℕ} {out mid then : List ℕ} {at m to : ℕ} {s : List ℕ} (p q : List ℕ) → Wrote a out mid at m s
     → Wrote b mid then m to (p ++ q) → Wrote (a + b) out then at to (s ++ p ++ q)
-joined-two {s} p q v w = named (sym (append-assoc s p q)) (joined v w)
+joined-two {s} p q v w = same-text (sym (append-assoc s p q)) (joined v w)
 
 pub joined-four : {a b : ℕ} {out mid then : List ℕ} {at m to : ℕ} {s : List ℕ} (p q r u : List ℕ) → Wrote a out mid at m s
     → Wrote b mid then m to (p ++ q ++ r ++ u) → Wrote (a + b) out then at to (s ++ p ++ q ++ r ++ u)
 joined-four {s} p q r u v w =
     let e : s ++ (p ++ q ++ r ++ u) ≡ s ++ p ++ q ++ r ++ u = simp append-assoc in
-    named e (joined v w)
+    same-text e (joined v w)

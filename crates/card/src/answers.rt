@@ -1,7 +1,7 @@
 // The answers of a session card: what a line is answered, and that answer as a line of text in a lent area.
 ghost use mathlib.Core.Path.{_≡_};
 ghost use mathlib.Core.List.{[], _∷_, _++_};
-ghost use Prim.Native.Nat.{_+_, _*_, _≤_, _<_};
+ghost use Prim.Native.Nat.{_+_, _≤_};
 ghost use lib.ListN.{length, take};
 ghost use Rattle.exec.specs.declared.Received.the-variants as Received;
 ghost use Rattle.text.specs.Decimal.{digitsOf, signedOf};
@@ -168,14 +168,14 @@ pub(crate) fn is_refused(answer: Answer) -> bool
         Answer::Applied => false,
         Answer::Stale => false,
         Answer::Late => false,
-        Answer::Refused(n) => true,
-        Answer::Taken(n) => false,
-        Answer::Pending(n) => false,
-        Answer::Value(n) => false,
-        Answer::Time(d) => false,
-        Answer::Truth(b) => false,
-        Answer::Asks(q) => false,
-        Answer::Says(m) => false,
+        Answer::Refused(_) => true,
+        Answer::Taken(_) => false,
+        Answer::Pending(_) => false,
+        Answer::Value(_) => false,
+        Answer::Time(_) => false,
+        Answer::Truth(_) => false,
+        Answer::Asks(_) => false,
+        Answer::Says(_) => false,
         Answer::Nothing => false,
     }
 }

@@ -46,7 +46,7 @@ returns-7 : tie.Need-returns-7
 unfolding bytes answerText
 returns-7 c =
     rw (c .before .before .before .before .before .before .answer3 .given .1)
-    (within (c .before .before .with-first .ensures) (omega arith))
+    (c .before .before .with-first .ensures)
 
 returns-8 : tie.Need-returns-8
 unfolding bytes answerText
@@ -58,7 +58,7 @@ returns-9 : tie.Need-returns-9
 unfolding bytes answerText
 returns-9 c =
     rw (c .before .before .before .before .before .answer5 .given .1)
-    (within (c .before .before .put-time .ensures) (omega arith))
+    (c .before .before .put-time .ensures)
 
 returns-10 : tie.Need-returns-10
 unfolding bytes answerText
@@ -70,13 +70,13 @@ returns-11 : tie.Need-returns-11
 unfolding bytes answerText
 returns-11 c =
     rw (c .before .before .before .before .before .answer7 .given .1)
-    (within (c .before .before .put-request .ensures) (omega arith))
+    (c .before .before .put-request .ensures)
 
 returns-12 : tie.Need-returns-12
 unfolding bytes answerText
 returns-12 c =
     rw (c .before .before .before .before .before .answer8 .given .1)
-    (within (c .before .before .put-message .ensures) (omega arith))
+    (c .before .before .put-message .ensures)
 
 returns-13 : tie.Need-returns-13
 unfolding bytes answerText

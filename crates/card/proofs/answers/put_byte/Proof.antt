@@ -1,3 +1,4 @@
+-- `answers::put_byte` meets its contract: a store is a copy of one byte.
 use mathlib.Core.Path.{refl}
 use mathlib.Core.List.{[], _∷_}
 use native.Mathlib.Omega.{arith}

@@ -4,7 +4,7 @@ use mir.Val.{SFits}
 use mir.ValLaws.{toZ-ofZ}
 use Rattle.text.specs.Decimal.{signedOf}
 use Rattle.card.specs.Words.{bytes}
-use Rattle.card.specs.Written.{joined, named}
+use Rattle.card.specs.Written.{joined, same-text}
 use borrow.Author.Needs.{needs}
 use Rattle.card.proofs.answers.put_failure.Statement.{statement}
 use Rattle.card.proofs.answers.put_failure.Tie as tie
@@ -16,7 +16,7 @@ returns c =
     let fit : SFits w32 error = search needs in
     let e = ap signedOf (toZ-ofZ w32 error fit) in
     rw (← c .before .before .before .before .before .before .before .before .before .before .before .before .before .wide .ensures)
-    (joined (joined (c .before .before .before .before .before .before .before .before .before .before .before .put-number .ensures) (c .before .before .before .before .before .before .before .put-byte .ensures)) (named e (c .before .before .put-signed .ensures)))
+    (joined (joined (c .before .before .before .before .before .before .before .before .before .before .before .put-number .ensures) (c .before .before .before .before .before .before .before .put-byte .ensures)) (same-text e (c .before .before .put-signed .ensures)))
 
 pub put-failure-spec : {M : Type 1} → statement M
 put-failure-spec =

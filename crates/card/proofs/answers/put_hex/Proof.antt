@@ -1,3 +1,4 @@
+-- `answers::put_hex` meets its contract: two digits a byte.
 use native.Mathlib.Omega.{arith}
 use Rattle.text.specs.Hexadecimal.{hexOf}
 use Rattle.text.specs.HexadecimalLaws.{hex-length}

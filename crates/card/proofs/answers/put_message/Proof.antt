@@ -22,7 +22,7 @@ returns-3 : tie.Need-returns-3
 unfolding bytes answerText
 returns-3 c =
     rw (c .before .before .before .before .before .message2 .given .1)
-    (within (c .before .before .put-output .ensures) (omega arith))
+    (c .before .before .put-output .ensures)
 
 returns-4 : tie.Need-returns-4
 unfolding bytes answerText
@@ -40,7 +40,7 @@ returns-6 : tie.Need-returns-6
 unfolding bytes answerText
 returns-6 c =
     rw (c .before .before .before .before .before .message4 .given .1)
-    (within (c .before .before .put-outcome .ensures) (omega arith))
+    (c .before .before .put-outcome .ensures)
 
 pub put-message-spec : {M : Type 1} → statement M
 put-message-spec =

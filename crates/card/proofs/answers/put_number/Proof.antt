@@ -1,3 +1,4 @@
+-- `answers::put_number` meets its contract: a u64 has at most 20 digits.
 use Prim.Native.Nat.{_≤_}
 use native.Mathlib.Omega.{arith}
 use lib.ListN.{length}

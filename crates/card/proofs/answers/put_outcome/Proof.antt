@@ -1,5 +1,6 @@
-use Rattle.card.specs.Answers.{flag}
+-- `answers::put_outcome` meets its contract: its three parts are 01's eight fields.
 use native.Mathlib.Omega.{arith}
+use Rattle.card.specs.Answers.{flag}
 use Rattle.card.specs.Words.{bytes}
 use Rattle.card.specs.Written.{joined, joined-four, within}
 use borrow.Author.Needs.{needs}

@@ -1,3 +1,4 @@
+-- `answers::put_signed` meets its contract: an i32 has at most a minus and ten digits.
 use native.Mathlib.Omega.{arith}
 use mir.Syntax.{w32}
 use mir.ValLaws.{toZ-ofZ}

@@ -1,6 +1,4 @@
-use native.Mathlib.Omega.{arith}
 use Rattle.card.specs.Words.{bytes}
-use Rattle.card.specs.Written.{within}
 use borrow.Author.Needs.{needs}
 use Rattle.card.proofs.answers.put_stream.Statement.{statement}
 use Rattle.card.proofs.answers.put_stream.Tie as tie
@@ -9,13 +7,13 @@ returns : tie.Need-returns
 unfolding bytes
 returns c =
     rw (c .before .before .before .before .before .enum-told .given .1)
-    (within (c .before .before .put .ensures) (omega arith))
+    (c .before .before .put .ensures)
 
 returns-2 : tie.Need-returns-2
 unfolding bytes
 returns-2 c =
     rw (c .before .before .before .before .before .enum-told2 .given .1)
-    (within (c .before .before .put2 .ensures) (omega arith))
+    (c .before .before .put2 .ensures)
 
 pub put-stream-spec : {M : Type 1} → statement M
 put-stream-spec =

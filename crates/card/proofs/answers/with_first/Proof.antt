@@ -1,8 +1,9 @@
-use native.Mathlib.Omega.{arith}
-use Prim.Native.Nat.{_-_}
+-- `answers::with_first` meets its contract: the first n of work, or all of it where it has fewer.
 use mathlib.Core.Path.{ap}
+use Prim.Native.Nat.{_-_}
+use native.Mathlib.Omega.{arith}
 use Rattle.card.specs.Answers.{filled}
-use Rattle.card.specs.Written.{named}
+use Rattle.card.specs.Written.{same-text}
 use Rattle.card.proofs.Lengths.{take-fewer}
 use borrow.Author.Needs.{needs}
 use Rattle.card.proofs.answers.with_first.Statement.{statement}
@@ -12,7 +13,7 @@ returns : tie.Need-returns
 returns c =
     let a = c .before .before .before .before .before .before .before .before .before .args in
     let e = take-fewer (c .before .before .before .before .before .smaller .result - 0) (a .n) (a .work .now) (omega arith) in
-    named (ap (filled (a .name .now)) e) (c .before .before .with-bytes .ensures)
+    same-text (ap (filled (a .name .now)) e) (c .before .before .with-bytes .ensures)
 
 pub with-first-spec : {M : Type 1} → statement M
 with-first-spec =
