@@ -6,5 +6,7 @@ pub mod WordLaws
 pub mod FieldLaws
 pub mod Answers
 pub mod Feed
+pub mod Answering
+pub mod Written
 pub mod Calls
 pub mod Table

@@ -1,0 +1,16 @@
+use mathlib.Core.List.{[], _∷_}
+use native.Mathlib.Omega.{arith}
+use Rattle.card.specs.Words.{bytes}
+use Rattle.card.specs.Written.{joined-four, within}
+use borrow.Author.Needs.{needs}
+use Rattle.card.proofs.answers.alone.Statement.{statement}
+use Rattle.card.proofs.answers.alone.Tie as tie
+
+returns : tie.Need-returns
+unfolding bytes
+returns c =
+    within (joined-four (44 ∷ []) (45 ∷ []) (44 ∷ []) (45 ∷ []) (c .before .before .before .before .before .before .before .put .ensures) (c .before .before .put2 .ensures)) (omega arith)
+
+pub alone-spec : {M : Type 1} → statement M
+alone-spec =
+    tie.close (tie.spec (search needs) (search needs) (search needs) (search needs) returns)
