@@ -3,11 +3,13 @@ ghost use mathlib.Core.Path.{_≡_};
 ghost use mathlib.Core.List.{_++_};
 ghost use Prim.Native.Nat.{_≤_};
 ghost use lib.ListN.{length, drop};
-ghost use Rattle.card.specs.Lines.{zeros};
-ghost use Rattle.card.specs.Making.{TimeIs, Made, MadeOn, Kept};
 use crate::answers;
 use crate::answers::Answer;
 use crate::lines::Call;
+use exec::Key;
+use exec::Stream;
+use ring::copy_in;
+use ring::smaller;
 use runner::answer::Hearing;
 use runner::answer::Noting;
 use runner::runner::Runner;
@@ -24,9 +26,7 @@ pub(crate) enum MaybeTime {
     At(u64),
 }
 
-pub(crate) fn time_of(call: Call) -> MaybeTime
-    ensures { λ r. ⌜ TimeIs call r ⌝ }
-{
+pub(crate) fn time_of(call: Call) -> MaybeTime {
     match call {
         Call::Credit(_key, _pool, _units) => MaybeTime::None,
         Call::Input(_key, _n) => MaybeTime::None,
@@ -60,8 +60,7 @@ pub(crate) fn time_of(call: Call) -> MaybeTime
     }
 }
 
-fn noted(noting: Noting) -> Making
-{
+fn noted(noting: Noting) -> Making {
     let runner = noting.runner;
     let reply = noting.reply;
     Making {
@@ -70,8 +69,7 @@ fn noted(noting: Noting) -> Making
     }
 }
 
-fn heard(hearing: Hearing) -> Making
-{
+fn heard(hearing: Hearing) -> Making {
     let runner = hearing.runner;
     let received = hearing.received;
     Making {
@@ -81,13 +79,11 @@ fn heard(hearing: Hearing) -> Making
 }
 
 // A call that answers and changes nothing.
-fn asked(runner: Runner, answer: Answer) -> Making
-{
+fn asked(runner: Runner, answer: Answer) -> Making {
     Making { runner, answer }
 }
 
-fn output(runner: Runner, stream: Stream, n: usize, store: &mut [u8], work: &[u8]) -> Making
-{
+fn output(runner: Runner, stream: Stream, n: usize, store: &mut [u8], work: &[u8]) -> Making {
     let k = smaller(n, work.len());
     let taking = runner.output(stream, store, &work[0..k]);
     let next = taking.runner;
@@ -105,14 +101,12 @@ fn input(
     store: &mut [u8],
     lengths: &mut [u32],
     work: &[u8],
-) -> Making
-{
+) -> Making {
     let k = smaller(n, work.len());
     heard(runner.input(key, store, lengths, &work[0..k]))
 }
 
-fn next_request(runner: Runner) -> Making
-{
+fn next_request(runner: Runner) -> Making {
     let asking = runner.next_request();
     let next = asking.runner;
     let asked = asking.asked;
@@ -123,8 +117,7 @@ fn next_request(runner: Runner) -> Making
 }
 
 // n zeros at the start of work.
-fn clear(work: &mut [u8], n: usize)
-{
+fn clear(work: &mut [u8], n: usize) {
     let mut i: usize = 0;
     while i < n {
         work[i] = 0;
@@ -133,8 +126,7 @@ fn clear(work: &mut [u8], n: usize)
 }
 
 // The message's bytes are left at the start of work.
-fn next_message(runner: Runner, n: usize, store: &[u8], work: &mut [u8]) -> Making
-{
+fn next_message(runner: Runner, n: usize, store: &[u8], work: &mut [u8]) -> Making {
     let k = smaller(n, work.len());
     clear(work, k);
     let saying = runner.next_message(store, &mut work[0..k]);
@@ -147,10 +139,7 @@ fn next_message(runner: Runner, n: usize, store: &[u8], work: &mut [u8]) -> Maki
 }
 
 // Bytes that wait are copied to the start of work.
-fn waits(refusal: u32, pending: &[u8], work: &mut [u8]) -> Answer
-    requires { ⌜ length (now pending) ≤ length (now work) ⌝ }
-    ensures { λ r. ⌜ answerIs r (now (work .exit)) ≡ waits refusal (now (pending .entry)) ⌝ }
-{
+fn waits(refusal: u32, pending: &[u8], work: &mut [u8]) -> Answer {
     if refusal == 0 {
         let n = pending.len();
         copy_in(work, 0, pending, 0, n);
@@ -159,10 +148,7 @@ fn waits(refusal: u32, pending: &[u8], work: &mut [u8]) -> Answer
     Answer::Refused(refusal)
 }
 
-fn pending_input(runner: Runner, store: &[u8], work: &mut [u8]) -> Answer
-    requires { ⌜ length (now store) ≤ length (now work) ⌝ }
-    ensures { λ r. ⌜ answerIs r (now (work .exit)) ≡ answer (stateOf runner (now (store .entry)) []) Call.pendingInput ⌝ }
-{
+fn pending_input(runner: Runner, store: &[u8], work: &mut [u8]) -> Answer {
     let mut refusal: u32 = 0;
     let pending = runner.pending_input(store, &mut refusal);
     waits(refusal, pending, work)
@@ -175,15 +161,17 @@ pub(crate) fn make(
     store: &mut [u8],
     lengths: &mut [u32],
     work: &mut [u8],
-) -> Making
-{
+) -> Making {
     match call {
         Call::Credit(key, pool, units) => heard(runner.credit(key, pool, units)),
         Call::Input(key, n) => input(runner, key, n, store, lengths, work),
         Call::EndInput(key) => heard(runner.end_input(key)),
         Call::Cancel(now, key, cause) => heard(runner.cancel(now, key, cause)),
         Call::Launched(result) => noted(runner.launched(result)),
-        Call::ReadAllowance(stream) => asked(runner, answers::counted(runner.read_allowance(stream))),
+        Call::ReadAllowance(stream) => asked(
+            runner,
+            answers::counted(runner.read_allowance(stream)),
+        ),
         Call::Output(stream, n) => output(runner, stream, n, store, work),
         Call::Discarded(stream, n) => noted(runner.discarded(stream, n)),
         Call::OutputClosed(stream) => noted(runner.output_closed(stream)),

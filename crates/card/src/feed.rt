@@ -117,7 +117,14 @@ impl Card {
     fn open(self, opening: Opening, store: &mut [u8], lengths: &mut [u32]) -> Answered {
         clear_bytes(store);
         clear_lengths(lengths);
-        let noting = Runner::open(opening.key, opening.limits, opening.timers, opening.now, store, lengths);
+        let noting = Runner::open(
+            opening.key,
+            opening.limits,
+            opening.timers,
+            opening.now,
+            store,
+            lengths,
+        );
         let runner = noting.runner;
         let reply = noting.reply;
         self.opened_by(runner, reply, opening.now)
@@ -156,7 +163,13 @@ impl Card {
         }
     }
 
-    fn later(self, line: &[u8], store: &mut [u8], lengths: &mut [u32], work: &mut [u8]) -> Answered {
+    fn later(
+        self,
+        line: &[u8],
+        store: &mut [u8],
+        lengths: &mut [u32],
+        work: &mut [u8],
+    ) -> Answered {
         let Line::Call(call) = call_of(line, work) else {
             return self.bad(Stage::Running);
         };
@@ -165,7 +178,13 @@ impl Card {
 
     // ---- any line
 
-    fn answered(self, line: &[u8], store: &mut [u8], lengths: &mut [u32], work: &mut [u8]) -> Answered {
+    fn answered(
+        self,
+        line: &[u8],
+        store: &mut [u8],
+        lengths: &mut [u32],
+        work: &mut [u8],
+    ) -> Answered {
         let stage = self.stage;
         match stage {
             Stage::First => self.first(line, store, lengths),
@@ -184,7 +203,13 @@ impl Card {
         }
     }
 
-    fn answer(self, line: &[u8], store: &mut [u8], lengths: &mut [u32], work: &mut [u8]) -> Answered {
+    fn answer(
+        self,
+        line: &[u8],
+        store: &mut [u8],
+        lengths: &mut [u32],
+        work: &mut [u8],
+    ) -> Answered {
         if line.len() <= 65535 {
             return self.answered(line, store, lengths, work);
         }
