@@ -12,7 +12,7 @@ use borrow.Author.Tests.{eq-eqb, ne-eqb}
 use Prim.Native.Nat.{zero}
 use native.Mathlib.Decide.{decLt}
 use lib.ListN.{length, take, drop, getD, length-drop}
-use lib.Seq.{drop-cons, drop-length, take-all}
+use lib.Seq.{drop-cons, drop-length, take-all, drop-drop}
 use Rattle.exec.specs.declared.MaybeStatus.the-variants as MaybeStatus
 use Rattle.card.specs.Lines.{inFirst, at, missing, fields, status, callOf}
 use Rattle.card.specs.Meaning.{exitedWith, signaledWith}
@@ -119,7 +119,11 @@ pub place-on : (t : List ℕ) (m : ℕ) → commaAt t ≤ length t → at (field
 unfolding behindOf fields
 place-on t m l =
     elim (decLt (commaAt t) (length t)) [
-      | yes h ↦ rw (ne-eqb (commaAt t) (length t) (λ e. absurd (omega arith)), fields-cut t h, add-one) refl
+      | yes h ↦
+          let b : cond (eqb (commaAt t) (length t)) (length t) (commaAt t + 1) ≡ commaAt t + 1 = simp (ne-eqb (commaAt t) (length t) (λ e. absurd (omega arith))) in
+          ap (at (fields t)) (add-one m)
+          ∙ ap (λ (fs : List (List ℕ)). at fs (suc m)) (fields-cut t h)
+          ∙ sym (ap (λ (k : ℕ). at (fields (drop k t)) m) b)
       | no h ↦ let e : commaAt t ≡ length t = omega arith in rw (eq-eqb (commaAt t) (length t) e, fields-last t e, drop-length t, add-one) (sym (none-left m))
     ]
 
@@ -161,3 +165,30 @@ count-turn s i h = rw (drop-cons s i 0 h, add-one) (by (eqb (getD s i 0) 44))
 pub count-end : (s : List ℕ) → length (fields (drop (length s) s)) ≡ 1
 unfolding fields
 count-end s = rw (drop-length s) refl
+
+-- behind a field of the part of a line that begins at i
+pub record Behind (s : List ℕ) (i b : ℕ) : Type 0 where
+  pub is : b ≡ behindOf (drop i s)
+  pub most : i + b ≤ length s
+
+pub part-behind : (s : List ℕ) (i b : ℕ) → i ≤ length s → b ≡ behindOf (take (length s - i) (drop i s)) → b ≤ length (take (length s - i) (drop i s)) → Behind s i b
+part-behind s i b l e m =
+    let all : take (length s - i) (drop i s) ≡ drop i s = take-all (length s - i) (drop i s) (simp length-drop (omega arith)) in
+    let rest : length (drop i s) ≡ length s - i = length-drop i s in
+    let m′ : b ≤ length (drop i s) = rw all at m in
+    record { is = rw all at e; most = omega arith }
+
+pub place-turn : (s : List ℕ) (k i j b : ℕ) → j < k → Behind s i b → at (fields (drop i s)) (k - j) ≡ at (fields (drop (i + b) s)) (k - (j + 1))
+place-turn s k i j b l x =
+    let m : k - j ≡ (k - (j + 1)) + 1 = omega arith in
+    let further : drop b (drop i s) ≡ drop (i + b) s = drop-drop b i s in
+    rw m (place-on (drop i s) (k - (j + 1)) (comma-most (drop i s)) ∙ rw (← x .is, further) refl)
+
+-- the k-th field as the code makes it
+pub place-part : (s : List ℕ) (k i e : ℕ) → Place s k i → e ≡ i + commaAt (drop i s) → take (e - i) (drop i s) ≡ at (fields s) k
+place-part s k i e p h =
+    let n : e - i ≡ commaAt (drop i s) = omega arith in ap (λ (x : ℕ). take x (drop i s)) n ∙ sym (place-field s k i p)
+
+-- the first field as the code makes it
+pub first-part : (s : List ℕ) (e : ℕ) → e ≡ commaAt s → take (e - 0) s ≡ at (fields s) 0
+first-part s e h = let n : e - 0 ≡ commaAt s = omega arith in ap (λ (x : ℕ). take x s) n ∙ sym (first-field s (comma-most s))

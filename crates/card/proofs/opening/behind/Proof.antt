@@ -1,25 +1,30 @@
+use mathlib.Core.Path.{_≡_, sym, _∙_}
+use native.Mathlib.Omega.{arith}
+use borrow.Author.Tests.{eq-eqb, ne-eqb}
+use lib.ListN.{length}
+use Rattle.card.specs.FieldLaws.{commaAt, behindOf}
 use borrow.Author.Needs.{needs}
 use Rattle.card.proofs.opening.behind.Statement.{statement}
 use Rattle.card.proofs.opening.behind.Tie as tie
-use Rattle.card.proofs.opening.behind.Reads as reads
-use Rattle.card.proofs.opening.behind.Lts as lts
-use Rattle.card.proofs.lines.comma.Reads as comma-reads
 
--- src/opening.rt:80:9
 comma-requires : tie.Need-comma-requires
 comma-requires c κs = search needs
 
--- src/opening.rt:82:9
 returns : tie.Need-returns
-returns c = ?
+unfolding behindOf
+returns c =
+    let e = sym (c .before .comma .ensures .0) ∙ c .if1 .taken in
+    (simp (eq-eqb _ _ e), omega arith)
 
--- src/opening.rt:84:5
 add-result : tie.Need-add-result
 add-result c = search needs
 
--- src/opening.rt:76:1
 returns-2 : tie.Need-returns-2
-returns-2 c = ?
+unfolding behindOf
+returns-2 c =
+    let t = c .before .before .before .args .text .now in
+    let ne : commaAt t ≡ length t → ⊥ = λ e. c .if1 .left (c .before .comma .ensures .0 ∙ e) in
+    (simp (ne-eqb _ _ ne, c .before .comma .ensures .0), omega (arith, c .before .comma .ensures .1))
 
 pub behind-spec : {M : Type 1} → statement M
 behind-spec = tie.close (tie.spec comma-requires returns add-result returns-2)

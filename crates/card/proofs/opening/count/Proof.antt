@@ -1,46 +1,54 @@
+-- `opening::count` meets its contract. The invariant: the fields counted so far and those to come, one of them in both.
+use mathlib.Core.Path.{_≡_, refl}
+use Prim.Native.Nat.{_-_, _+_, _≤_}
+use native.Mathlib.Omega.{arith}
+use borrow.Author.Needs.{needs}
+use lib.ListN.{length, drop}
+use Rattle.card.specs.Lines.{fields}
+use Rattle.card.specs.FieldLaws.{count-turn, count-end}
 use Rattle.card.proofs.opening.count.Statement.{statement}
 use Rattle.card.proofs.opening.count.Tie as tie
-use Rattle.card.proofs.opening.count.Reads as reads
-use Rattle.card.proofs.opening.count.Lts as lts
-use Rattle.card.proofs.opening.is_comma.Reads as is-comma-reads
 
 abbrev Inv-loop : tie.InvT-loop
-Inv-loop line n k₀ i₀ k i = ?
+Inv-loop line n k₀ i₀ k i = (i ≤ n) × (n ≡ length line) × (k ≤ i + 1) × (k + length (fields (drop i line)) ≡ length (fields line) + 1)
 
 abbrev μ-loop : tie.MeasureT-loop
-μ-loop line n k₀ i₀ k i = ?
+μ-loop line n k₀ i₀ k i = n - i
 
--- src/opening.rt:68:5
 loop-holds : tie.Need-loop-holds Inv-loop μ-loop
-loop-holds c = ?
+loop-holds c = (omega arith, refl, omega arith, omega arith)
 
--- src/opening.rt:69:23
 shared-slice-read-is-comma : tie.Need-shared-slice-read-is-comma Inv-loop μ-loop
-shared-slice-read-is-comma c = ?
+shared-slice-read-is-comma c = search needs
 
--- src/opening.rt:69:14
 is-comma-requires : tie.Need-is-comma-requires Inv-loop μ-loop
-is-comma-requires c κs = ?
+is-comma-requires c κs = search needs
 
--- src/opening.rt:69:9
 add-k : tie.Need-add-k Inv-loop μ-loop
-add-k c = ?
+add-k c = let m = c .is-comma .ensures .1 in omega (arith, m)
 
--- src/opening.rt:70:9
 add-i : tie.Need-add-i Inv-loop μ-loop
-add-i c = ?
+add-i c = search needs
 
--- src/opening.rt:68:5
 loop-less : tie.Need-loop-less Inv-loop μ-loop
-loop-less c = ?
+loop-less c = search needs
 
--- src/opening.rt:68:5
 loop-again : tie.Need-loop-again Inv-loop μ-loop
-loop-again c = ?
+loop-again c =
+    let l = c .before .before .before .loop in
+    let t = c .before .before .before .before .before .args .line .now in
+    let turn = count-turn t (l .i) (omega arith) in
+    let e = c .is-comma .ensures .0 in
+    let m = c .is-comma .ensures .1 in
+    (omega arith, l .inv .1, omega (arith, m), omega (arith, l .inv .3, turn, e))
 
--- src/opening.rt:61:1
 returns : tie.Need-returns Inv-loop μ-loop
-returns c = ?
+returns c =
+    let l = c .before .loop in
+    let t = c .before .before .before .args .line .now in
+    let i : l .i ≡ length t = omega arith in
+    let one : length (fields (drop (l .i) t)) ≡ 1 = rw i (count-end t) in
+    omega (arith, l .inv .3)
 
 pub count-spec : {M : Type 1} → statement M
 count-spec =

@@ -1,33 +1,35 @@
+use mathlib.Core.Path.{_≡_, ap}
+use Prim.Native.Nat.{ℕ, _+_, _-_}
+use native.Mathlib.Omega.{arith}
+use lib.ListN.{length, take, drop, length-drop}
+use lib.Seq.{take-all}
 use borrow.Author.Needs.{needs}
 use Rattle.card.proofs.opening.end.Statement.{statement}
 use Rattle.card.proofs.opening.end.Tie as tie
-use Rattle.card.proofs.opening.end.Reads as reads
-use Rattle.card.proofs.opening.end.Lts as lts
-use Rattle.card.proofs.lines.comma.Reads as comma-reads
 
--- src/opening.rt:107:15
 sub-comma : tie.Need-sub-comma
 sub-comma c = search needs
 
--- src/opening.rt:107:15
 part-comma-start : tie.Need-part-comma-start
 part-comma-start c = search needs
 
--- src/opening.rt:107:15
 part-comma-end : tie.Need-part-comma-end
 part-comma-end c = search needs
 
--- src/opening.rt:107:9
 comma-requires : tie.Need-comma-requires
 comma-requires c κs = search needs
 
--- src/opening.rt:107:5
 add-result : tie.Need-add-result
 add-result c = search needs
 
--- src/opening.rt:102:1
 returns : tie.Need-returns
-returns c = ?
+returns c =
+    let s = c .before .before .before .args .line .now in
+    let i = c .before .before .before .args .i in
+    let all : take (length s - i) (drop i s) ≡ drop i s = take-all (length s - i) (drop i s) (simp length-drop (omega arith)) in
+    let e = rw all at (c .comma .ensures .0) in
+    let l = rw all at (c .comma .ensures .1) in
+    (ap (λ (k : ℕ). i + k) e, (let l2 : length (drop i s) ≡ length s - i = length-drop i s in omega (arith, l)))
 
 pub end-spec : {M : Type 1} → statement M
 end-spec =

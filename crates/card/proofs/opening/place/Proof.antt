@@ -1,54 +1,61 @@
+-- `opening::place` meets its contract. The invariant: so many fields are passed.
+use mathlib.Core.Path.{_≡_, refl, ap, _∙_}
+use Prim.Native.Nat.{_-_, _+_, _≤_}
+use native.Mathlib.Nat.{sub-zero}
+use native.Mathlib.Omega.{arith}
+use borrow.Author.Needs.{needs}
+use lib.ListN.{length, drop}
+use Rattle.card.specs.Lines.{at, fields}
+use Rattle.card.specs.FieldLaws.{Behind, part-behind, place-turn}
 use Rattle.card.proofs.opening.place.Statement.{statement}
 use Rattle.card.proofs.opening.place.Tie as tie
-use Rattle.card.proofs.opening.place.Reads as reads
-use Rattle.card.proofs.opening.place.Lts as lts
-use Rattle.card.proofs.opening.behind.Reads as behind-reads
 
 abbrev Inv-loop : tie.InvT-loop
-Inv-loop line k n i₀ j₀ i j = ?
+Inv-loop line k n i₀ j₀ i j = (j ≤ k) × (i ≤ n) × (n ≡ length line) × (at (fields line) k ≡ at (fields (drop i line)) (k - j))
 
 abbrev μ-loop : tie.MeasureT-loop
-μ-loop line k n i₀ j₀ i j = ?
+μ-loop line k n i₀ j₀ i j = k - j
 
--- src/opening.rt:94:5
 loop-holds : tie.Need-loop-holds Inv-loop μ-loop
-loop-holds c = ?
+loop-holds c = (omega arith, omega arith, refl, rw (sub-zero _) refl)
 
--- src/opening.rt:95:21
 sub-behind : tie.Need-sub-behind Inv-loop μ-loop
-sub-behind c = ?
+sub-behind c = search needs
 
--- src/opening.rt:95:21
 part-behind-start : tie.Need-part-behind-start Inv-loop μ-loop
-part-behind-start c = ?
+part-behind-start c = search needs
 
--- src/opening.rt:95:21
 part-behind-end : tie.Need-part-behind-end Inv-loop μ-loop
-part-behind-end c = ?
+part-behind-end c = search needs
 
--- src/opening.rt:95:14
 behind-requires : tie.Need-behind-requires Inv-loop μ-loop
-behind-requires c κs = ?
+behind-requires c κs = search needs
 
--- src/opening.rt:95:9
 add-i : tie.Need-add-i Inv-loop μ-loop
-add-i c = ?
+add-i c =
+    let l = c .before .before .before .loop in
+    let a = c .before .before .before .before .before .args in
+    omega (arith, part-behind (a .line .now) (l .i) _ (omega arith) (c .behind .ensures .0) (c .behind .ensures .1) .most)
 
--- src/opening.rt:96:9
 add-j : tie.Need-add-j Inv-loop μ-loop
-add-j c = ?
+add-j c = search needs
 
--- src/opening.rt:94:5
 loop-less : tie.Need-loop-less Inv-loop μ-loop
-loop-less c = ?
+loop-less c = search needs
 
--- src/opening.rt:94:5
 loop-again : tie.Need-loop-again Inv-loop μ-loop
-loop-again c = ?
+loop-again c =
+    let l = c .before .before .before .loop in
+    let a = c .before .before .before .before .before .args in
+    let b = part-behind (a .line .now) (l .i) _ (omega arith) (c .behind .ensures .0) (c .behind .ensures .1) in
+    (omega arith, omega (arith, b .most), l .inv .2, l .inv .3 ∙ place-turn (a .line .now) (a .k) (l .i) (l .j) _ (omega arith) b)
 
--- src/opening.rt:88:1
 returns : tie.Need-returns Inv-loop μ-loop
-returns c = ?
+returns c =
+    let l = c .before .loop in
+    let a = c .before .before .before .args in
+    let j : a .k - l .j ≡ 0 = omega arith in
+    record { is = l .inv .3 ∙ ap (at (fields (drop (l .i) (a .line .now)))) j; most = omega arith }
 
 pub place-spec : {M : Type 1} → statement M
 place-spec =

@@ -1,0 +1,28 @@
+use mathlib.Core.Path.{_∙_, sym}
+use Rattle.card.specs.Lines.{openOf}
+use borrow.Author.Needs.{needs}
+use Rattle.card.proofs.opening.open_of.Statement.{statement}
+use Rattle.card.proofs.opening.open_of.Tie as tie
+
+is-open-requires : tie.Need-is-open-requires
+is-open-requires c κs = search needs
+
+opening-of-requires : tie.Need-opening-of-requires
+opening-of-requires c κs = search needs
+
+returns : tie.Need-returns
+unfolding openOf
+returns c =
+    simp (
+      sym (c .before .before .is-open .ensures) ∙ c .before .if1 .taken,
+      c .opening-of .ensures,
+    )
+
+returns-2 : tie.Need-returns-2
+unfolding openOf
+returns-2 c =
+    simp
+    (sym (c .before .is-open .ensures) ∙ c .if1 .left)
+
+pub open-of-spec : {M : Type 1} → statement M
+open-of-spec = tie.close (tie.spec is-open-requires opening-of-requires returns returns-2)
