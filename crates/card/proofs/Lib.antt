@@ -1,2 +1,3 @@
 -- Laws that only proofs cite.
 mod Lengths
+mod Arms

@@ -8,5 +8,8 @@ pub mod Answers
 pub mod Feed
 pub mod Answering
 pub mod Written
+pub mod Zeros
+pub mod Making
+pub mod Feeding
 pub mod Calls
 pub mod Table

@@ -62,6 +62,7 @@ pub(crate) fn narrow(field: &[u8]) -> MaybeU32
 
 pub(crate) fn message_length(field: &[u8]) -> MaybeNumber
     ensures { λ r. ⌜ numberIs r ≡ messageLength (now (field .entry)) ⌝ }
+    ensures { λ r. ⌜ AtMost 16384 r ⌝ }
 {
     text::decimal::read(field, 16384)
 }

@@ -1,5 +1,6 @@
 // The session card: lines read, calls made of a runner, answers written. `feed` eats pieces of input and prints the answers.
 pub mod answers;
+pub mod calls;
 pub mod fields;
 pub mod lines;
 pub mod opening;

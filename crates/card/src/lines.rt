@@ -80,7 +80,7 @@ pub enum Call {
     Tick(u64),
     Deadline,
     NextRequest,
-    NextMessage(usize),
+    NextMessage(u16),
     IsFinished,
     IsDetached,
     AwaitsSettlement,
@@ -285,7 +285,7 @@ fn message(a: &[u8]) -> Line
     let MaybeNumber::Some(n) = fields::message_length(a) else {
         return Line::None;
     };
-    Line::Call(Call::NextMessage(n as usize))
+    Line::Call(Call::NextMessage(n as u16))
 }
 
 fn call1(name: &[u8], a: &[u8]) -> Line

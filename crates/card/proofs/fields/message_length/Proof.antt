@@ -1,3 +1,4 @@
+use Rattle.text.specs.SignedLaws.{number-most}
 use mathlib.Core.Path.{ap, _∙_}
 use Rattle.card.specs.Meaning.{numberIs}
 use Rattle.card.specs.WordLaws.{number-is}
@@ -9,7 +10,7 @@ read-requires : tie.Need-read-requires
 read-requires c κs = search needs
 
 returns : tie.Need-returns
-returns c = ap numberIs (c .read .ensures) ∙ number-is _
+returns c = (ap numberIs (c .read .ensures) ∙ number-is _, rw (c .read .ensures) (number-most 16384 _))
 
 pub message-length-spec : {M : Type 1} → statement M
 message-length-spec = tie.close (tie.spec read-requires returns)

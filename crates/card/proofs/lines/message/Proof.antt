@@ -1,4 +1,8 @@
-use mathlib.Core.Path.{_∙_, sym, ap}
+use mathlib.Core.Path.{subst}
+use Prim.Native.Nat.{_<_, _^_}
+use native.Mathlib.Omega.{arith}
+use Rattle.text.specs.Answers.{AtMost}
+use mathlib.Core.Path.{sym, ap, _∙_}
 use Rattle.card.specs.Meaning.{numberIs}
 use borrow.Author.Needs.{needs}
 use Rattle.card.proofs.lines.message.Statement.{statement}
@@ -14,15 +18,17 @@ enum-told : tie.Need-enum-told
 enum-told c = search needs
 
 returns : tie.Need-returns
-returns c w =
-    simp
-    (sym (c .before .before .message-length .ensures) ∙ ap numberIs (c .enum-told .given .1))
+returns c w = simp (sym (c .before .before .message-length .ensures .0) ∙ ap numberIs (c .enum-told .given .1))
+
+cast-t4 : tie.Need-cast-t4
+cast-t4 c =
+    let h = subst (AtMost 16384) (c .before .n .given .1) (c .before .before .before .message-length .ensures .1) in
+    let l : c .before .n .given .0 .0 < 2 ^ 16 = omega arith in
+    record { fits = l }
 
 returns-2 : tie.Need-returns-2
-returns-2 c w =
-    simp
-    (sym (c .before .before .before .message-length .ensures) ∙ ap numberIs (c .before .n .given .1))
+returns-2 c w = simp (sym (c .before .before .before .message-length .ensures .0) ∙ ap numberIs (c .before .n .given .1))
 
 pub message-spec : {M : Type 1} → statement M
 message-spec =
-    tie.close (tie.spec message-length-requires enum-known-n enum-told returns returns-2)
+    tie.close (tie.spec message-length-requires enum-known-n enum-told returns cast-t4 returns-2)

@@ -1,0 +1,61 @@
+use mathlib.Core.Path.{ap, _∙_}
+use mathlib.Core.List.{List}
+use Prim.Native.Nat.{ℕ, _-_}
+use native.Mathlib.Omega.{arith}
+use Rattle.account.specs.Step.{receivedAs}
+use Rattle.runner.specs.Calls as Runs
+use Rattle.runner.specs.Streams.{InputAfter}
+use Rattle.card.proofs.Lengths.{take-fewer}
+use borrow.Author.Needs.{needs}
+use Rattle.card.proofs.calls.input.Statement.{statement}
+use Rattle.card.proofs.calls.input.Tie as tie
+
+smaller-requires : tie.Need-smaller-requires
+smaller-requires c κs = search needs
+
+sub-input : tie.Need-sub-input
+sub-input c = search needs
+
+part-input-start : tie.Need-part-input-start
+part-input-start c = search needs
+
+part-input-end : tie.Need-part-input-end
+part-input-end c = search needs
+
+input-requires : tie.Need-input-requires
+input-requires c κs = search needs
+
+heard-requires : tie.Need-heard-requires
+heard-requires c κs = search needs
+
+same-length : tie.Need-same-length
+same-length c = search needs
+
+same-length-2 : tie.Need-same-length-2
+same-length-2 c = search needs
+
+returns : tie.Need-returns
+returns c =
+    let a = c .before .before .before .before .before .before .before .before .before .before .before .before .before .args in
+    let t = take-fewer (c .before .before .before .before .before .before .before .before .before .smaller .result - 0) (a .n) (a .work .now) (omega (arith, c .before .before .before .before .before .before .before .before .before .smaller .ensures)) in
+    let e = c .before .before .before .before .before .input .ensures ∙ ap (λ (b : List ℕ). Runs.input (a .runner) (a .key) b (a .store .now) (a .lengths .now)) t in
+    (
+      c .heard .ensures .0 ∙ ap (λ (x : InputAfter). x .hearing .runner) e,
+      ap (λ (x : InputAfter). x .bytes) e,
+      ap (λ (x : InputAfter). x .lengths) e,
+      λ w. c .heard .ensures .1 w ∙ ap (λ (x : InputAfter). receivedAs (x .hearing .received)) e,
+    )
+
+pub input-spec : {M : Type 1} → statement M
+input-spec =
+    tie.close
+    (tie.spec
+    smaller-requires
+    sub-input
+    part-input-start
+    part-input-end
+    input-requires
+    heard-requires
+    same-length
+    same-length-2
+    returns)

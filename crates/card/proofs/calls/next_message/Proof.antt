@@ -1,0 +1,53 @@
+use mathlib.Core.Path.{_≡_, ap, _∙_}
+use Prim.Native.Nat.{_-_}
+use native.Mathlib.Omega.{arith}
+use lib.ListN.{length, take}
+use Rattle.runner.specs.Calls.{nextMessage}
+use Rattle.card.specs.Lines.{zeros}
+use Rattle.card.specs.Making.{cleared, said-made}
+use borrow.Author.Needs.{needs}
+use Rattle.card.proofs.calls.next_message.Statement.{statement}
+use Rattle.card.proofs.calls.next_message.Tie as tie
+
+clear-requires : tie.Need-clear-requires
+clear-requires c κs = search needs
+
+sub-next-message : tie.Need-sub-next-message
+sub-next-message c = search needs
+
+part-next-message-start : tie.Need-part-next-message-start
+part-next-message-start c = search needs
+
+part-next-message-end : tie.Need-part-next-message-end
+part-next-message-end c = search needs
+
+next-message-requires : tie.Need-next-message-requires
+next-message-requires c κs = search needs
+
+said-requires : tie.Need-said-requires
+said-requires c κs = search needs
+
+same-length : tie.Need-same-length
+same-length c = search needs
+
+returns : tie.Need-returns
+returns c =
+    let a = c .before .before .before .before .before .before .before .before .before .before .before .before .args in
+    let buffer = c .before .before .before .before .next-message .last .1 .1 .0 in
+    let size : length buffer ≡ a .n - 0 = search needs in
+    let lent : take (a .n - 0) (c .before .before .before .before .before .before .before .before .clear .last .0) ≡ zeros (a .n) = cleared (a .work .now) (c .before .before .before .before .before .before .before .before .clear .last .0) (a .n) (c .before .before .before .before .before .before .before .before .clear .ensures) in
+    let e = c .before .before .before .before .next-message .ensures ∙ ap (nextMessage (a .runner) (a .store .now)) lent in
+    said-made (a .runner) (a .store .now) (a .n) _ buffer _ (c .said .result) e (omega arith) (c .said .ensures)
+
+pub next-message-spec : {M : Type 1} → statement M
+next-message-spec =
+    tie.close
+    (tie.spec
+    clear-requires
+    sub-next-message
+    part-next-message-start
+    part-next-message-end
+    next-message-requires
+    said-requires
+    same-length
+    returns)

@@ -1,0 +1,56 @@
+use mathlib.Core.Path.{ap, _∙_}
+use mathlib.Core.List.{List}
+use Prim.Native.Nat.{ℕ, _-_}
+use native.Mathlib.Omega.{arith}
+use Rattle.account.specs.Step.{took}
+use Rattle.runner.specs.Calls as Runs
+use Rattle.runner.specs.Streams.{OutputAfter}
+use Rattle.card.proofs.Lengths.{take-fewer}
+use borrow.Author.Needs.{needs}
+use Rattle.card.proofs.calls.output.Statement.{statement}
+use Rattle.card.proofs.calls.output.Tie as tie
+
+smaller-requires : tie.Need-smaller-requires
+smaller-requires c κs = search needs
+
+sub-output : tie.Need-sub-output
+sub-output c = search needs
+
+part-output-start : tie.Need-part-output-start
+part-output-start c = search needs
+
+part-output-end : tie.Need-part-output-end
+part-output-end c = search needs
+
+output-requires : tie.Need-output-requires
+output-requires c κs = search needs
+
+took-requires : tie.Need-took-requires
+took-requires c κs = search needs
+
+same-length : tie.Need-same-length
+same-length c = search needs
+
+returns : tie.Need-returns
+returns c =
+    let a = c .before .before .before .before .before .before .before .before .before .before .args in
+    let t = take-fewer (c .before .before .before .before .before .before .before .smaller .result - 0) (a .n) (a .work .now) (omega (arith, c .before .before .before .before .before .before .before .smaller .ensures)) in
+    let e = c .before .before .before .before .output .ensures ∙ ap (λ (b : List ℕ). Runs.output (a .runner) (a .stream) b (a .store .now)) t in
+    (
+      ap (λ (x : OutputAfter). x .taking .runner) e,
+      ap (λ (x : OutputAfter). x .bytes) e,
+      λ w. c .took .ensures w ∙ ap (λ (x : OutputAfter). took (x .taking .taken)) e,
+    )
+
+pub output-spec : {M : Type 1} → statement M
+output-spec =
+    tie.close
+    (tie.spec
+    smaller-requires
+    sub-output
+    part-output-start
+    part-output-end
+    output-requires
+    took-requires
+    same-length
+    returns)
