@@ -11,5 +11,6 @@ pub mod Written
 pub mod Zeros
 pub mod Making
 pub mod Feeding
+pub mod Standing
 pub mod Calls
 pub mod Table

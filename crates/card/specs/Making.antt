@@ -129,8 +129,7 @@ said-made r store n x buffer rest a e size h =
     let said = ap (λ (y : MessageAfter). y .saying .said) e in
     let same = ap (λ (y : MessageAfter). y .buffer) e in
     let k : length buffer ≡ length (zeros n) = size ∙ sym (zeros-length n) in
-    let fits : Fits (x .said) (length buffer) = rw (said, k) (said-fits r store (zeros n)) in
-    (
+    let fits : Fits (x .said) (length buffer) = rw (said, k) (said-fits r store (zeros n)) in (
       ap (λ (y : MessageAfter). y .saying .runner) e,
       h (buffer ++ rest) ∙ says-front (x .said) buffer rest fits ∙ ap (λ (y : MessageAfter). says (y .saying .said) (y .buffer)) e,
     )

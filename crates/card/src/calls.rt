@@ -138,7 +138,7 @@ fn next_request(runner: Runner) -> Making
 }
 
 // n zeros at the start of work.
-fn clear(work: &mut [u8], n: usize)
+pub(crate) fn clear(work: &mut [u8], n: usize)
     requires { ⌜ n ≤ length (now work) ⌝ }
     ensures { λ _. ⌜ now (work .exit) ≡ zeros n ++ drop n (now (work .entry)) ⌝ }
 {

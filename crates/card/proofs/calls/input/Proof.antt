@@ -38,8 +38,7 @@ returns : tie.Need-returns
 returns c =
     let a = c .before .before .before .before .before .before .before .before .before .before .before .before .before .args in
     let t = take-fewer (c .before .before .before .before .before .before .before .before .before .smaller .result - 0) (a .n) (a .work .now) (omega (arith, c .before .before .before .before .before .before .before .before .before .smaller .ensures)) in
-    let e = c .before .before .before .before .before .input .ensures ∙ ap (λ (b : List ℕ). Runs.input (a .runner) (a .key) b (a .store .now) (a .lengths .now)) t in
-    (
+    let e = c .before .before .before .before .before .input .ensures ∙ ap (λ (b : List ℕ). Runs.input (a .runner) (a .key) b (a .store .now) (a .lengths .now)) t in (
       c .heard .ensures .0 ∙ ap (λ (x : InputAfter). x .hearing .runner) e,
       ap (λ (x : InputAfter). x .bytes) e,
       ap (λ (x : InputAfter). x .lengths) e,

@@ -35,8 +35,7 @@ returns : tie.Need-returns
 returns c =
     let a = c .before .before .before .before .before .before .before .before .before .before .args in
     let t = take-fewer (c .before .before .before .before .before .before .before .smaller .result - 0) (a .n) (a .work .now) (omega (arith, c .before .before .before .before .before .before .before .smaller .ensures)) in
-    let e = c .before .before .before .before .output .ensures ∙ ap (λ (b : List ℕ). Runs.output (a .runner) (a .stream) b (a .store .now)) t in
-    (
+    let e = c .before .before .before .before .output .ensures ∙ ap (λ (b : List ℕ). Runs.output (a .runner) (a .stream) b (a .store .now)) t in (
       ap (λ (x : OutputAfter). x .taking .runner) e,
       ap (λ (x : OutputAfter). x .bytes) e,
       λ w. c .took .ensures w ∙ ap (λ (x : OutputAfter). took (x .taking .taken)) e,

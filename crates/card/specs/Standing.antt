@@ -1,0 +1,62 @@
+-- Where a session of the code stands.
+use mathlib.Core.Path.{_≡_}
+use mathlib.Core.List.{List}
+use mathlib.Core.Option.{some}
+use Prim.Native.Nat.{ℕ, _≤_}
+use lib.ListN.{length, take}
+use Rattle.exec.specs.declared.Reply.{Reply}
+use Rattle.exec.specs.declared.Reply.the-variants as Reply
+use Rattle.runner.specs.declared.runner.Runner.{Runner}
+use Rattle.account.specs.Call as Account
+use Rattle.account.specs.Call.{Call}
+use Rattle.account.specs.Step.{State, next, answer, replied}
+use Rattle.card.specs.declared.feed.Answered as Code
+use Rattle.card.specs.declared.feed.Card.{Card}
+use Rattle.card.specs.declared.feed.Stage as Stages
+use Rattle.card.specs.declared.feed.Stage.the-variants as Stage
+use Rattle.card.specs.declared.feed.Standing.{Standing}
+use Rattle.card.specs.declared.opening.Opening as Openings
+use Rattle.card.specs.declared.opening.MaybeOpening.the-variants as MaybeOpening
+use Rattle.card.specs.Feed as Feed
+use Rattle.card.specs.Feed.{Session, first, tooLong, isRefused, timeOf, remembered}
+use Rattle.card.specs.Meaning.{openingIs}
+use Rattle.card.specs.Answering.{answerIs}
+use Rattle.card.specs.Making.{stateOf}
+
+abbrev pub stageIs : Stages.Stage → Runner → (last : ℕ) → (bytes lengths : List ℕ) → Feed.Stage
+stageIs Stage.First r last bytes lengths = Feed.First
+stageIs Stage.Running r last bytes lengths = Feed.Running (stateOf r bytes lengths) last
+stageIs Stage.Over r last bytes lengths = Feed.Over
+
+abbrev pub standingIs : Standing → (bytes lengths : List ℕ) → Feed.Stage
+standingIs s bytes lengths = stageIs (s .stage) (s .runner) (s .last) bytes lengths
+
+-- the session: the line that has not ended stands at the start of the line area
+abbrev pub sessionOf : Card → (line bytes lengths : List ℕ) → Session
+sessionOf c line bytes lengths = record { stage = standingIs (c .standing) bytes lengths; lines = c .lines; held = take (c .held) line }
+
+-- a line's answer as it is told
+abbrev pub Answers : Feed.Answered → Code.Answered → (bytes lengths work : List ℕ) → Type 0
+Answers x r bytes lengths work = (standingIs (r .standing) bytes lengths ≡ x .stage) × (answerIs (r .answer) work ≡ x .answer)
+
+abbrev pub AnswersAll : ((bytes lengths : List ℕ) → Feed.Answered) → Code.Answered → Type 0
+AnswersAll f r = (bytes lengths work : List ℕ) → Answers (f bytes lengths) r bytes lengths work
+
+-- what open made, from its reply
+abbrev pub openedAs : Reply → Runner → (now : ℕ) → (bytes lengths : List ℕ) → Feed.Answered
+openedAs Reply.Ok r now bytes lengths = record { stage = Feed.Running (stateOf r bytes lengths) now; answer = Account.Ok }
+openedAs (Reply.Refused x) r now bytes lengths = record { stage = Feed.Over; answer = replied (Reply.Refused x) }
+
+abbrev pub firstOf : Openings.Opening → Feed.Answered
+firstOf o = first (openingIs (MaybeOpening.Some o))
+
+-- a call that is not refused by 31
+abbrev pub madeBy : Call → State → (last : ℕ) → Feed.Answered
+madeBy c s last = record { stage = Feed.Running (next s c) (remembered (isRefused (answer s c)) (timeOf c) last); answer = answer s c }
+
+abbrev pub tooLongAt : Standing → (bytes lengths : List ℕ) → Feed.Answered
+tooLongAt s bytes lengths = tooLong (standingIs s bytes lengths)
+
+-- the areas that the code is lent: for a line, the runner's stores, and work
+abbrev pub Areas : (line bytes lengths work : List ℕ) → Type 0
+Areas line bytes lengths work = (length line ≡ 65536) × (length bytes ≡ 65536) × (length lengths ≡ 1024) × (length work ≡ 65536)

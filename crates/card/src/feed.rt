@@ -1,0 +1,287 @@
+// A session that is fed pieces of input: each line is answered where it ends, into a lent output area.
+ghost use mathlib.Core.Path.{_≡_};
+ghost use mathlib.Core.Bool.{false};
+ghost use mathlib.Core.List.{[]};
+ghost use mathlib.Core.Option.{some};
+ghost use Prim.Native.Nat.{_+_, _-_, _≤_, _<_};
+ghost use lib.ListN.{length, take, drop};
+ghost use Rattle.card.specs.Lines.{zeros, lineOpen, lineCall};
+ghost use Rattle.card.specs.Feed.{isBack, remembered, first, later, answered, tooLong, answerOf, lineEnds};
+ghost use Rattle.card.specs.Meaning.{callIs, openingIs};
+ghost use Rattle.card.specs.Making.{timeIs, TimeIs, stateOf};
+ghost use Rattle.card.specs.Written.{Wrote};
+ghost use Rattle.card.specs.Feeding.{lineLength, holdAll};
+ghost use Rattle.card.specs.declared.answers.Answer.the-variants as Answer;
+ghost use Rattle.card.specs.Standing.{standingIs, Answers, AnswersAll, openedAs, firstOf, madeBy, tooLongAt};
+use crate::answers;
+use crate::answers::Answer;
+use crate::calls::MaybeTime;
+use crate::calls::clear;
+use crate::calls::make;
+use crate::calls::time_of;
+use crate::lines::Call;
+use crate::lines::Line;
+use crate::lines::call_of;
+use crate::opening::MaybeOpening;
+use crate::opening::Opening;
+use crate::opening::open_of;
+use exec::Key;
+use exec::Limits;
+use exec::Reply;
+use exec::Timers;
+use exec::Window;
+use ring::copy_in;
+use ring::smaller;
+use runner::runner::Runner;
+
+// Where a session stands: before its first line; with a runner; or without one, where every line is 30.
+pub enum Stage {
+    First,
+    Running,
+    Over,
+}
+
+pub struct Standing {
+    pub stage: Stage,
+    pub runner: Runner,
+    // The last time that is remembered.
+    pub last: u64,
+}
+
+pub struct Card {
+    pub standing: Standing,
+    // How many lines were answered.
+    pub lines: u64,
+    // How many bytes of a line that has not ended stand in the line area; 65,536 are too many already.
+    pub held: usize,
+}
+
+// Where the session stands after a line, and the line's answer.
+pub(crate) struct Answered {
+    pub(crate) standing: Standing,
+    pub(crate) answer: Answer,
+}
+
+// The card after a line, and where the next answer goes.
+pub(crate) struct Printed {
+    pub(crate) card: Card,
+    pub(crate) at: usize,
+}
+
+// The card after a piece, how many bytes of the piece it has eaten, and how many bytes of the output area have answers.
+pub struct Eaten {
+    pub card: Card,
+    pub used: usize,
+    pub printed: usize,
+}
+
+// ---- times
+
+fn is_back(time: MaybeTime, last: u64) -> bool
+    ensures { λ r. ⌜ r ≡ isBack (timeIs time) last ⌝ }
+{
+    match time {
+        MaybeTime::None => false,
+        MaybeTime::At(now) => now < last,
+    }
+}
+
+fn latest(time: MaybeTime, last: u64) -> u64
+    ensures { λ r. ⌜ r ≡ remembered false (timeIs time) last ⌝ }
+{
+    match time {
+        MaybeTime::None => last,
+        MaybeTime::At(now) => now,
+    }
+}
+
+// A refused line's time is not remembered.
+fn remember(refused: bool, time: MaybeTime, last: u64) -> u64
+    ensures { λ r. ⌜ r ≡ remembered refused (timeIs time) last ⌝ }
+{
+    if refused {
+        return last;
+    }
+    latest(time, last)
+}
+
+fn clear_lengths(lengths: &mut [u32])
+    ensures { λ _. ⌜ now (lengths .exit) ≡ zeros (length (now (lengths .entry))) ⌝ }
+{
+    let n = lengths.len();
+    let mut i: usize = 0;
+    while i < n {
+        lengths[i] = 0;
+        i += 1;
+    }
+}
+
+impl Standing {
+    fn bad(self, stage: Stage) -> Answered
+        ensures { λ r. ⌜ (r .standing ≡ record { stage = stage; runner = self .runner; last = self .last }) × (r .answer ≡ Answer.Refused 30) ⌝ }
+    {
+        let runner = self.runner;
+        Answered {
+            standing: Standing {
+                stage,
+                runner,
+                last: self.last,
+            },
+            answer: Answer::Refused(30),
+        }
+    }
+
+    // ---- the first line
+
+    fn opened_by(self, runner: Runner, reply: Reply, now: u64) -> Answered
+        ensures { λ r. ⌜ AnswersAll (openedAs reply runner now) r ⌝ }
+    {
+        match reply {
+            Reply::Ok => {
+                let standing = Standing {
+                    stage: Stage::Running,
+                    runner,
+                    last: now,
+                };
+                Answered {
+                    standing,
+                    answer: Answer::Ok,
+                }
+            }
+            Reply::Refused(refusal) => {
+                let standing = Standing {
+                    stage: Stage::Over,
+                    runner,
+                    last: now,
+                };
+                Answered {
+                    standing,
+                    answer: answers::replied(Reply::Refused(refusal)),
+                }
+            }
+        }
+    }
+
+    fn open(self, opening: Opening, store: &mut [u8], lengths: &mut [u32]) -> Answered
+        requires { ⌜ (length (now store) ≡ 65536) × (length (now lengths) ≡ 1024) ⌝ }
+        ensures { λ r. ⌜ Answers (firstOf opening) r (now (store .exit)) (now (lengths .exit)) [] ⌝ }
+    {
+        clear(store, 65536);
+        clear_lengths(lengths);
+        let key = opening.key;
+        let limits = opening.limits;
+        let timers = opening.timers;
+        let noting = Runner::open(key, limits, timers, opening.now, store, lengths);
+        let runner = noting.runner;
+        let reply = noting.reply;
+        self.opened_by(runner, reply, opening.now)
+    }
+
+    fn first(self, line: &[u8], store: &mut [u8], lengths: &mut [u32]) -> Answered
+        requires { ⌜ (length (now line) ≤ 65535) × (length (now store) ≡ 65536) × (length (now lengths) ≡ 1024) ⌝ }
+        ensures { λ r. ⌜ Answers (first (lineOpen (now (line .entry)))) r (now (store .exit)) (now (lengths .exit)) [] ⌝ }
+    {
+        let MaybeOpening::Some(opening) = open_of(line) else {
+            return self.bad(Stage::Over);
+        };
+        self.open(opening, store, lengths)
+    }
+
+    // ---- a later line
+
+    fn make(
+        self,
+        call: Call,
+        time: MaybeTime,
+        store: &mut [u8],
+        lengths: &mut [u32],
+        work: &mut [u8],
+    ) -> Answered
+        requires { ⌜ (length (now store) ≡ 65536) × (length (now work) ≡ 65536) × TimeIs time call ⌝ }
+        ensures { λ r. ⌜ Answers (madeBy (callIs call (now (work .entry))) (stateOf (self .runner) (now (store .entry)) (now (lengths .entry))) (self .last)) r (now (store .exit)) (now (lengths .exit)) (now (work .exit)) ⌝ }
+    {
+        let runner = self.runner;
+        let making = make(runner, call, store, lengths, work);
+        let next = making.runner;
+        let answer = making.answer;
+        let last = remember(answers::is_refused(answer), time, self.last);
+        let standing = Standing {
+            stage: Stage::Running,
+            runner: next,
+            last,
+        };
+        Answered { standing, answer }
+    }
+
+    fn call(self, call: Call, store: &mut [u8], lengths: &mut [u32], work: &mut [u8]) -> Answered
+        requires { ⌜ (length (now store) ≡ 65536) × (length (now work) ≡ 65536) ⌝ }
+        ensures { λ r. ⌜ Answers (later (some (callIs call (now (work .entry)))) (stateOf (self .runner) (now (store .entry)) (now (lengths .entry))) (self .last)) r (now (store .exit)) (now (lengths .exit)) (now (work .exit)) ⌝ }
+    {
+        let time = time_of(call);
+        if is_back(time, self.last) {
+            let runner = self.runner;
+            let standing = Standing {
+                stage: Stage::Running,
+                runner,
+                last: self.last,
+            };
+            return Answered {
+                standing,
+                answer: Answer::Refused(31),
+            };
+        }
+        self.make(call, time, store, lengths, work)
+    }
+
+    fn later(self, line: &[u8], store: &mut [u8], lengths: &mut [u32], work: &mut [u8]) -> Answered
+        requires { ⌜ (length (now line) ≤ 65535) × (length (now store) ≡ 65536) × (length (now work) ≡ 65536) ⌝ }
+        ensures { λ r. ⌜ Answers (later (lineCall (now (line .entry))) (stateOf (self .runner) (now (store .entry)) (now (lengths .entry))) (self .last)) r (now (store .exit)) (now (lengths .exit)) (now (work .exit)) ⌝ }
+    {
+        let Line::Call(call) = call_of(line, work) else {
+            return self.bad(Stage::Running);
+        };
+        self.call(call, store, lengths, work)
+    }
+
+    // ---- any line
+
+    fn answered(
+        self,
+        line: &[u8],
+        store: &mut [u8],
+        lengths: &mut [u32],
+        work: &mut [u8],
+    ) -> Answered
+        requires { ⌜ (length (now line) ≤ 65535) × (length (now store) ≡ 65536) × (length (now lengths) ≡ 1024) × (length (now work) ≡ 65536) ⌝ }
+        ensures { λ r. ⌜ Answers (answered (standingIs self (now (store .entry)) (now (lengths .entry))) (now (line .entry))) r (now (store .exit)) (now (lengths .exit)) (now (work .exit)) ⌝ }
+    {
+        let stage = self.stage;
+        match stage {
+            Stage::First => self.first(line, store, lengths),
+            Stage::Running => self.later(line, store, lengths, work),
+            Stage::Over => self.bad(Stage::Over),
+        }
+    }
+
+    // A line of more than 65,535 bytes is refused whole; it is the first line where it stands first.
+    fn too_long(self) -> Answered
+        ensures { λ r. ⌜ AnswersAll (tooLongAt self) r ⌝ }
+    {
+        let stage = self.stage;
+        match stage {
+            Stage::First => self.bad(Stage::Over),
+            Stage::Running => self.bad(Stage::Running),
+            Stage::Over => self.bad(Stage::Over),
+        }
+    }
+
+    fn answer(self, line: &[u8], store: &mut [u8], lengths: &mut [u32], work: &mut [u8]) -> Answered
+        requires { ⌜ (length (now store) ≡ 65536) × (length (now lengths) ≡ 1024) × (length (now work) ≡ 65536) ⌝ }
+        ensures { λ r. ⌜ Answers (answerOf (standingIs self (now (store .entry)) (now (lengths .entry))) (now (line .entry))) r (now (store .exit)) (now (lengths .exit)) (now (work .exit)) ⌝ }
+    {
+        if line.len() <= 65535 {
+            return self.answered(line, store, lengths, work);
+        }
+        self.too_long()
+    }
+}
