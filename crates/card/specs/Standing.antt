@@ -1,6 +1,6 @@
 -- Where a session of the code stands.
 use mathlib.Core.Path.{_≡_}
-use mathlib.Core.List.{List}
+use mathlib.Core.List.{List, _++_}
 use mathlib.Core.Option.{some}
 use Prim.Native.Nat.{ℕ, _≤_}
 use lib.ListN.{length, take}
@@ -12,13 +12,15 @@ use Rattle.account.specs.Call.{Call}
 use Rattle.account.specs.Step.{State, next, answer, replied}
 use Rattle.card.specs.declared.feed.Answered as Code
 use Rattle.card.specs.declared.feed.Card.{Card}
+use Rattle.card.specs.declared.feed.Printed.{Printed}
+use Rattle.card.specs.Written.{Wrote}
 use Rattle.card.specs.declared.feed.Stage as Stages
 use Rattle.card.specs.declared.feed.Stage.the-variants as Stage
 use Rattle.card.specs.declared.feed.Standing.{Standing}
 use Rattle.card.specs.declared.opening.Opening as Openings
 use Rattle.card.specs.declared.opening.MaybeOpening.the-variants as MaybeOpening
 use Rattle.card.specs.Feed as Feed
-use Rattle.card.specs.Feed.{Session, first, tooLong, isRefused, timeOf, remembered}
+use Rattle.card.specs.Feed.{Session, lineEnds, first, tooLong, isRefused, timeOf, remembered}
 use Rattle.card.specs.Meaning.{openingIs}
 use Rattle.card.specs.Answering.{answerIs}
 use Rattle.card.specs.Making.{stateOf}
@@ -60,3 +62,15 @@ tooLongAt s bytes lengths = tooLong (standingIs s bytes lengths)
 -- the areas that the code is lent: for a line, the runner's stores, and work
 abbrev pub Areas : (line bytes lengths work : List ℕ) → Type 0
 Areas line bytes lengths work = (length line ≡ 65536) × (length bytes ≡ 65536) × (length lengths ≡ 1024) × (length work ≡ 65536)
+
+-- bytes of a line are held, and nothing else changes
+pub record Holds (c r : Card) (line then bytes : List ℕ) : Type 0 where
+  pub standing : r .standing ≡ c .standing
+  pub lines : r .lines ≡ c .lines
+  pub held : take (r .held) then ≡ take 65536 (take (c .held) line ++ bytes)
+  pub most : r .held ≤ 65536
+
+-- the line that is held is answered, and its answer written
+pub record EndsLine (s : Session) (r : Printed) (line bytes lengths out then : List ℕ) (at : ℕ) : Type 0 where
+  pub session : sessionOf (r .card) line bytes lengths ≡ lineEnds s .session
+  pub printed : Wrote 131200 out then at (r .at) (lineEnds s .printed)

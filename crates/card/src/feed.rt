@@ -12,7 +12,7 @@ ghost use Rattle.card.specs.Making.{timeIs, TimeIs, stateOf};
 ghost use Rattle.card.specs.Written.{Wrote};
 ghost use Rattle.card.specs.Feeding.{lineLength, holdAll};
 ghost use Rattle.card.specs.declared.answers.Answer.the-variants as Answer;
-ghost use Rattle.card.specs.Standing.{standingIs, Answers, AnswersAll, openedAs, firstOf, madeBy, tooLongAt};
+ghost use Rattle.card.specs.Standing.{standingIs, Answers, AnswersAll, openedAs, firstOf, madeBy, tooLongAt, sessionOf, Areas, Holds, EndsLine};
 use crate::answers;
 use crate::answers::Answer;
 use crate::calls::MaybeTime;
@@ -283,5 +283,71 @@ impl Standing {
             return self.answered(line, store, lengths, work);
         }
         self.too_long()
+    }
+}
+
+// ---- lines out of pieces
+
+// The index of the first end of a line (0a) from `from` on, or the length where there is none.
+fn line_end(piece: &[u8], from: usize) -> usize
+    requires { ⌜ from ≤ length (now piece) ⌝ }
+    ensures { λ r. ⌜ (r ≡ from + lineLength (drop from (now (piece .entry)))) × (r ≤ length (now (piece .entry))) ⌝ }
+{
+    let n = piece.len();
+    let mut i = from;
+    while i < n {
+        if piece[i] == 10 {
+            return i;
+        }
+        i += 1;
+    }
+    n
+}
+
+impl Card {
+    // Bytes of a line, of which no more are held than tell that it is too long.
+    fn hold(self, line: &mut [u8], piece: &[u8], from: usize, to: usize) -> Card
+        requires { ⌜ (from ≤ to) × (to ≤ length (now piece)) × (self .held ≤ 65536) × (length (now line) ≡ 65536) ⌝ }
+        ensures { λ r. ⌜ Holds self r (now (line .entry)) (now (line .exit)) (take (to - from) (drop from (now (piece .entry)))) ⌝ }
+    {
+        let held = self.held;
+        let n = smaller(to - from, 65536 - held);
+        copy_in(line, held, piece, from, n);
+        let standing = self.standing;
+        Card {
+            standing,
+            lines: self.lines,
+            held: held + n,
+        }
+    }
+
+    // The line that is held ends: its answer is written from index `at` on.
+    fn end_line(
+        self,
+        line: &[u8],
+        store: &mut [u8],
+        lengths: &mut [u32],
+        work: &mut [u8],
+        out: &mut [u8],
+        at: usize,
+    ) -> Printed
+        requires { ⌜ Areas (now line) (now store) (now lengths) (now work) × (self .held ≤ 65536) × (self .lines < 18446744073709551615) × (at + 131200 ≤ length (now out)) ⌝ }
+        ensures { λ r. ⌜ EndsLine (sessionOf self (now (line .entry)) (now (store .entry)) (now (lengths .entry))) r (now (line .entry)) (now (store .exit)) (now (lengths .exit)) (now (out .entry)) (now (out .exit)) at ⌝ }
+    {
+        let held = self.held;
+        let number = self.lines + 1;
+        let standing = self.standing;
+        let answered = standing.answer(&line[0..held], store, lengths, work);
+        let answer = answered.answer;
+        let end = answers::write_line(number, answer, work, out, at);
+        let next = answered.standing;
+        Printed {
+            card: Card {
+                standing: next,
+                lines: number,
+                held: 0,
+            },
+            at: end,
+        }
     }
 }

@@ -1,45 +1,49 @@
+-- `feed::clear_lengths` meets its contract. The invariant: i lengths are zero.
+use mathlib.Core.Path.{_≡_, refl, ap, _∙_}
+use mathlib.Core.List.{_++_}
+use Prim.Native.Nat.{_-_, _≤_}
+use native.Mathlib.Omega.{arith}
+use borrow.Author.Needs.{needs}
+use lib.ListN.{length, drop, length-set}
+use Rattle.card.specs.Lines.{zeros}
+use Rattle.card.specs.Zeros.{zeros-start, zeros-turn, zeros-all}
 use Rattle.card.proofs.feed.clear_lengths.Statement.{statement}
 use Rattle.card.proofs.feed.clear_lengths.Tie as tie
-use Rattle.card.proofs.feed.clear_lengths.Reads as reads
-use Rattle.card.proofs.feed.clear_lengths.Lts as lts
 
 abbrev Inv-loop : tie.InvT-loop
-Inv-loop lengths₀ n i₀ lengths i = ?
+Inv-loop lengths₀ n i₀ lengths i = (i ≤ n) × (n ≡ length lengths₀) × (lengths ≡ zeros i ++ drop i lengths₀) × (length lengths ≡ length lengths₀)
 
 abbrev μ-loop : tie.MeasureT-loop
-μ-loop lengths₀ n i₀ lengths i = ?
+μ-loop lengths₀ n i₀ lengths i = n - i
 
--- src/feed.rt:113:5
 loop-holds : tie.Need-loop-holds Inv-loop μ-loop
-loop-holds c = ?
+loop-holds c = (omega arith, refl, zeros-start _, refl)
 
--- src/feed.rt:114:9
 mul-lengths : tie.Need-mul-lengths Inv-loop μ-loop
-mul-lengths c = ?
+mul-lengths c = search needs
 
--- src/feed.rt:114:9
 slice-write-lengths : tie.Need-slice-write-lengths Inv-loop μ-loop
-slice-write-lengths c = ?
+slice-write-lengths c = search needs
 
--- src/feed.rt:115:9
 add-i : tie.Need-add-i Inv-loop μ-loop
-add-i c = ?
+add-i c = search needs
 
--- src/feed.rt:113:5
 loop-less : tie.Need-loop-less Inv-loop μ-loop
-loop-less c = ?
+loop-less c = search needs
 
--- src/feed.rt:113:5
 loop-again : tie.Need-loop-again Inv-loop μ-loop
-loop-again c = ?
+loop-again c =
+    let l = c .before .loop in
+    (omega arith, l .inv .1, rw (l .inv .2) (zeros-turn _ _ (omega arith)), simp length-set (l .inv .3))
 
--- src/feed.rt:108:1
 same-length : tie.Need-same-length Inv-loop μ-loop
-same-length c = ?
+same-length c = c .before .loop .inv .3
 
--- src/feed.rt:108:1
 returns : tie.Need-returns Inv-loop μ-loop
-returns c = ?
+returns c =
+    let l = c .before .loop in
+    let i : l .i ≡ length (c .before .before .before .args .lengths .now) = omega arith in
+    l .inv .2 ∙ zeros-all (l .i) _ i ∙ ap zeros i
 
 pub clear-lengths-spec : {M : Type 1} → statement M
 clear-lengths-spec =
