@@ -1,3 +1,5 @@
 -- Laws that only proofs cite.
 mod Lengths
 mod Arms
+mod Standings
+mod Held

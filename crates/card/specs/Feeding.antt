@@ -206,3 +206,7 @@ line-stopped s room bs k h e l g =
     let n : eaten (holdAll s (take k bs)) room (drop k bs) ≡ 0 =
     ap (λ (x : List ℕ). eaten (holdAll s (take k bs)) room x) d ∙ eaten-stop s room (take k bs) (drop (k + 1) bs) g in
     (f .0, f .1, omega arith)
+
+pub line-over : (s : List ℕ) → lineLength (drop (length s) s) ≡ 0
+unfolding lineLength
+line-over s = rw (drop-length s) refl

@@ -12,5 +12,6 @@ pub mod Zeros
 pub mod Making
 pub mod Feeding
 pub mod Standing
+pub mod Turning
 pub mod Calls
 pub mod Table

@@ -41,6 +41,10 @@ sessionOf c line bytes lengths = record { stage = standingIs (c .standing) bytes
 abbrev pub Answers : Feed.Answered → Code.Answered → (bytes lengths work : List ℕ) → Type 0
 Answers x r bytes lengths work = (standingIs (r .standing) bytes lengths ≡ x .stage) × (answerIs (r .answer) work ≡ x .answer)
 
+-- (whatever stands in `work`)
+abbrev pub AnswersAny : Feed.Answered → Code.Answered → (bytes lengths : List ℕ) → Type 0
+AnswersAny x r bytes lengths = (work : List ℕ) → Answers x r bytes lengths work
+
 abbrev pub AnswersAll : ((bytes lengths : List ℕ) → Feed.Answered) → Code.Answered → Type 0
 AnswersAll f r = (bytes lengths work : List ℕ) → Answers (f bytes lengths) r bytes lengths work
 

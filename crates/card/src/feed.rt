@@ -1,7 +1,6 @@
 // A session that is fed pieces of input: each line is answered where it ends, into a lent output area.
 ghost use mathlib.Core.Path.{_≡_};
 ghost use mathlib.Core.Bool.{false};
-ghost use mathlib.Core.List.{[]};
 ghost use mathlib.Core.Option.{some};
 ghost use Prim.Native.Nat.{_+_, _-_, _≤_, _<_};
 ghost use lib.ListN.{length, take, drop};
@@ -10,9 +9,10 @@ ghost use Rattle.card.specs.Feed.{isBack, remembered, first, later, answ
 ghost use Rattle.card.specs.Meaning.{callIs, openingIs};
 ghost use Rattle.card.specs.Making.{timeIs, TimeIs, stateOf};
 ghost use Rattle.card.specs.Written.{Wrote};
-ghost use Rattle.card.specs.Feeding.{lineLength, holdAll};
+ghost use Rattle.card.specs.Feeding.{lineLength, goesOn};
+ghost use Rattle.card.specs.Turning.{Passes, Goes};
 ghost use Rattle.card.specs.declared.answers.Answer.the-variants as Answer;
-ghost use Rattle.card.specs.Standing.{standingIs, Answers, AnswersAll, openedAs, firstOf, madeBy, tooLongAt, sessionOf, Areas, Holds, EndsLine};
+ghost use Rattle.card.specs.Standing.{standingIs, Answers, AnswersAny, AnswersAll, openedAs, firstOf, madeBy, tooLongAt, sessionOf, Areas, Holds, EndsLine};
 use crate::answers;
 use crate::answers::Answer;
 use crate::calls::MaybeTime;
@@ -164,7 +164,7 @@ impl Standing {
 
     fn open(self, opening: Opening, store: &mut [u8], lengths: &mut [u32]) -> Answered
         requires { ⌜ (length (now store) ≡ 65536) × (length (now lengths) ≡ 1024) ⌝ }
-        ensures { λ r. ⌜ Answers (firstOf opening) r (now (store .exit)) (now (lengths .exit)) [] ⌝ }
+        ensures { λ r. ⌜ AnswersAny (firstOf opening) r (now (store .exit)) (now (lengths .exit)) ⌝ }
     {
         clear(store, 65536);
         clear_lengths(lengths);
@@ -179,7 +179,7 @@ impl Standing {
 
     fn first(self, line: &[u8], store: &mut [u8], lengths: &mut [u32]) -> Answered
         requires { ⌜ (length (now line) ≤ 65535) × (length (now store) ≡ 65536) × (length (now lengths) ≡ 1024) ⌝ }
-        ensures { λ r. ⌜ Answers (first (lineOpen (now (line .entry)))) r (now (store .exit)) (now (lengths .exit)) [] ⌝ }
+        ensures { λ r. ⌜ AnswersAny (first (lineOpen (now (line .entry)))) r (now (store .exit)) (now (lengths .exit)) ⌝ }
     {
         let MaybeOpening::Some(opening) = open_of(line) else {
             return self.bad(Stage::Over);
@@ -349,5 +349,78 @@ impl Card {
             },
             at: end,
         }
+    }
+}
+
+// ---- pieces
+
+// Between two lines of a piece: how much of it is eaten, and where the next answer goes.
+pub(crate) struct Turn {
+    pub(crate) card: Card,
+    pub(crate) used: usize,
+    pub(crate) at: usize,
+    pub(crate) more: bool,
+}
+
+impl Card {
+    // The line that is held ends at index `end` of the piece: it is answered if there is room.
+    fn pass_line(
+        self,
+        end: usize,
+        line: &[u8],
+        store: &mut [u8],
+        lengths: &mut [u32],
+        work: &mut [u8],
+        out: &mut [u8],
+        at: usize,
+    ) -> Turn
+        requires { ⌜ Areas (now line) (now store) (now lengths) (now work) × (self .held ≤ 65536) × (at ≤ length (now out)) × (end < 18446744073709551615) ⌝ }
+        ensures { λ r. ⌜ Passes (goesOn (sessionOf self (now (line .entry)) (now (store .entry)) (now (lengths .entry))) (length (now (out .entry)) - at)) (sessionOf self (now (line .entry)) (now (store .entry)) (now (lengths .entry))) r (sessionOf (r .card) (now (line .entry)) (now (store .exit)) (now (lengths .exit))) (now (out .entry)) (now (out .exit)) at end ⌝ }
+    {
+        if (131200 <= out.len() - at) & (self.lines < 18446744073709551615) {
+            let printed = self.end_line(line, store, lengths, work, out, at);
+            let next = printed.card;
+            return Turn {
+                card: next,
+                used: end + 1,
+                at: printed.at,
+                more: true,
+            };
+        }
+        Turn {
+            card: self,
+            used: end,
+            at,
+            more: false,
+        }
+    }
+}
+
+// To the end of a line and its answer; or to where the piece ends, or the area may not hold the next answer.
+fn turn(
+    t: Turn,
+    line: &mut [u8],
+    store: &mut [u8],
+    lengths: &mut [u32],
+    work: &mut [u8],
+    piece: &[u8],
+    out: &mut [u8],
+) -> Turn
+    requires { ⌜ Areas (now line) (now store) (now lengths) (now work) × (t .card .held ≤ 65536) × (t .at ≤ length (now out)) × (t .used ≤ length (now piece)) ⌝ }
+    ensures { λ r. ⌜ Goes (sessionOf (t .card) (now (line .entry)) (now (store .entry)) (now (lengths .entry))) t r (sessionOf (r .card) (now (line .exit)) (now (store .exit)) (now (lengths .exit))) (now (piece .entry)) (now (out .entry)) (now (out .exit)) ⌝ }
+{
+    let from = t.used;
+    let at = t.at;
+    let end = line_end(piece, from);
+    let before = t.card;
+    let card = before.hold(line, piece, from, end);
+    if end < piece.len() {
+        return card.pass_line(end, line, store, lengths, work, out, at);
+    }
+    Turn {
+        card,
+        used: end,
+        at,
+        more: false,
     }
 }

@@ -42,7 +42,7 @@ same-length c = c .before .loop .inv .3
 returns : tie.Need-returns Inv-loop μ-loop
 returns c =
     let l = c .before .loop in
-    let i : l .i ≡ length (c .before .before .before .args .lengths .now) = omega arith in
+    let i : l .i ≡ length (c .before .before .args .lengths .now) = omega arith in
     l .inv .2 ∙ zeros-all (l .i) _ i ∙ ap zeros i
 
 pub clear-lengths-spec : {M : Type 1} → statement M

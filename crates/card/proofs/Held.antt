@@ -1,0 +1,59 @@
+-- A line that is held, and its end.
+use mathlib.Core.Path.{_≡_, refl, sym, ap, _∙_}
+use mathlib.Core.List.{List, [], _∷_, _++_}
+use Prim.Native.Nat.{ℕ, zero, suc, _+_, _-_, _≤_, _<_, min}
+use native.Mathlib.Omega.{arith}
+use native.Mathlib.Decide.{decLt}
+use lib.ListN.{length, take, drop, length-take, length-drop}
+use lib.Seq.{take-all, take-at, take-append-add, length-take-le, length-paste-head}
+use Rattle.ring.specs.Runs.{copied}
+use Rattle.card.specs.declared.feed.Answered.{Answered}
+use Rattle.card.specs.declared.feed.Card.{Card}
+use Rattle.card.specs.declared.feed.Printed.{Printed}
+use Rattle.card.specs.Answers.{lineText}
+use Rattle.card.specs.Feed as Feed
+use Rattle.card.specs.Feed.{Session, answerOf, lineEnds}
+use Rattle.card.specs.Answering.{answerIs}
+use Rattle.card.specs.Written.{Wrote, same-text}
+use Rattle.card.specs.Standing.{standingIs, sessionOf, Answers, EndsLine}
+
+take-less : (k m : ℕ) (s : List ℕ) → k ≤ m → take k (take m s) ≡ take k s
+take-less zero m s h = refl
+take-less (suc k) zero s h = absurd (omega arith)
+take-less (suc k) (suc m) [] h = refl
+take-less (suc k) (suc m) (x ∷ s) h = ap (λ (t : List ℕ). x ∷ t) (take-less k m s (omega arith))
+
+-- the first k of the first m
+take-both : (k m n : ℕ) (s : List ℕ) → m ≤ length s → n ≡ min m k → take k (take m s) ≡ take n s
+take-both k m n s l e =
+    elim (decLt k m) [
+      | yes h ↦ let z : n ≡ k = omega arith in rw z (take-less k m s (omega arith))
+      | no h ↦ let z : n ≡ m = omega arith in rw z (take-all k (take m s) (let t = length-take m s in omega (arith, t)))
+    ]
+
+pub hold-copy : (line piece : List ℕ) (held from to n : ℕ) → held ≤ 65536 → length line ≡ 65536 → from ≤ to → to ≤ length piece → n ≡ min (to - from) (65536 - held)
+    → take (held + n) (copied line held piece from n) ≡ take 65536 (take held line ++ take (to - from) (drop from piece))
+unfolding copied
+hold-copy line piece held from to n h l f t e =
+    let d = drop from piece in
+    let ld : length d ≡ length piece - from = length-drop from piece in
+    let a = take held line in
+    let la : length a ≡ held = length-take-le held line (omega arith) in
+    let head : length (a ++ take n d) ≡ held + n = length-paste-head line held d n (omega arith) (omega arith) in
+    let all : 65536 ≡ length a + (65536 - held) = omega arith in
+    let rest : take (65536 - held) (take (to - from) d) ≡ take n d = take-both (65536 - held) (to - from) n d (omega arith) e in
+    take-at (a ++ take n d) (drop (held + n) line) (held + n) head
+    ∙ sym (ap (λ (k : ℕ). take k (a ++ take (to - from) d)) all ∙ take-append-add a (take (to - from) d) (65536 - held) ∙ ap (λ (x : List ℕ). a ++ x) rest)
+
+pub ends-line : (c : Card) (r : Answered) (line bytes lengths bytes′ lengths′ work out then : List ℕ) (at to : ℕ)
+    → Answers (answerOf (standingIs (c .standing) bytes lengths) (take (c .held - 0) line)) r bytes′ lengths′ work
+    → Wrote 131200 out then at to (lineText (c .lines + 1) (answerIs (r .answer) work))
+    → EndsLine (sessionOf c line bytes lengths) (record { card = record { standing = r .standing; lines = c .lines + 1; held = 0 }; at = to }) line bytes′ lengths′ out then at
+unfolding lineEnds
+ends-line c r line bytes lengths bytes′ lengths′ work out then at to h w =
+    let z : c .held - 0 ≡ c .held = omega arith in
+    let k = rw z at h in
+    record {
+      session = ap (λ (s : Feed.Stage). record { stage = s; lines = c .lines + 1; held = [] }) (k .0);
+      printed = same-text (ap (lineText (c .lines + 1)) (k .1)) w;
+    }

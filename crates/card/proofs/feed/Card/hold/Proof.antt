@@ -1,0 +1,47 @@
+use Rattle.card.proofs.Held.{hold-copy}
+use native.Mathlib.Omega.{arith}
+use mathlib.Core.Path.{refl}
+use borrow.Author.Needs.{needs}
+use Rattle.card.proofs.feed.Card.hold.Statement.{statement}
+use Rattle.card.proofs.feed.Card.hold.Tie as tie
+
+sub-smaller : tie.Need-sub-smaller
+sub-smaller c = search needs
+
+sub-smaller-2 : tie.Need-sub-smaller-2
+sub-smaller-2 c = search needs
+
+smaller-requires : tie.Need-smaller-requires
+smaller-requires c κs = search needs
+
+copy-in-requires : tie.Need-copy-in-requires
+copy-in-requires c κs = search needs
+
+add-t9 : tie.Need-add-t9
+add-t9 c = search needs
+
+same-length : tie.Need-same-length
+same-length c = search needs
+
+returns : tie.Need-returns
+returns c =
+    let s = c .before .before .before .before .before .before .before .before in
+    let a = s .args in
+    record {
+      standing = refl;
+      lines = refl;
+      held = rw (c .before .before .before .copy-in .ensures) (hold-copy (a .line .now) (a .piece .now) (a .self .held) (a .from) (a .to) _ (s .pre .2) (s .pre .3) (s .pre .0) (s .pre .1) (c .before .before .before .before .before .smaller .ensures));
+      most = omega (arith, c .before .before .before .before .before .smaller .ensures);
+    }
+
+pub hold-spec : {M : Type 1} → statement M
+hold-spec =
+    tie.close
+    (tie.spec
+    sub-smaller
+    sub-smaller-2
+    smaller-requires
+    copy-in-requires
+    add-t9
+    same-length
+    returns)
