@@ -56,4 +56,5 @@ ends-line c r line bytes lengths bytes′ lengths′ work out then at to h w =
     record {
       session = ap (λ (s : Feed.Stage). record { stage = s; lines = c .lines + 1; held = [] }) (k .0);
       printed = same-text (ap (lineText (c .lines + 1)) (k .1)) w;
+      held = omega arith;
     }

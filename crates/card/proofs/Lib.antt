@@ -3,3 +3,4 @@ mod Lengths
 mod Arms
 mod Standings
 mod Held
+mod Turns

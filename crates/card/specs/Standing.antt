@@ -78,3 +78,4 @@ pub record Holds (c r : Card) (line then bytes : List ℕ) : Type 0 where
 pub record EndsLine (s : Session) (r : Printed) (line bytes lengths out then : List ℕ) (at : ℕ) : Type 0 where
   pub session : sessionOf (r .card) line bytes lengths ≡ lineEnds s .session
   pub printed : Wrote 131200 out then at (r .at) (lineEnds s .printed)
+  pub held : r .card .held ≤ 65536

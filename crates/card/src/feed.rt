@@ -5,12 +5,12 @@ ghost use mathlib.Core.Option.{some};
 ghost use Prim.Native.Nat.{_+_, _-_, _≤_, _<_};
 ghost use lib.ListN.{length, take, drop};
 ghost use Rattle.card.specs.Lines.{zeros, lineOpen, lineCall};
-ghost use Rattle.card.specs.Feed.{isBack, remembered, first, later, answered, tooLong, answerOf, lineEnds};
+ghost use Rattle.card.specs.Feed.{isBack, remembered, first, later, answered, tooLong, answerOf, lineEnds, ends};
 ghost use Rattle.card.specs.Meaning.{callIs, openingIs};
 ghost use Rattle.card.specs.Making.{timeIs, TimeIs, stateOf};
 ghost use Rattle.card.specs.Written.{Wrote};
 ghost use Rattle.card.specs.Feeding.{lineLength, goesOn};
-ghost use Rattle.card.specs.Turning.{Passes, Goes};
+ghost use Rattle.card.specs.Turning.{Passes, Goes, Starts, isReady, Fed, Eats, canFinish, Finishes};
 ghost use Rattle.card.specs.declared.answers.Answer.the-variants as Answer;
 ghost use Rattle.card.specs.Standing.{standingIs, Answers, AnswersAny, AnswersAll, openedAs, firstOf, madeBy, tooLongAt, sessionOf, Areas, Holds, EndsLine};
 use crate::answers;
@@ -397,7 +397,7 @@ impl Card {
 }
 
 // To the end of a line and its answer; or to where the piece ends, or the area may not hold the next answer.
-fn turn(
+fn go_on(
     t: Turn,
     line: &mut [u8],
     store: &mut [u8],
@@ -422,5 +422,139 @@ fn turn(
         used: end,
         at,
         more: false,
+    }
+}
+
+impl Card {
+    // A session before its first line.
+    pub fn new() -> Card
+        ensures { λ r. ⌜ Starts r ⌝ }
+    {
+        let none = Limits {
+            chunk: 0,
+            input: Window::bytes(0),
+            output: Window::bytes(0),
+            shared: false,
+        };
+        let noting = Runner::open(Key::new(0, 0), none, Timers::new(0, 0), 0, &[], &[]);
+        let runner = noting.runner;
+        Card {
+            standing: Standing {
+                stage: Stage::First,
+                runner,
+                last: 0,
+            },
+            lines: 0,
+            held: 0,
+        }
+    }
+
+    // Whether the areas are a session's: 65,536 bytes for a line, and the runner's stores of 65,536 bytes and 1,024 lengths.
+    fn is_ready(self, line: usize, store: usize, lengths: usize) -> bool
+        ensures { λ r. ⌜ r ≡ isReady self line store lengths ⌝ }
+    {
+        (self.held <= 65536) & (line == 65536) & (store == 65536) & (lengths == 1024)
+    }
+
+    fn eat_all(
+        self,
+        line: &mut [u8],
+        store: &mut [u8],
+        lengths: &mut [u32],
+        work: &mut [u8],
+        piece: &[u8],
+        out: &mut [u8],
+    ) -> Eaten
+        requires { ⌜ Areas (now line) (now store) (now lengths) (now work) × (self .held ≤ 65536) ⌝ }
+        ensures { λ r. ⌜ Fed (sessionOf self (now (line .entry)) (now (store .entry)) (now (lengths .entry))) r (sessionOf (r .card) (now (line .exit)) (now (store .exit)) (now (lengths .exit))) (now (piece .entry)) (now (out .entry)) (now (out .exit)) ⌝ }
+    {
+        let mut t = Turn {
+            card: self,
+            used: 0,
+            at: 0,
+            more: true,
+        };
+        while t.more {
+            t = go_on(t, line, store, lengths, work, piece, out);
+        }
+        let card = t.card;
+        Eaten {
+            card,
+            used: t.used,
+            printed: t.at,
+        }
+    }
+
+    // Eats a piece of input and writes the answers at the start of `out`. It stops before the end of a line where less than
+    // 131,200 bytes of `out` are free, which is more than any answer has, and says how much of the piece it has eaten. With areas
+    // that are not a session's it eats nothing. What stands in the line area behind the bytes that are held is of no meaning.
+    pub fn eat(
+        self,
+        line: &mut [u8],
+        store: &mut [u8],
+        lengths: &mut [u32],
+        piece: &[u8],
+        out: &mut [u8],
+    ) -> Eaten
+        ensures { λ r. ⌜ Eats (isReady self (length (now (line .entry))) (length (now (store .entry))) (length (now (lengths .entry)))) self r (now (line .entry)) (now (line .exit)) (now (store .entry)) (now (store .exit)) (now (lengths .entry)) (now (lengths .exit)) (now (piece .entry)) (now (out .entry)) (now (out .exit)) ⌝ }
+    {
+        if self.is_ready(line.len(), store.len(), lengths.len()) {
+            let mut work = [0u8; 65536];
+            return self.eat_all(line, store, lengths, &mut work, piece, out);
+        }
+        Eaten {
+            card: self,
+            used: 0,
+            printed: 0,
+        }
+    }
+
+    fn end_held(
+        self,
+        line: &mut [u8],
+        store: &mut [u8],
+        lengths: &mut [u32],
+        work: &mut [u8],
+        out: &mut [u8],
+    ) -> Eaten
+        requires { ⌜ Areas (now line) (now store) (now lengths) (now work) × (self .held ≤ 65536) × (self .lines < 18446744073709551615) × (131200 ≤ length (now out)) ⌝ }
+        ensures { λ r. ⌜ Wrote (length (now (out .entry))) (now (out .entry)) (now (out .exit)) 0 (r .printed) (ends (sessionOf self (now (line .entry)) (now (store .entry)) (now (lengths .entry)))) ⌝ }
+    {
+        if 0 < self.held {
+            let last = self.end_line(line, store, lengths, work, out, 0);
+            let card = last.card;
+            return Eaten {
+                card,
+                used: 0,
+                printed: last.at,
+            };
+        }
+        Eaten {
+            card: self,
+            used: 0,
+            printed: 0,
+        }
+    }
+
+    // The end of the input ends a line that has begun. Where there is no room for its answer nothing is written.
+    pub fn finish(
+        self,
+        line: &mut [u8],
+        store: &mut [u8],
+        lengths: &mut [u32],
+        out: &mut [u8],
+    ) -> Eaten
+        ensures { λ r. ⌜ Finishes (canFinish self (length (now (line .entry))) (length (now (store .entry))) (length (now (lengths .entry))) (length (now (out .entry)))) (sessionOf self (now (line .entry)) (now (store .entry)) (now (lengths .entry))) r (now (out .entry)) (now (out .exit)) ⌝ }
+    {
+        let ready = self.is_ready(line.len(), store.len(), lengths.len());
+        if ready & (self.lines < 18446744073709551615) & (131200 <= out.len()) {
+            let mut work = [0u8; 65536];
+            return self.end_held(line, store, lengths, &mut work, out);
+        }
+        Eaten {
+            card: self,
+            used: 0,
+            printed: 0,
+        }
     }
 }

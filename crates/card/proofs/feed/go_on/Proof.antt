@@ -1,0 +1,70 @@
+use Rattle.card.proofs.Turns.{held-session, held-most, go-passed, go-held}
+use Rattle.card.specs.Standing.{sessionOf}
+use lib.ListN.{length}
+use native.Mathlib.Omega.{arith}
+use mathlib.Core.Path.{_≡_, refl, _∙_}
+use borrow.Author.Needs.{needs}
+use Rattle.card.proofs.feed.go_on.Statement.{statement}
+use Rattle.card.proofs.feed.go_on.Tie as tie
+
+line-end-requires : tie.Need-line-end-requires
+line-end-requires c κs = search needs
+
+hold-requires : tie.Need-hold-requires
+hold-requires c κs = search needs
+
+pass-line-requires : tie.Need-pass-line-requires
+pass-line-requires c κs =
+    let s = c .before .before .before .before .before .before .before .before .before .before .before .before .before .before .before .before .before .before in
+    let l : length (c .before .before .before .before .before .before .before .before .hold .last .1 .0) ≡ 65536 = (search needs) ∙ s .pre .0 .0 in
+    ((l, s .pre .0 .1, s .pre .0 .2, s .pre .0 .3), c .before .before .before .before .before .before .before .before .hold .ensures .most, s .pre .2, omega arith)
+
+same-length : tie.Need-same-length
+same-length c = search needs
+
+same-length-2 : tie.Need-same-length-2
+same-length-2 c = search needs
+
+same-length-3 : tie.Need-same-length-3
+same-length-3 c = search needs
+
+same-length-4 : tie.Need-same-length-4
+same-length-4 c = search needs
+
+same-length-5 : tie.Need-same-length-5
+same-length-5 c = search needs
+
+returns : tie.Need-returns
+returns c =
+    let s = c .before .before .before .before .before .before .before .before .before .before .before .before .before .before .before .before .before .before .before .before .before .before .before .before .before .before .before in
+    let a = s .args in
+    let e = c .before .before .before .before .before .before .before .before .before .before .before .before .before .before .before .before .before .hold .ensures in
+    let held = held-session (a .t .card) (c .before .before .before .before .before .before .before .before .before .before .before .before .before .before .before .before .before .hold .result) (a .line .now) (c .before .before .before .before .before .before .before .before .before .before .before .before .before .before .before .before .before .hold .last .1 .0) (a .store .now) (a .lengths .now) _ e in
+    go-passed (sessionOf (a .t .card) (a .line .now) (a .store .now) (a .lengths .now)) (a .t) (c .before .before .before .before .before .before .before .before .pass-line .result) _ (a .piece .now) (a .out .now) _ (c .before .before .before .before .before .before .before .before .before .before .before .before .before .before .before .before .before .before .before .before .line-end .result) (held-most (a .t .card .held) (a .line .now) (s .pre .1)) (c .before .before .before .before .before .before .before .before .before .before .before .before .before .before .before .before .before .before .before .before .line-end .ensures .0) (s .pre .3) (s .pre .2) _ held (c .before .before .before .before .before .before .before .before .before .before .before .before .before .before .if1 .taken) (c .before .before .before .before .before .before .before .before .pass-line .ensures)
+
+same-length-6 : tie.Need-same-length-6
+same-length-6 c = search needs
+
+returns-2 : tie.Need-returns-2
+returns-2 c =
+    let s = c .before .before .before .before .before .before .before .before .before .before .before .before .before in
+    let a = s .args in
+    let e = c .before .before .before .hold .ensures in
+    let held = held-session (a .t .card) (c .before .before .before .hold .result) (a .line .now) (c .before .before .before .hold .last .1 .0) (a .store .now) (a .lengths .now) _ e in
+    go-held (sessionOf (a .t .card) (a .line .now) (a .store .now) (a .lengths .now)) (a .t) _ _ (a .piece .now) (a .out .now) (a .out .now) (c .before .before .before .before .before .before .line-end .result) (held-most (a .t .card .held) (a .line .now) (s .pre .1)) (c .before .before .before .before .before .before .line-end .ensures .0) (s .pre .3) (s .pre .2) _ held (omega (arith, c .before .before .before .before .before .before .line-end .ensures .1, c .if1 .left)) refl refl refl refl refl (e .most)
+
+pub go-on-spec : {M : Type 1} → statement M
+go-on-spec =
+    tie.close
+    (tie.spec
+    line-end-requires
+    hold-requires
+    pass-line-requires
+    same-length
+    same-length-2
+    same-length-3
+    same-length-4
+    same-length-5
+    returns
+    same-length-6
+    returns-2)
