@@ -15,7 +15,7 @@ hold() {
     target/oracle $3 <"$1" | grep -v ,pending, | cmp - target/rest
 }
 
-for card in cards/*.card; do
+for card in cards/*.card ../examples/*.card; do
     [ "$card" = cards/late.card ] && times=far || times=near
     hold "$card" "${card%.card}.answers" "" $times
 done
