@@ -1,4 +1,4 @@
-// Answers the cards of standard input, at most 1,048,576 bytes of them, each ended by a line of four dashes, and ends the answers to
+// Answers the cards of standard input, at most 262,144 bytes of them, each ended by a line of four dashes, and ends the answers to
 // each by the same line. The gate runs it on the recorded sample of random cards, whose answers are the Rust's.
 ghost use Prim.Native.Nat.{_≤_};
 ghost use lib.ListN.{length};
@@ -62,11 +62,11 @@ fn answer_all(text: &[u8], line: &mut [u8], store: &mut [u8], lengths: &mut [u32
 }
 
 fn main() {
-    let mut text = [0u8; 1048576];
-    let mut line = [0u8; 65536];
-    let mut store = [0u8; 65536];
-    let mut lengths = [0u32; 1024];
-    let mut out = [0u8; 262144];
+    let mut text = feeder::large_area();
+    let mut line = io::large_buffer();
+    let mut store = io::large_buffer();
+    let mut lengths = feeder::lengths_area();
+    let mut out = feeder::large_area();
     let n = io::read_full(STDIN_FILENO, &mut text);
     answer_all(&text[..n], &mut line, &mut store, &mut lengths, &mut out);
 }

@@ -1,4 +1,6 @@
 // Feeds a card with pieces of its input and writes its answers to standard output, for the programs that read cards.
+ghost use mathlib.Core.Path.{_≡_};
+ghost use lib.ListN.{length};
 use card::feed::Card;
 use libc::STDOUT_FILENO;
 use ring::smaller;
@@ -7,6 +9,20 @@ use ring::smaller;
 pub struct Fed {
     pub card: Card,
     pub more: bool,
+}
+
+// An area for answers, the longest of which takes half of it, or for the text of many cards.
+pub fn large_area() -> [u8; 262144]
+    ensures { λ r. ⌜ 262144 ≡ length r ⌝ }
+{
+    [0; 262144]
+}
+
+// The runner's lengths.
+pub fn lengths_area() -> [u32; 1024]
+    ensures { λ r. ⌜ 1024 ≡ length r ⌝ }
+{
+    [0; 1024]
 }
 
 // Writes the first n bytes of out.
@@ -28,20 +44,25 @@ pub fn feed(
 ) -> Fed {
     let n = piece.len();
     let mut c = card;
-    let mut i: usize = 0;
-    while i < n {
-        let e = c.eat(line, store, lengths, &piece[i..n], out);
+    let mut left = n;
+    while 0 < left {
+        let e = c.eat(line, store, lengths, &piece[n - left..n], out);
         let printed = e.printed;
         c = e.card;
-        let used = smaller(e.used, n - i);
-        let written = emit(out, printed);
-        if (used == 0) | !written {
+        let used = smaller(e.used, left);
+        if !emit(out, printed) {
             return Fed {
                 card: c,
                 more: false,
             };
         }
-        i += used;
+        if used == 0 {
+            return Fed {
+                card: c,
+                more: false,
+            };
+        }
+        left -= used;
     }
     Fed {
         card: c,

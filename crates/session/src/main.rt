@@ -33,11 +33,11 @@ fn left(turns: u64, more: bool) -> u64
 }
 
 fn main() {
-    let mut line = [0u8; 65536];
-    let mut store = [0u8; 65536];
-    let mut lengths = [0u32; 1024];
-    let mut piece = [0u8; 65536];
-    let mut out = [0u8; 262144];
+    let mut line = io::large_buffer();
+    let mut store = io::large_buffer();
+    let mut lengths = feeder::lengths_area();
+    let mut piece = io::large_buffer();
+    let mut out = feeder::large_area();
     let mut card = Card::new();
     // A number of turns that no run uses up.
     let mut turns = u64::MAX;
