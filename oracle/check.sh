@@ -20,6 +20,7 @@ for card in cards/*.card ../examples/*.card; do
     [ "$card" = cards/late.card ] && times=far || times=near
     hold "$card" "${card%.card}.answers" "" $times
 done
+hold ../crates/session/stdin ../crates/session/stdout "" near
 for times in near far; do
     hold target/sample/$times.cards target/sample/$times.answers --many $times
 done
