@@ -2,7 +2,7 @@
 # Counts how often each side of each branch of the runner is taken by COUNT near and COUNT far
 # cards from SEED on. Prints the sides never taken, then how many there are in all; the counts
 # stay in target/branches.txt: how often taken, how often not, where, the branch. With `sample`
-# for COUNT the cards are those of sample/.
+# for COUNT the cards are those of the sample.
 #     NVX_SRC=FOLDER oracle/branches.sh [COUNT|sample [SEED]]
 set -e
 . "$(dirname "$0")/lib.sh"
@@ -22,7 +22,7 @@ for file in runner.rs credit.rs credit/inbox.rs credit/receiver.rs credit/sender
 done
 compile counted counted-oracle
 if [ "$count" = sample ]; then
-    cat sample/near.cards sample/far.cards
+    cat ../crates/conformance/stdin
 else
     target/generate "$seed" "$count"
     target/generate "$seed" "$count" --far

@@ -3,8 +3,9 @@
 # are past the plain program's domain; without --ring, how far pending reaches is VecDeque's
 # affair, so it is left out.
 set -e
-cd "$(dirname "$0")"
+. "$(dirname "$0")/lib.sh"
 ./build.sh
+part_sample
 
 # Holds the answers to the cards in $1 to those in $2, with the flags in $3; $4 is near or far.
 hold() {
@@ -15,11 +16,12 @@ hold() {
     target/oracle $3 <"$1" | grep -v ,pending, | cmp - target/rest
 }
 
-for card in cards/*.card; do
+for card in cards/*.card ../examples/*.card; do
     [ "$card" = cards/late.card ] && times=far || times=near
     hold "$card" "${card%.card}.answers" "" $times
 done
+hold ../crates/session/stdin ../crates/session/stdout "" near
 for times in near far; do
-    hold sample/$times.cards sample/$times.answers --many $times
+    hold target/sample/$times.cards target/sample/$times.answers --many $times
 done
 echo "every card answered as recorded"

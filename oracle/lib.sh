@@ -34,3 +34,17 @@ compile() {
 tool() {
     rust -o "target/$1" "src/$1.rs"
 }
+
+# The recorded sample is the standard input and output of the program conformance, near cards first,
+# as many as sample.seeds names. Parts it into target/sample: near.cards, far.cards, their answers.
+part_sample() {
+    mkdir -p target/sample
+    near=$(grep -c '^near ' sample.seeds)
+    for kind in cards answers; do
+        [ $kind = cards ] && from=stdin || from=stdout
+        LC_ALL=C awk -v near="$near" -v kind=$kind '
+            { print >("target/sample/" (ended < near ? "near." : "far.") kind) }
+            $0 == "----" { ended++ }
+        ' "../crates/conformance/$from"
+    done
+}

@@ -2,7 +2,7 @@
 # Builds every mutant of the lists in mutants/ and finds the cards, of COUNT near and COUNT far
 # ones from seed 1 on, whose answers it changes. Their seeds go to target/told/NAME, as `near SEED`
 # or `far SEED`; target/told.txt has the number of each mutant's cards. With `sample` for COUNT
-# the cards are those of sample/, known by their places, and the results go to target/told-sample.
+# the cards are those of the sample, known by their places, and the results go to target/told-sample.
 # Stops with 1 if no card tells a mutant apart, or if one does that mutants/equivalent.txt says
 # none can.
 #     NVX_SRC=FOLDER oracle/mutants.sh [COUNT|sample [NAME...]]
@@ -14,7 +14,8 @@ for name in generate mutate compare; do tool "$name"; done
 lay_out nanos nanos
 compile nanos oracle64
 if [ "$count" = sample ]; then
-    cards=sample told=target/told-sample
+    part_sample
+    cards=target/sample told=target/told-sample
 else
     cards=target told=target/told
     for times in near far; do

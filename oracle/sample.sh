@@ -1,12 +1,12 @@
 #!/bin/sh
-# Chooses the sample anew and records the oracle's answers to it, in sample/: the seeds of its
-# cards, near.cards and far.cards, and beside each its answers. mutants.sh has to run before: the
-# sample is chosen from its cards, so that each mutant is told apart by TIMES of them, or by all.
+# Chooses the sample anew and records it: the seeds of its cards in sample.seeds, the cards, near
+# ones first, as the standard input of the program conformance, the oracle's answers as its output.
+# mutants.sh has to run before: the sample is chosen from its cards, so that each mutant is told
+# apart by TIMES of them, or by all.
 #     NVX_SRC=FOLDER oracle/sample.sh [TIMES]
 set -e
 . "$(dirname "$0")/lib.sh"
 tool choose
-mkdir -p sample
 # To be read by people too: short cards of printable lines.
 for times in near far; do
     LC_ALL=C awk -v times=$times '
@@ -16,11 +16,10 @@ for times in near far; do
         { seed++; lines = bytes = odd = 0 }
     ' "target/$times.cards"
 done >target/sizes
-target/choose "${1:-6}" target/told target/sizes | sort -k 1,1r -k 2,2n >sample/seeds
-for times in near far; do
-    sed -n "s/^$times //p" sample/seeds | while read -r seed; do
-        target/generate "$seed" 1 $([ $times = near ] || echo --far)
-    done >"sample/$times.cards"
-    target/oracle64 --ring --many <"sample/$times.cards" >"sample/$times.answers"
-    echo "$(grep -c '^----$' sample/$times.cards) $times cards, $(wc -l <sample/$times.cards) lines"
-done
+target/choose "${1:-6}" target/told target/sizes | sort -k 1,1r -k 2,2n >sample.seeds
+recorded=../crates/conformance
+while read -r times seed; do
+    target/generate "$seed" 1 $([ "$times" = near ] || echo --far)
+done <sample.seeds >$recorded/stdin
+target/oracle64 --ring --many <$recorded/stdin >$recorded/stdout
+echo "$(grep -c '^----$' $recorded/stdin) cards, $(wc -l <$recorded/stdin) lines"

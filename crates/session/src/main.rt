@@ -1,47 +1,8 @@
 // Reads a session card from standard input, in pieces, and prints its answers. All that matters is crate card.
 ghost use Prim.Native.Nat.{_<_};
 use card::feed::Card;
+use feeder::Fed;
 use libc::STDIN_FILENO;
-use libc::STDOUT_FILENO;
-
-// Writes the first n bytes of out.
-fn emit(out: &[u8], n: usize) -> bool {
-    if n <= out.len() {
-        return io::write_all(STDOUT_FILENO, &out[..n]);
-    }
-    false
-}
-
-pub(crate) struct Done {
-    card: Card,
-    more: bool,
-}
-
-// What is left of a piece, and its answers: less is left each time, or nothing goes on.
-fn eat(
-    card: Card,
-    line: &mut [u8],
-    store: &mut [u8],
-    lengths: &mut [u32],
-    piece: &[u8],
-    out: &mut [u8],
-) -> Done {
-    let n = piece.len();
-    let mut c = card;
-    let mut i: usize = 0;
-    let mut more = true;
-    while more & (i < n) {
-        let e = c.eat(line, store, lengths, &piece[i..n], out);
-        let printed = e.printed;
-        c = e.card;
-        let used = e.used;
-        more = (0 < used) & (used <= n - i) & emit(out, printed);
-        if more {
-            i += used;
-        }
-    }
-    Done { card: c, more }
-}
 
 // One piece: read, eaten, and its answers written. `more` is false at the end of the input and where nothing can be written.
 fn turn(
@@ -51,13 +12,13 @@ fn turn(
     lengths: &mut [u32],
     piece: &mut [u8],
     out: &mut [u8],
-) -> Done {
+) -> Fed {
     let got = libc::read(STDIN_FILENO, piece);
     if got <= 0 {
-        return Done { card, more: false };
+        return Fed { card, more: false };
     }
     let n = io::count(got, piece);
-    eat(card, line, store, lengths, &piece[..n], out)
+    feeder::feed(card, line, store, lengths, &piece[..n], out)
 }
 
 // The turns that are left after one: none at the end.
@@ -72,16 +33,16 @@ fn left(turns: u64, more: bool) -> u64
 }
 
 fn main() {
-    let mut line = [0u8; 65536];
-    let mut store = [0u8; 65536];
-    let mut lengths = [0u32; 1024];
-    let mut piece = [0u8; 65536];
-    let mut out = [0u8; 262144];
+    let mut line = io::large_buffer();
+    let mut store = io::large_buffer();
+    let mut lengths = feeder::lengths_area();
+    let mut piece = io::large_buffer();
+    let mut out = feeder::large_area();
     let mut card = Card::new();
     // A number of turns that no run uses up.
     let mut turns = u64::MAX;
     while 0 < turns {
-        let done = turn(
+        let fed = turn(
             card,
             &mut line,
             &mut store,
@@ -89,10 +50,8 @@ fn main() {
             &mut piece,
             &mut out,
         );
-        card = done.card;
-        turns = left(turns, done.more);
+        card = fed.card;
+        turns = left(turns, fed.more);
     }
-    let last = card.finish(&mut line, &mut store, &mut lengths, &mut out);
-    let printed = last.printed;
-    emit(&out, printed);
+    feeder::end(card, &mut line, &mut store, &mut lengths, &mut out);
 }
