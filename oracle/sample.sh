@@ -1,6 +1,7 @@
 #!/bin/sh
 # Chooses the sample anew and records it: the seeds of its cards in sample.seeds, the cards, near
-# ones first, as the standard input of the program conformance, the oracle's answers as its output.
+# ones first and those of examples/ and cards/ last, as the standard input of the program
+# conformance, the oracle's answers as its output.
 # mutants.sh has to run before: the sample is chosen from its cards, so that each mutant is told
 # apart by TIMES of them, or by all.
 #     NVX_SRC=FOLDER oracle/sample.sh [TIMES]
@@ -21,5 +22,9 @@ recorded=../crates/conformance
 while read -r times seed; do
     target/generate "$seed" 1 $([ "$times" = near ] || echo --far)
 done <sample.seeds >$recorded/stdin
+for card in ../examples/*.card cards/*.card; do
+    cat "$card"
+    echo ----
+done >>$recorded/stdin
 target/oracle64 --ring --many <$recorded/stdin >$recorded/stdout
 echo "$(grep -c '^----$' $recorded/stdin) cards, $(wc -l <$recorded/stdin) lines"
