@@ -1,0 +1,27 @@
+-- `deadline_turns` is safe and ends: the measure is the turns left.
+use Prim.Native.Nat.{_-_, _≤_}
+use borrow.Author.Needs.{needs}
+use Rattle.bench.proofs.deadline_turns.Statement.{statement}
+use Rattle.bench.proofs.deadline_turns.Tie as tie
+
+abbrev Inv-loop : tie.InvT-loop
+Inv-loop turns steps all sum₀ other₀ i₀ sum other i = i ≤ turns
+
+abbrev μ-loop : tie.MeasureT-loop
+μ-loop turns steps all sum₀ other₀ i₀ sum other i = turns - i
+
+pub deadline-turns-spec : {M : Type 1} → statement M
+deadline-turns-spec =
+    tie.close
+    (tie.spec
+    Inv-loop
+    μ-loop
+    (search needs)
+    (search needs)
+    (search needs)
+    (search needs)
+    (search needs)
+    (search needs)
+    (search needs)
+    (search needs)
+    (search needs))

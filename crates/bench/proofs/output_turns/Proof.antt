@@ -1,0 +1,30 @@
+-- `output_turns` is safe and ends: the measure is the turns left.
+use mathlib.Core.Path.{_≡_}
+use Prim.Native.Nat.{_-_, _≤_}
+use lib.ListN.{length}
+use borrow.Author.Needs.{needs}
+use Rattle.bench.proofs.output_turns.Statement.{statement}
+use Rattle.bench.proofs.output_turns.Tie as tie
+
+abbrev Inv-loop : tie.InvT-loop
+Inv-loop store₀ bytes buffer₀ turns steps r₀ sum₀ other₀ counter₀ store buffer r sum other counter = (counter ≤ turns) × (length store ≡ length store₀) × (length buffer ≡ length buffer₀)
+
+abbrev μ-loop : tie.MeasureT-loop
+μ-loop store₀ bytes buffer₀ turns steps r₀ sum₀ other₀ counter₀ store buffer r sum other counter = turns - counter
+
+pub output-turns-spec : {M : Type 1} → statement M
+output-turns-spec =
+    tie.close
+    (tie.spec
+    Inv-loop
+    μ-loop
+    (search needs)
+    (search needs)
+    (search needs)
+    (search needs)
+    (search needs)
+    (search needs)
+    (search needs)
+    (search needs)
+    (search needs)
+    (search needs))
