@@ -13,10 +13,14 @@ use std::time::{Duration, Instant};
 
 /// What a loop is lent. It is cleared before each loop, and not between the turns.
 pub struct Room {
-    store: Vec<u8>,
-    lengths: Vec<u32>,
+    store: Box<[u8; 49152]>,
+    lengths: Box<[u32; 1024]>,
     bytes: Vec<u8>,
-    buffer: Vec<u8>,
+    buffer: Box<[u8; 16384]>,
+    chunk: u32,
+    /// The input's window, in bytes or, for the line of frames, in frames.
+    window: u32,
+    timeout: u64,
     /// The instant of time 0, and those of the times 0 to 63.
     zero: Instant,
     instants: Vec<Instant>,
@@ -25,10 +29,13 @@ pub struct Room {
 impl Room {
     fn new(zero: Instant, length: usize) -> Self {
         Self {
-            store: vec![0; 3 * 16384],
-            lengths: vec![0; 1024],
+            store: Box::new([0; 49152]),
+            lengths: Box::new([0; 1024]),
             bytes: (0..length).map(|i| (i * 7 + 1) as u8).collect(),
-            buffer: vec![0; 16384],
+            buffer: Box::new([0; 16384]),
+            chunk: if length == 1 { 16 } else { 16384 },
+            window: if length == 1 { 1024 } else { 16384 },
+            timeout: 1_000_000,
             zero,
             instants: (0..64).map(|i| zero + Duration::from_nanos(i)).collect(),
         }
@@ -186,10 +193,9 @@ fn main() {
     }
 }
 
-/// The middle one of some numbers.
-fn median(mut all: Vec<f64>) -> f64 {
-    all.sort_by(f64::total_cmp);
-    all[all.len() / 2]
+/// The least of some numbers.
+fn least(all: Vec<f64>) -> f64 {
+    all.into_iter().fold(f64::INFINITY, f64::min)
 }
 
 /// The nanoseconds of a turn of a loop, and its sum.
@@ -236,7 +242,7 @@ fn table_line(zero: Instant, line: &Line) {
     }
     let parts = line.parts as f64;
     let [rust, ours, rust_work, ours_work, rust_alone, ours_alone] =
-        times.map(|all| median(all) / parts);
+        times.map(|all| least(all) / parts);
     let (rust_more, ours_more) = (rust_work - rust_alone, ours_work - ours_alone);
     println!(
         "| {} | {rust:.1} | {ours:.1} | {:.2} | {rust_more:.1} | {ours_more:.1} | {:+.1} |",

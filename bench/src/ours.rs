@@ -1,85 +1,170 @@
-//! The loops of crates/bench, linked from its static library. A lent slice goes as its address and length.
+//! The loops of crates/bench, linked from its static library. A lent slice goes as its address and length, a lent array as
+//! its address.
 
 use crate::Room;
+
+/// A loop that is lent the bytes that it hands to the runner.
+type Moving = unsafe extern "C" fn(
+    *mut u8,
+    *mut u32,
+    *const u8,
+    usize,
+    *mut u8,
+    chunk: u32,
+    window: u32,
+    timeout: u64,
+    turns: u64,
+    steps: u64,
+) -> u64;
+
+/// A loop that moves no bytes.
+type Still = unsafe extern "C" fn(
+    *mut u8,
+    *mut u32,
+    *mut u8,
+    chunk: u32,
+    window: u32,
+    timeout: u64,
+    turns: u64,
+    steps: u64,
+) -> u64;
 
 unsafe extern "C" {
     fn bench_work(turns: u64, steps: u64) -> u64;
     fn bench_output(
         s: *mut u8,
-        sn: usize,
         l: *mut u32,
-        ln: usize,
         y: *const u8,
-        yn: usize,
+        n: usize,
         b: *mut u8,
-        bn: usize,
-        turns: u64,
-        steps: u64,
+        c: u32,
+        i: u32,
+        d: u64,
+        t: u64,
+        w: u64,
     ) -> u64;
     fn bench_input(
         s: *mut u8,
-        sn: usize,
         l: *mut u32,
-        ln: usize,
         y: *const u8,
-        yn: usize,
+        n: usize,
         b: *mut u8,
-        bn: usize,
-        turns: u64,
-        steps: u64,
+        c: u32,
+        i: u32,
+        d: u64,
+        t: u64,
+        w: u64,
     ) -> u64;
     fn bench_frames(
         s: *mut u8,
-        sn: usize,
         l: *mut u32,
-        ln: usize,
         y: *const u8,
-        yn: usize,
+        n: usize,
         b: *mut u8,
-        bn: usize,
-        turns: u64,
-        steps: u64,
+        c: u32,
+        i: u32,
+        d: u64,
+        t: u64,
+        w: u64,
     ) -> u64;
     fn bench_tick(
         s: *mut u8,
-        sn: usize,
         l: *mut u32,
-        ln: usize,
         b: *mut u8,
-        bn: usize,
-        turns: u64,
-        steps: u64,
+        c: u32,
+        i: u32,
+        d: u64,
+        t: u64,
+        w: u64,
     ) -> u64;
     fn bench_credit(
         s: *mut u8,
-        sn: usize,
         l: *mut u32,
-        ln: usize,
         b: *mut u8,
-        bn: usize,
-        turns: u64,
-        steps: u64,
+        c: u32,
+        i: u32,
+        d: u64,
+        t: u64,
+        w: u64,
     ) -> u64;
     fn bench_idle(
         s: *mut u8,
-        sn: usize,
         l: *mut u32,
-        ln: usize,
         b: *mut u8,
-        bn: usize,
-        turns: u64,
-        steps: u64,
+        c: u32,
+        i: u32,
+        d: u64,
+        t: u64,
+        w: u64,
     ) -> u64;
     fn bench_deadline(
         s: *mut u8,
-        sn: usize,
         l: *mut u32,
-        ln: usize,
         b: *mut u8,
-        bn: usize,
-        turns: u64,
-        steps: u64,
+        c: u32,
+        i: u32,
+        d: u64,
+        t: u64,
+        w: u64,
     ) -> u64;
+}
+
+fn moving(run: Moving, room: &mut Room, turns: u64, steps: u64) -> u64 {
+    let Room {
+        store,
+        lengths,
+        bytes,
+        buffer,
+        chunk,
+        window,
+        timeout,
+        ..
+    } = room;
+    let (store, lengths, buffer) = (
+        store.as_mut_ptr(),
+        lengths.as_mut_ptr(),
+        buffer.as_mut_ptr(),
+    );
+    // SAFETY: the arrays have the lengths of their types in crates/bench, and none overlaps another.
+    unsafe {
+        run(
+            store,
+            lengths,
+            bytes.as_ptr(),
+            bytes.len(),
+            buffer,
+            *chunk,
+            *window,
+            *timeout,
+            turns,
+            steps,
+        )
+    }
+}
+
+fn still(run: Still, room: &mut Room, turns: u64, steps: u64) -> u64 {
+    let Room {
+        store,
+        lengths,
+        buffer,
+        chunk,
+        window,
+        timeout,
+        ..
+    } = room;
+    // SAFETY: as above.
+    unsafe {
+        run(
+            store.as_mut_ptr(),
+            lengths.as_mut_ptr(),
+            buffer.as_mut_ptr(),
+            *chunk,
+            *window,
+            *timeout,
+            turns,
+            steps,
+        )
+    }
 }
 
 pub fn work_alone(_: &mut Room, turns: u64, steps: u64) -> u64 {
@@ -87,67 +172,30 @@ pub fn work_alone(_: &mut Room, turns: u64, steps: u64) -> u64 {
     unsafe { bench_work(turns, steps) }
 }
 
-/// A loop that is lent the bytes that it hands to the runner.
-macro_rules! moving {
-    ($name:ident, $linked:ident) => {
-        pub fn $name(room: &mut Room, turns: u64, steps: u64) -> u64 {
-            let Room {
-                store,
-                lengths,
-                bytes,
-                buffer,
-                ..
-            } = room;
-            // SAFETY: the slices are lent for the call, and do not overlap.
-            unsafe {
-                $linked(
-                    store.as_mut_ptr(),
-                    store.len(),
-                    lengths.as_mut_ptr(),
-                    lengths.len(),
-                    bytes.as_ptr(),
-                    bytes.len(),
-                    buffer.as_mut_ptr(),
-                    buffer.len(),
-                    turns,
-                    steps,
-                )
-            }
-        }
-    };
+pub fn output(room: &mut Room, turns: u64, steps: u64) -> u64 {
+    moving(bench_output, room, turns, steps)
 }
 
-/// A loop that moves no bytes.
-macro_rules! still {
-    ($name:ident, $linked:ident) => {
-        pub fn $name(room: &mut Room, turns: u64, steps: u64) -> u64 {
-            let Room {
-                store,
-                lengths,
-                buffer,
-                ..
-            } = room;
-            // SAFETY: the slices are lent for the call, and do not overlap.
-            unsafe {
-                $linked(
-                    store.as_mut_ptr(),
-                    store.len(),
-                    lengths.as_mut_ptr(),
-                    lengths.len(),
-                    buffer.as_mut_ptr(),
-                    buffer.len(),
-                    turns,
-                    steps,
-                )
-            }
-        }
-    };
+pub fn input(room: &mut Room, turns: u64, steps: u64) -> u64 {
+    moving(bench_input, room, turns, steps)
 }
 
-moving!(output, bench_output);
-moving!(input, bench_input);
-moving!(frames, bench_frames);
-still!(tick, bench_tick);
-still!(credit, bench_credit);
-still!(idle, bench_idle);
-still!(deadline, bench_deadline);
+pub fn frames(room: &mut Room, turns: u64, steps: u64) -> u64 {
+    moving(bench_frames, room, turns, steps)
+}
+
+pub fn tick(room: &mut Room, turns: u64, steps: u64) -> u64 {
+    still(bench_tick, room, turns, steps)
+}
+
+pub fn credit(room: &mut Room, turns: u64, steps: u64) -> u64 {
+    still(bench_credit, room, turns, steps)
+}
+
+pub fn idle(room: &mut Room, turns: u64, steps: u64) -> u64 {
+    still(bench_idle, room, turns, steps)
+}
+
+pub fn deadline(room: &mut Room, turns: u64, steps: u64) -> u64 {
+    still(bench_deadline, room, turns, steps)
+}

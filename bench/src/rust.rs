@@ -7,7 +7,6 @@ use crate::Room;
 use crate::exec::runner::{Message, Runner};
 use crate::exec::{Key, Limits, Pool, Receipt, Stream, Timers, Violation, Window};
 
-const CHUNK: u32 = 16384;
 const KEY: Key = Key::new(7, 2);
 
 fn work(start: u64, steps: u64) -> u64 {
@@ -60,18 +59,25 @@ fn running(limits: Limits, timeout: u64, now: Instant, buffer: &mut [u8], grante
     runner
 }
 
-fn in_bytes() -> Limits {
-    Limits::new(CHUNK, Window::bytes(CHUNK), Window::bytes(u32::MAX)).expect("no size is 0")
+fn in_bytes(room: &Room) -> Limits {
+    Limits::new(
+        room.chunk,
+        Window::bytes(room.window),
+        Window::bytes(u32::MAX),
+    )
+    .expect("no size is 0")
 }
 
-fn in_frames() -> Limits {
-    Limits::new(16, Window::frames(1024), Window::frames(1024)).expect("no size is 0")
+fn in_frames(room: &Room) -> Limits {
+    let window = Window::frames(room.window);
+    Limits::new(room.chunk, window, window).expect("no size is 0")
 }
 
 #[inline(never)]
 pub fn output(room: &mut Room, turns: u64, steps: u64) -> u64 {
-    let Room { bytes, buffer, .. } = room;
-    let mut r = running(in_bytes(), 1000000, room.zero, buffer, u32::MAX);
+    let limits = in_bytes(room);
+    let (bytes, buffer) = (&room.bytes[..], &mut room.buffer[..]);
+    let mut r = running(limits, room.timeout, room.zero, buffer, u32::MAX);
     let (mut sum, mut other) = (0, 1);
     for _ in 0..turns {
         sum += r.output(Stream::Stdout, bytes) as u64;
@@ -83,8 +89,9 @@ pub fn output(room: &mut Room, turns: u64, steps: u64) -> u64 {
 
 #[inline(never)]
 pub fn input(room: &mut Room, turns: u64, steps: u64) -> u64 {
-    let Room { bytes, buffer, .. } = room;
-    let mut r = running(in_bytes(), 1000000, room.zero, buffer, u32::MAX);
+    let limits = in_bytes(room);
+    let (bytes, buffer) = (&room.bytes[..], &mut room.buffer[..]);
+    let mut r = running(limits, room.timeout, room.zero, buffer, u32::MAX);
     let (mut sum, mut other) = (0, 1);
     for _ in 0..turns {
         sum += of_received(r.input(KEY, bytes));
@@ -99,7 +106,13 @@ pub fn input(room: &mut Room, turns: u64, steps: u64) -> u64 {
 
 #[inline(never)]
 pub fn tick(room: &mut Room, turns: u64, steps: u64) -> u64 {
-    let mut r = running(in_bytes(), 1000000, room.zero, &mut room.buffer, u32::MAX);
+    let mut r = running(
+        in_bytes(room),
+        room.timeout,
+        room.zero,
+        &mut room.buffer[..],
+        u32::MAX,
+    );
     let (mut sum, mut other) = (0, 1);
     for i in 0..turns {
         r.tick(room.instants[(i % 64) as usize]);
@@ -113,7 +126,13 @@ pub fn tick(room: &mut Room, turns: u64, steps: u64) -> u64 {
 
 #[inline(never)]
 pub fn credit(room: &mut Room, turns: u64, steps: u64) -> u64 {
-    let mut r = running(in_bytes(), 1000000, room.zero, &mut room.buffer, 1);
+    let mut r = running(
+        in_bytes(room),
+        room.timeout,
+        room.zero,
+        &mut room.buffer[..],
+        1,
+    );
     let (mut sum, mut other) = (0, 1);
     for _ in 0..turns {
         sum += of_received(r.credit(KEY, Pool::Stdout, 1));
@@ -124,8 +143,9 @@ pub fn credit(room: &mut Room, turns: u64, steps: u64) -> u64 {
 
 #[inline(never)]
 pub fn idle(room: &mut Room, turns: u64, steps: u64) -> u64 {
-    let buffer = &mut room.buffer;
-    let mut r = running(in_bytes(), 1000000, room.zero, buffer, u32::MAX);
+    let limits = in_bytes(room);
+    let buffer = &mut room.buffer[..];
+    let mut r = running(limits, room.timeout, room.zero, buffer, u32::MAX);
     let (mut sum, mut other) = (0, 1);
     for _ in 0..turns {
         sum += of_said(r.next_message(buffer));
@@ -136,8 +156,9 @@ pub fn idle(room: &mut Room, turns: u64, steps: u64) -> u64 {
 
 #[inline(never)]
 pub fn frames(room: &mut Room, turns: u64, steps: u64) -> u64 {
-    let Room { bytes, buffer, .. } = room;
-    let mut r = running(in_frames(), 1000000, room.zero, buffer, 1024);
+    let limits = in_frames(room);
+    let (bytes, buffer) = (&room.bytes[..], &mut room.buffer[..]);
+    let mut r = running(limits, room.timeout, room.zero, buffer, 1024);
     let (mut sum, mut other) = (0, 1);
     for _ in 0..turns {
         for _ in 0..1024 {
@@ -154,8 +175,9 @@ pub fn frames(room: &mut Room, turns: u64, steps: u64) -> u64 {
 pub fn deadline(room: &mut Room, turns: u64, steps: u64) -> u64 {
     let nanos = [1000, 2000, 3000, 4000];
     let due = nanos.map(|timeout| room.zero + Duration::from_nanos(timeout));
+    let limits = in_bytes(room);
     let all =
-        nanos.map(|timeout| running(in_bytes(), timeout, room.zero, &mut room.buffer, u32::MAX));
+        nanos.map(|timeout| running(limits, timeout, room.zero, &mut room.buffer[..], u32::MAX));
     let (mut sum, mut other) = (0, 1);
     for i in 0..turns {
         let k = ((i / 3) % 4) as usize;

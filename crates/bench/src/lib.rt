@@ -1,11 +1,16 @@
 // The runner's calls in loops, for Rust to link and time beside its own (bench/). Each exported function opens a runner over
 // the lent stores, makes the calls of a turn `turns` times, with `steps` steps of arithmetic after each turn, and returns the
-// sum of the answers and of the arithmetic. It is proved safe and to end, and promises nothing else. A turn and its loop are
-// functions of their own, so that little has to be known at the end of a turn; each has one caller, and becomes a part of it.
+// sum of the answers and of the arithmetic. It is proved safe and to end, and promises nothing else. What is lent has a fixed
+// length, so that nothing has to be known of it after a turn; chunk, window and timeout are given, so that the compiler does
+// not know them.
+use credit::receiver::Granted;
+use credit::sender::Credit;
+use exec::Cause;
 use exec::Deadline;
 use exec::Key;
 use exec::LaunchResult;
 use exec::Limits;
+use exec::MaybeStatus;
 use exec::Pool;
 use exec::Receipt;
 use exec::Received;
@@ -18,8 +23,6 @@ use runner::answer::Said;
 use runner::answer::Taken;
 use runner::answer::When;
 use runner::runner::Runner;
-
-const CHUNK: u32 = 16384;
 
 // So many steps of arithmetic, each on the result of the last: the work between two turns.
 fn work(start: u64, steps: u64) -> u64 {
@@ -110,47 +113,50 @@ fn of_when(when: When, due: u64) -> u64 {
     }
 }
 
-// A runner, and the sum of its answers so far.
-struct Summed {
-    runner: Runner,
-    sum: u64,
-}
-
 fn key() -> Key {
     Key::new(7, 2)
 }
 
-// A runner whose workload runs, with its first credit and its start told, and the whole of stdout's window granted.
-fn running(
-    limits: Limits,
-    timeout: u64,
-    store: &mut [u8],
-    lengths: &mut [u32],
-    buffer: &mut [u8],
-    granted: u32,
-) -> Runner {
+// A runner whose workload runs, with its first credit and its start told, and so many units of stdout's window granted. The
+// calls that are measured are not made here, so that each has few callers, as in an adapter.
+fn running(limits: Limits, timeout: u64, store: &[u8], lengths: &[u32], units: u32) -> Runner {
     let timers = Timers::new(1000, 1000).timeout(timeout);
-    let opened = Runner::open(key(), limits, timers, 0, store, lengths).runner;
-    let launched = opened.launched(LaunchResult::Started).runner;
-    let credited = launched.credit(key(), Pool::Stdout, granted).runner;
-    let told = credited.next_message(store, buffer).runner;
-    told.next_message(store, buffer).runner
+    let mut r = Runner::open(key(), limits, timers, 0, store, lengths).runner;
+    r = r.launched(LaunchResult::Started).runner;
+    r.flags.started_message = false;
+    let agreed = limits.input;
+    let granted = Granted {
+        open: agreed.size,
+        returnable: 0,
+    };
+    let mut input = r.input;
+    input.window = granted;
+    r.input = input;
+    let window = limits.output;
+    let stdout = Credit {
+        window: window.size,
+        available: units,
+    };
+    let stderr = Credit::new(window.size);
+    let credits = [stdout, stderr];
+    r.credits = credits;
+    r
 }
 
-fn in_bytes() -> Limits {
+fn in_bytes(chunk: u32, window: u32) -> Limits {
     Limits {
-        chunk: CHUNK,
-        input: Window::bytes(CHUNK),
+        chunk,
+        input: Window::bytes(window),
         output: Window::bytes(u32::MAX),
         shared: false,
     }
 }
 
-fn in_frames() -> Limits {
+fn in_frames(chunk: u32, window: u32) -> Limits {
     Limits {
-        chunk: 16,
-        input: Window::frames(1024),
-        output: Window::frames(1024),
+        chunk,
+        input: Window::frames(window),
+        output: Window::frames(window),
         shared: false,
     }
 }
@@ -158,358 +164,220 @@ fn in_frames() -> Limits {
 // output and next_message, which hands the bytes on.
 #[no_mangle]
 pub extern "C" fn bench_output(
-    store: &mut [u8],
-    lengths: &mut [u32],
+    store: &mut [u8; 49152],
+    lengths: &mut [u32; 1024],
     bytes: &[u8],
-    buffer: &mut [u8],
+    buffer: &mut [u8; 16384],
+    chunk: u32,
+    window: u32,
+    timeout: u64,
     turns: u64,
     steps: u64,
 ) -> u64 {
-    let first = running(in_bytes(), 1000000, store, lengths, buffer, u32::MAX);
-    output_turns(first, store, bytes, buffer, turns, steps)
-}
-
-fn output_turns(
-    first: Runner,
-    store: &mut [u8],
-    bytes: &[u8],
-    buffer: &mut [u8],
-    turns: u64,
-    steps: u64,
-) -> u64 {
-    let mut r = first;
+    let mut r = running(in_bytes(chunk, window), timeout, store, lengths, u32::MAX);
     let mut sum = 0;
     let mut other = 1;
     for _ in 0..turns {
-        let summed = output(r, sum, store, bytes, buffer);
-        let after = summed.runner;
-        r = after;
-        sum = summed.sum;
+        let taking = r.output(Stream::Stdout, store, bytes);
+        let taken = taking.taken;
+        sum = add(sum, of_taken(taken));
+        r = taking.runner;
+        let saying = r.next_message(store, buffer);
+        let said = saying.said;
+        sum = add(sum, of_said(said));
+        r = saying.runner;
         other = work(other, steps);
     }
     add(sum, other)
-}
-
-fn output(runner: Runner, sum: u64, store: &mut [u8], bytes: &[u8], buffer: &mut [u8]) -> Summed {
-    let taking = runner.output(Stream::Stdout, store, bytes);
-    let taken = taking.taken;
-    let held = taking.runner;
-    let saying = held.next_message(store, buffer);
-    let said = saying.said;
-    let after = saying.runner;
-    Summed {
-        runner: after,
-        sum: add(add(sum, of_taken(taken)), of_said(said)),
-    }
 }
 
 // input, pending_input, input_written and next_message, which grants the units again.
 #[no_mangle]
 pub extern "C" fn bench_input(
-    store: &mut [u8],
-    lengths: &mut [u32],
+    store: &mut [u8; 49152],
+    lengths: &mut [u32; 1024],
     bytes: &[u8],
-    buffer: &mut [u8],
+    buffer: &mut [u8; 16384],
+    chunk: u32,
+    window: u32,
+    timeout: u64,
     turns: u64,
     steps: u64,
 ) -> u64 {
-    let first = running(in_bytes(), 1000000, store, lengths, buffer, u32::MAX);
-    input_turns(first, store, lengths, bytes, buffer, turns, steps)
-}
-
-fn input_turns(
-    first: Runner,
-    store: &mut [u8],
-    lengths: &mut [u32],
-    bytes: &[u8],
-    buffer: &mut [u8],
-    turns: u64,
-    steps: u64,
-) -> u64 {
-    let mut r = first;
+    let mut r = running(in_bytes(chunk, window), timeout, store, lengths, u32::MAX);
     let mut sum = 0;
     let mut other = 1;
     for _ in 0..turns {
-        let summed = input(r, sum, store, lengths, bytes, buffer);
-        let after = summed.runner;
-        r = after;
-        sum = summed.sum;
+        let hearing = r.input(key(), store, lengths, bytes);
+        let received = hearing.received;
+        sum = add(sum, of_received(received));
+        let held = hearing.runner;
+        let mut refusal = 0;
+        let waiting = held.pending_input(store, &mut refusal).len();
+        sum = add(sum, waiting as u64);
+        let written = held.input_written(lengths, waiting).runner;
+        let saying = written.next_message(store, buffer);
+        let said = saying.said;
+        sum = add(sum, of_said(said));
+        r = saying.runner;
         other = work(other, steps);
     }
     add(sum, other)
-}
-
-fn input(
-    runner: Runner,
-    sum: u64,
-    store: &mut [u8],
-    lengths: &mut [u32],
-    bytes: &[u8],
-    buffer: &mut [u8],
-) -> Summed {
-    let written = write(runner, sum, store, lengths, bytes);
-    let held = written.runner;
-    let saying = held.next_message(store, buffer);
-    let said = saying.said;
-    let after = saying.runner;
-    Summed {
-        runner: after,
-        sum: add(written.sum, of_said(said)),
-    }
-}
-
-fn write(runner: Runner, sum: u64, store: &mut [u8], lengths: &mut [u32], bytes: &[u8]) -> Summed {
-    let waited = receive(runner, sum, store, lengths, bytes);
-    let held = waited.runner;
-    let after = held.input_written(lengths, waited.waiting).runner;
-    Summed {
-        runner: after,
-        sum: waited.sum,
-    }
-}
-
-// A runner with so many bytes waiting for its workload.
-struct Waited {
-    runner: Runner,
-    sum: u64,
-    waiting: usize,
-}
-
-fn receive(
-    runner: Runner,
-    sum: u64,
-    store: &mut [u8],
-    lengths: &mut [u32],
-    bytes: &[u8],
-) -> Waited {
-    let hearing = runner.input(key(), store, lengths, bytes);
-    let received = hearing.received;
-    let held = hearing.runner;
-    let mut refusal = 0;
-    let waiting = held.pending_input(store, &mut refusal).len();
-    Waited {
-        runner: held,
-        sum: add(add(sum, of_received(received)), waiting as u64),
-        waiting,
-    }
 }
 
 // tick, with nothing due.
 #[no_mangle]
 pub extern "C" fn bench_tick(
-    store: &mut [u8],
-    lengths: &mut [u32],
-    buffer: &mut [u8],
+    store: &mut [u8; 49152],
+    lengths: &mut [u32; 1024],
+    _buffer: &mut [u8; 16384],
+    chunk: u32,
+    window: u32,
+    timeout: u64,
     turns: u64,
     steps: u64,
 ) -> u64 {
-    let first = running(in_bytes(), 1000000, store, lengths, buffer, u32::MAX);
-    tick_turns(first, turns, steps)
-}
-
-fn tick_turns(first: Runner, turns: u64, steps: u64) -> u64 {
-    let mut r = first;
+    let mut r = running(in_bytes(chunk, window), timeout, store, lengths, u32::MAX);
     let mut sum = 0;
     let mut other = 1;
     for i in 0..turns {
-        let summed = tick(r, sum, i % 64);
-        let after = summed.runner;
-        r = after;
-        sum = summed.sum;
+        let noting = r.tick(i % 64);
+        let reply = noting.reply;
+        sum = add(sum, of_reply(reply));
+        r = noting.runner;
         other = work(other, steps);
     }
     add(sum, other)
-}
-
-fn tick(runner: Runner, sum: u64, now: u64) -> Summed {
-    let noting = runner.tick(now);
-    let reply = noting.reply;
-    let after = noting.runner;
-    Summed {
-        runner: after,
-        sum: add(sum, of_reply(reply)),
-    }
 }
 
 // credit of one unit.
 #[no_mangle]
 pub extern "C" fn bench_credit(
-    store: &mut [u8],
-    lengths: &mut [u32],
-    buffer: &mut [u8],
+    store: &mut [u8; 49152],
+    lengths: &mut [u32; 1024],
+    _buffer: &mut [u8; 16384],
+    chunk: u32,
+    window: u32,
+    timeout: u64,
     turns: u64,
     steps: u64,
 ) -> u64 {
-    let first = running(in_bytes(), 1000000, store, lengths, buffer, 1);
-    credit_turns(first, turns, steps)
-}
-
-fn credit_turns(first: Runner, turns: u64, steps: u64) -> u64 {
-    let mut r = first;
+    let mut r = running(in_bytes(chunk, window), timeout, store, lengths, 1);
     let mut sum = 0;
     let mut other = 1;
     for _ in 0..turns {
-        let summed = credit(r, sum, 1);
-        let after = summed.runner;
-        r = after;
-        sum = summed.sum;
+        let hearing = r.credit(key(), Pool::Stdout, 1);
+        let received = hearing.received;
+        sum = add(sum, of_received(received));
+        r = hearing.runner;
         other = work(other, steps);
     }
     add(sum, other)
-}
-
-fn credit(runner: Runner, sum: u64, units: u32) -> Summed {
-    let hearing = runner.credit(key(), Pool::Stdout, units);
-    let received = hearing.received;
-    let after = hearing.runner;
-    Summed {
-        runner: after,
-        sum: add(sum, of_received(received)),
-    }
 }
 
 // next_message, with nothing waiting.
 #[no_mangle]
 pub extern "C" fn bench_idle(
-    store: &mut [u8],
-    lengths: &mut [u32],
-    buffer: &mut [u8],
+    store: &mut [u8; 49152],
+    lengths: &mut [u32; 1024],
+    buffer: &mut [u8; 16384],
+    chunk: u32,
+    window: u32,
+    timeout: u64,
     turns: u64,
     steps: u64,
 ) -> u64 {
-    let first = running(in_bytes(), 1000000, store, lengths, buffer, u32::MAX);
-    idle_turns(first, store, buffer, turns, steps)
-}
-
-fn idle_turns(first: Runner, store: &[u8], buffer: &mut [u8], turns: u64, steps: u64) -> u64 {
-    let mut r = first;
+    let mut r = running(in_bytes(chunk, window), timeout, store, lengths, u32::MAX);
     let mut sum = 0;
     let mut other = 1;
     for _ in 0..turns {
-        let summed = idle(r, sum, store, buffer);
-        let after = summed.runner;
-        r = after;
-        sum = summed.sum;
+        let saying = r.next_message(store, buffer);
+        let said = saying.said;
+        sum = add(sum, of_said(said));
+        r = saying.runner;
         other = work(other, steps);
     }
     add(sum, other)
-}
-
-fn idle(runner: Runner, sum: u64, store: &[u8], buffer: &mut [u8]) -> Summed {
-    let saying = runner.next_message(store, buffer);
-    let said = saying.said;
-    let after = saying.runner;
-    Summed {
-        runner: after,
-        sum: add(sum, of_said(said)),
-    }
 }
 
 // 1,024 frames in, popped at once and granted again.
 #[no_mangle]
 pub extern "C" fn bench_frames(
-    store: &mut [u8],
-    lengths: &mut [u32],
+    store: &mut [u8; 49152],
+    lengths: &mut [u32; 1024],
     bytes: &[u8],
-    buffer: &mut [u8],
+    buffer: &mut [u8; 16384],
+    chunk: u32,
+    window: u32,
+    timeout: u64,
     turns: u64,
     steps: u64,
 ) -> u64 {
-    let first = running(in_frames(), 1000000, store, lengths, buffer, 1024);
-    frames_turns(first, store, lengths, bytes, buffer, turns, steps)
-}
-
-fn frames_turns(
-    first: Runner,
-    store: &mut [u8],
-    lengths: &mut [u32],
-    bytes: &[u8],
-    buffer: &mut [u8],
-    turns: u64,
-    steps: u64,
-) -> u64 {
-    let mut r = first;
+    let mut r = running(in_frames(chunk, window), timeout, store, lengths, 1024);
     let mut sum = 0;
     let mut other = 1;
     for _ in 0..turns {
-        let summed = frames(r, sum, store, lengths, bytes, buffer);
-        let after = summed.runner;
-        r = after;
-        sum = summed.sum;
+        let summed = fill(r, sum, store, lengths, bytes, 1024);
+        let held = summed.runner;
+        let written = held.input_written(lengths, 1024).runner;
+        let saying = written.next_message(store, buffer);
+        let said = saying.said;
+        sum = add(summed.sum, of_said(said));
+        r = saying.runner;
         other = work(other, steps);
     }
     add(sum, other)
 }
 
-fn frames(
+// A runner, and the sum of its answers so far.
+struct Summed {
     runner: Runner,
     sum: u64,
-    store: &mut [u8],
-    lengths: &mut [u32],
-    bytes: &[u8],
-    buffer: &mut [u8],
-) -> Summed {
-    let popped = pop(runner, sum, store, lengths, bytes);
-    let held = popped.runner;
-    let saying = held.next_message(store, buffer);
-    let said = saying.said;
-    let after = saying.runner;
-    Summed {
-        runner: after,
-        sum: add(popped.sum, of_said(said)),
-    }
-}
-
-fn pop(runner: Runner, sum: u64, store: &mut [u8], lengths: &mut [u32], bytes: &[u8]) -> Summed {
-    let filled = fill(runner, sum, store, lengths, bytes, 1024);
-    let held = filled.runner;
-    let after = held.input_written(lengths, 1024).runner;
-    Summed {
-        runner: after,
-        sum: filled.sum,
-    }
 }
 
 fn fill(
     first: Runner,
     before: u64,
-    store: &mut [u8],
-    lengths: &mut [u32],
+    store: &mut [u8; 49152],
+    lengths: &mut [u32; 1024],
     bytes: &[u8],
     turns: u64,
 ) -> Summed {
     let mut r = first;
     let mut sum = before;
     for _ in 0..turns {
-        let summed = frame(r, sum, store, lengths, bytes);
-        let after = summed.runner;
-        r = after;
-        sum = summed.sum;
+        let hearing = r.input(key(), store, lengths, bytes);
+        let received = hearing.received;
+        sum = add(sum, of_received(received));
+        r = hearing.runner;
     }
     Summed { runner: r, sum }
-}
-
-fn frame(runner: Runner, sum: u64, store: &mut [u8], lengths: &mut [u32], bytes: &[u8]) -> Summed {
-    let hearing = runner.input(key(), store, lengths, bytes);
-    let received = hearing.received;
-    let after = hearing.runner;
-    Summed {
-        runner: after,
-        sum: add(sum, of_received(received)),
-    }
 }
 
 // deadline, of four runners by turns: of one alone the compiler would ask once.
 #[no_mangle]
 pub extern "C" fn bench_deadline(
-    store: &mut [u8],
-    lengths: &mut [u32],
-    buffer: &mut [u8],
+    store: &mut [u8; 49152],
+    lengths: &mut [u32; 1024],
+    _buffer: &mut [u8; 16384],
+    chunk: u32,
+    window: u32,
+    timeout: u64,
     turns: u64,
     steps: u64,
 ) -> u64 {
-    let first = running(in_bytes(), 1000000, store, lengths, buffer, u32::MAX);
-    deadline_turns(first, turns, steps)
+    let all = four(running(in_bytes(chunk, window), timeout, store, lengths, u32::MAX));
+    let mut sum = 0;
+    let mut other = 1;
+    for i in 0..turns {
+        let k = (i / 3) % 4;
+        let at = k as usize;
+        let r = all[at];
+        let when = r.deadline();
+        sum = add(sum, of_when(when, 1000 + 1000 * k));
+        other = work(other, steps);
+    }
+    add(sum, other)
 }
 
 fn four(r: Runner) -> [Runner; 4] {
@@ -528,21 +396,19 @@ fn due_at(mut runner: Runner, at: u64) -> Runner {
     runner
 }
 
-fn deadline_turns(first: Runner, turns: u64, steps: u64) -> u64 {
-    let all = four(first);
-    let mut sum = 0;
-    let mut other = 1;
-    for i in 0..turns {
-        sum = deadline(all, i, sum);
-        other = work(other, steps);
-    }
-    add(sum, other)
-}
-
-fn deadline(all: [Runner; 4], i: u64, sum: u64) -> u64 {
-    let k = (i / 3) % 4;
-    let at = k as usize;
-    let r = all[at];
-    let when = r.deadline();
-    add(sum, of_when(when, 1000 + 1000 * k))
+// The other calls that tick, once each: with them `fire` has several callers, as in any adapter, and is a part of none.
+#[no_mangle]
+pub extern "C" fn bench_rest(
+    store: &mut [u8; 49152],
+    lengths: &mut [u32; 1024],
+    chunk: u32,
+    window: u32,
+    now: u64,
+) -> u64 {
+    let r = running(in_bytes(chunk, window), now, store, lengths, u32::MAX);
+    let cancelled = r.cancel(now, key(), Cause::Cancelled).runner;
+    let exited = cancelled.exited(now, MaybeStatus::None).runner;
+    let noting = exited.disconnect(now);
+    let reply = noting.reply;
+    of_reply(reply)
 }

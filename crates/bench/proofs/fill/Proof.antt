@@ -1,16 +1,24 @@
 -- `fill` is safe and ends: the measure is the turns left.
-use mathlib.Core.Path.{_≡_}
-use Prim.Native.Nat.{_-_, _≤_}
-use lib.ListN.{length}
+use Prim.Native.Nat.{_-_, _≤_, _<_, _^_}
+use native.Mathlib.Omega.{arith}
 use borrow.Author.Needs.{needs}
 use Rattle.bench.proofs.fill.Statement.{statement}
 use Rattle.bench.proofs.fill.Tie as tie
 
 abbrev Inv-loop : tie.InvT-loop
-Inv-loop before store₀ lengths₀ bytes turns r₀ sum₀ counter₀ store lengths r sum counter = (counter ≤ turns) × (length store ≡ length store₀) × (length lengths ≡ length lengths₀)
+Inv-loop before store₀ lengths₀ bytes turns r₀ sum₀ counter₀ store lengths r sum counter = (counter ≤ turns) × (turns < 2 ^ 64)
 
 abbrev μ-loop : tie.MeasureT-loop
 μ-loop before store₀ lengths₀ bytes turns r₀ sum₀ counter₀ store lengths r sum counter = turns - counter
+
+add-counter : tie.Need-add-counter Inv-loop μ-loop
+add-counter c = omega (arith, c .before .before .before .before .before .before .before .loop-test .taken, c .before .before .before .before .before .before .before .before .loop .inv .1)
+
+loop-less : tie.Need-loop-less Inv-loop μ-loop
+loop-less c = omega (arith, c .before .before .before .before .before .before .before .loop-test .taken)
+
+loop-again : tie.Need-loop-again Inv-loop μ-loop
+loop-again c = (omega (arith, c .before .before .before .before .before .before .before .loop-test .taken), c .before .before .before .before .before .before .before .before .loop .inv .1)
 
 pub fill-spec : {M : Type 1} → statement M
 fill-spec =
@@ -23,6 +31,7 @@ fill-spec =
     (search needs)
     (search needs)
     (search needs)
-    (search needs)
-    (search needs)
+    add-counter
+    loop-less
+    loop-again
     (search needs))
