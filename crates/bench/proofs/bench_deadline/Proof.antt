@@ -26,20 +26,20 @@ bench-deadline-spec =
     (tie.spec
     Inv-loop
     μ-loop
+    (λ c κs. tt)
+    (λ c κs. tt)
+    (λ c κs. tt)
     (search needs)
     (search needs)
     (search needs)
+    (λ c κs. tt)
     (search needs)
     (search needs)
-    (search needs)
-    (search needs)
-    (search needs)
-    (search needs)
-    (search needs)
-    (search needs)
-    (search needs)
+    (λ c κs. tt)
+    (λ c κs. tt)
+    (λ c κs. tt)
     add-i
     loop-less
     loop-again
-    (search needs)
-    (search needs))
+    (λ c κs. tt)
+    (λ c. tt))

@@ -26,18 +26,18 @@ bench-output-spec =
     (tie.spec
     Inv-loop
     μ-loop
+    (λ c κs. tt)
+    (λ c κs. tt)
     (search needs)
-    (search needs)
-    (search needs)
-    (search needs)
-    (search needs)
-    (search needs)
-    (search needs)
-    (search needs)
-    (search needs)
-    (search needs)
+    (λ c κs. tt)
+    (λ c κs. tt)
+    (λ c κs. tt)
+    (λ c κs. tt)
+    (λ c κs. tt)
+    (λ c κs. tt)
+    (λ c κs. tt)
     add-counter
     loop-less
     loop-again
-    (search needs)
-    (search needs))
+    (λ c κs. tt)
+    (λ c. tt))

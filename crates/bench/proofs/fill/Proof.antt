@@ -27,11 +27,11 @@ fill-spec =
     Inv-loop
     μ-loop
     (search needs)
-    (search needs)
-    (search needs)
-    (search needs)
-    (search needs)
+    (λ c κs. tt)
+    (λ c κs. tt)
+    (λ c κs. tt)
+    (λ c κs. tt)
     add-counter
     loop-less
     loop-again
-    (search needs))
+    (λ c. tt))
