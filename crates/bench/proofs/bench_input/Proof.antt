@@ -1,7 +1,7 @@
 -- `bench_input` is safe and ends: the measure is the turns left.
 use Prim.Native.Nat.{_-_, _≤_, _<_, _^_}
-use native.Mathlib.Omega.{arith}
 use borrow.Author.Needs.{needs}
+use Rattle.bench.proofs.Turns.{fits, less, again}
 use Rattle.bench.proofs.bench_input.Statement.{statement}
 use Rattle.bench.proofs.bench_input.Tie as tie
 
@@ -12,13 +12,13 @@ abbrev μ-loop : tie.MeasureT-loop
 μ-loop store₀ lengths₀ bytes buffer₀ chunk window timeout turns steps r₀ sum₀ other₀ counter₀ store lengths buffer r sum other counter = turns - counter
 
 add-counter : tie.Need-add-counter Inv-loop μ-loop
-add-counter c = omega (arith, c .before .before .before .before .before .before .before .before .before .before .before .before .before .before .before .before .before .before .before .before .before .before .before .loop-test .taken, c .before .before .before .before .before .before .before .before .before .before .before .before .before .before .before .before .before .before .before .before .before .before .before .before .loop .inv .1)
+add-counter c = record { fits = fits _ _ (c .before .before .before .before .before .before .before .before .before .before .before .before .before .before .before .before .before .before .before .before .before .before .before .loop-test .taken) (c .before .before .before .before .before .before .before .before .before .before .before .before .before .before .before .before .before .before .before .before .before .before .before .before .loop .inv .1) }
 
 loop-less : tie.Need-loop-less Inv-loop μ-loop
-loop-less c = omega (arith, c .before .before .before .before .before .before .before .before .before .before .before .before .before .before .before .before .before .before .before .before .before .before .before .loop-test .taken)
+loop-less c = less _ _ (c .before .before .before .before .before .before .before .before .before .before .before .before .before .before .before .before .before .before .before .before .before .before .before .loop-test .taken)
 
 loop-again : tie.Need-loop-again Inv-loop μ-loop
-loop-again c = (omega (arith, c .before .before .before .before .before .before .before .before .before .before .before .before .before .before .before .before .before .before .before .before .before .before .before .loop-test .taken), c .before .before .before .before .before .before .before .before .before .before .before .before .before .before .before .before .before .before .before .before .before .before .before .before .loop .inv .1)
+loop-again c = (again _ _ (c .before .before .before .before .before .before .before .before .before .before .before .before .before .before .before .before .before .before .before .before .before .before .before .loop-test .taken), c .before .before .before .before .before .before .before .before .before .before .before .before .before .before .before .before .before .before .before .before .before .before .before .before .loop .inv .1)
 
 pub bench-input-spec : {M : Type 1} → statement M
 bench-input-spec =
