@@ -10,9 +10,9 @@ use Rattle.ring.specs.Runs.{copied}
 use Rattle.card.specs.declared.feed.Answered.{Answered}
 use Rattle.card.specs.declared.feed.Card.{Card}
 use Rattle.card.specs.declared.feed.Printed.{Printed}
-use Rattle.card.specs.Answers.{lineText}
-use Rattle.card.specs.Feed as Feed
-use Rattle.card.specs.Feed.{Session, answerOf, lineEnds}
+use Rattle.grammar.specs.Answers.{lineText}
+use Rattle.grammar.specs.Feed as Feed
+use Rattle.grammar.specs.Feed.{Session, answerOf, lineEnds}
 use Rattle.card.specs.Answering.{answerIs}
 use Rattle.card.specs.Written.{Wrote, same-text}
 use Rattle.card.specs.Standing.{standingIs, sessionOf, Answers, EndsLine}

@@ -21,9 +21,9 @@ use Rattle.card.specs.declared.feed.Stage.the-variants as Stage
 use Rattle.card.specs.declared.feed.Standing.{Standing}
 use Rattle.card.specs.declared.opening.MaybeOpening.the-variants as MaybeOpening
 use Rattle.card.specs.declared.opening.Opening as Openings
-use Rattle.card.specs.Lines.{zeros}
-use Rattle.card.specs.Feed as Feed
-use Rattle.card.specs.Feed.{isRefused, timeOf, remembered, openedBy, first}
+use Rattle.grammar.specs.Lines.{zeros}
+use Rattle.grammar.specs.Feed as Feed
+use Rattle.grammar.specs.Feed.{isRefused, timeOf, remembered, openedBy, first}
 use Rattle.card.specs.Meaning.{openingIs}
 use Rattle.card.specs.Answering.{answerIs}
 use Rattle.card.specs.Making.{timeIs, Made}

@@ -14,7 +14,7 @@ use Rattle.ring.specs.Runs.{copied, copied-zero}
 use Rattle.card.specs.declared.feed.Card.{Card}
 use Rattle.card.specs.declared.feed.Standing.{Standing}
 use Rattle.card.specs.declared.feed.Turn.{Turn}
-use Rattle.card.specs.Feed.{Session, lineEnds, feeds, pieces, ends}
+use Rattle.grammar.specs.Feed.{Session, lineEnds, feeds, pieces, ends}
 use Rattle.card.specs.Feeding.{eaten, goesOn, lineLength, holdAll, line-most, all-held, line-answered, line-stopped}
 use Rattle.card.specs.Standing.{standingIs, sessionOf, Holds}
 use Rattle.card.specs.Turning.{Answered, Stopped, Passes, Goes, isReady}

@@ -10,7 +10,7 @@ use Rattle.runner.specs.declared.answer.Message.{Message}
 use Rattle.runner.specs.declared.answer.Message.the-variants as Message
 use Rattle.runner.specs.declared.answer.Request.{Request}
 use Rattle.runner.specs.declared.answer.Request.the-variants as Request
-use Rattle.card.specs.Feed.{isRefused}
+use Rattle.grammar.specs.Feed.{isRefused}
 use Rattle.card.specs.declared.answers.Answer.{Answer}
 use Rattle.card.specs.declared.answers.Answer.the-variants as Answer
 

@@ -9,7 +9,7 @@ use lib.Dec.{eqb, ltb, leb}
 use lib.ListN.{length, take, drop, getD, length-append}
 use lib.Seq.{drop-cons, drop-length, take-all, take-append-le, take-add}
 use borrow.Author.Tests.{ltb-true, ltb-false, eqb-true}
-use Rattle.card.specs.Feed.{Session, Step, hold, lineEnds, eat, feeds, pieces}
+use Rattle.grammar.specs.Feed.{Session, Step, hold, lineEnds, eat, feeds, pieces}
 
 -- a line is answered where 131,200 bytes of the output area are free, which is more than any answer has, and where its number is a u64
 abbrev pub goesOn : Session → (room : ℕ) → Bool

@@ -14,7 +14,7 @@ use native.Mathlib.Decide.{decLt}
 use lib.ListN.{length, take, drop, getD, length-drop}
 use lib.Seq.{drop-cons, drop-length, take-all, drop-drop}
 use Rattle.exec.specs.declared.MaybeStatus.the-variants as MaybeStatus
-use Rattle.card.specs.Lines.{inFirst, at, missing, fields, status, callOf}
+use Rattle.grammar.specs.Lines.{inFirst, at, missing, fields, status, callOf}
 use Rattle.card.specs.Meaning.{exitedWith, signaledWith}
 
 -- the index of the first comma, or the length where there is none

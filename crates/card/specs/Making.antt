@@ -7,7 +7,7 @@ use Prim.Native.Nat.{ℕ, zero, suc, _+_, _-_, _≤_, min}
 use native.Mathlib.Omega.{arith}
 use lib.ListN.{length, take, drop, length-take, length-drop}
 use lib.Seq.{take-at}
-use Rattle.card.specs.Lines.{zeros}
+use Rattle.grammar.specs.Lines.{zeros}
 use Rattle.card.specs.Zeros.{zeros-length}
 use Rattle.exec.specs.declared.Stream.{Stream}
 use Rattle.runner.specs.declared.answer.Message.the-variants as Message
@@ -37,7 +37,7 @@ use Rattle.card.specs.declared.calls.Making.{Making}
 use Rattle.card.specs.declared.calls.MaybeTime.{MaybeTime}
 use Rattle.card.specs.declared.calls.MaybeTime.the-variants as MaybeTime
 use Rattle.card.specs.declared.lines.Call as Calls
-use Rattle.card.specs.Feed.{timeOf}
+use Rattle.grammar.specs.Feed.{timeOf}
 use Rattle.card.specs.Meaning.{callIs}
 use Rattle.card.specs.Answering.{answerIs, AnswerIs}
 use Rattle.card.specs.declared.answers.Answer.{Answer}

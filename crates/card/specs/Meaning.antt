@@ -8,7 +8,7 @@ use mathlib.Core.Option.{Option·map}
 use Prim.Native.Nat.{ℕ, _≤_}
 use lib.IntN.{ℤ}
 use lib.ListN.{take}
-use Rattle.card.specs.Lines.{Opening, on, u32, missing, zeros, find, readAllowanceOf, outputClosedOf, outputFailedOf, outputHungUpOf, inputWrittenOf, settledOf, droppedOf, resetOf, disconnectOf, tickOf, messageOf, endInputOf, outputOf, discardedOf, exitedOf, launchedOf, inputOf, creditOf, cancelOf}
+use Rattle.grammar.specs.Lines.{Opening, on, u32, missing, zeros, find, readAllowanceOf, outputClosedOf, outputFailedOf, outputHungUpOf, inputWrittenOf, settledOf, droppedOf, resetOf, disconnectOf, tickOf, messageOf, endInputOf, outputOf, discardedOf, exitedOf, launchedOf, inputOf, creditOf, cancelOf}
 use Rattle.exec.specs.declared.Cause.{Cause}
 use Rattle.exec.specs.declared.LaunchResult.{LaunchResult}
 use Rattle.exec.specs.declared.LaunchResult.the-variants as LaunchResult

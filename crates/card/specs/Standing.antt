@@ -19,8 +19,8 @@ use Rattle.card.specs.declared.feed.Stage.the-variants as Stage
 use Rattle.card.specs.declared.feed.Standing.{Standing}
 use Rattle.card.specs.declared.opening.Opening as Openings
 use Rattle.card.specs.declared.opening.MaybeOpening.the-variants as MaybeOpening
-use Rattle.card.specs.Feed as Feed
-use Rattle.card.specs.Feed.{Session, lineEnds, first, tooLong, isRefused, timeOf, remembered}
+use Rattle.grammar.specs.Feed as Feed
+use Rattle.grammar.specs.Feed.{Session, lineEnds, first, tooLong, isRefused, timeOf, remembered}
 use Rattle.card.specs.Meaning.{openingIs}
 use Rattle.card.specs.Answering.{answerIs}
 use Rattle.card.specs.Making.{stateOf}

@@ -9,7 +9,7 @@ use lib.ListN.{length, take, drop}
 use Rattle.card.specs.declared.feed.Card.{Card}
 use Rattle.card.specs.declared.feed.Eaten.{Eaten}
 use Rattle.card.specs.declared.feed.Turn.{Turn}
-use Rattle.card.specs.Feed.{Session, start, lineEnds, feeds, ends}
+use Rattle.grammar.specs.Feed.{Session, start, lineEnds, feeds, ends}
 use Rattle.card.specs.Standing.{sessionOf}
 use Rattle.card.specs.Feeding.{eaten}
 use Rattle.card.specs.Written.{Wrote}

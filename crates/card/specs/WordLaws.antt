@@ -11,7 +11,7 @@ use lib.ListN.{length, drop, getD}
 use lib.Seq.{drop-cons, drop-length, take-at}
 use lib.IntN.{ℤ}
 use Rattle.text.specs.Answers.{maybeNumber, maybeSigned, maybeLength, unhexInto}
-use Rattle.card.specs.Words.{same}
+use Rattle.grammar.specs.Words.{same}
 use Rattle.card.specs.Meaning.{numberIs, signedIs, bytesIs}
 
 and-false : (a b : Bool) → b ≡ false → a && b ≡ false

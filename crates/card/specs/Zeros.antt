@@ -6,7 +6,7 @@ use native.Mathlib.Omega.{arith}
 use native.Mathlib.Numerals.{add-one}
 use lib.ListN.{length, drop, set, length-append, length-drop}
 use lib.Seq.{drop-length}
-use Rattle.card.specs.Lines.{zeros}
+use Rattle.grammar.specs.Lines.{zeros}
 
 pub zeros-length : (n : ℕ) → length (zeros n) ≡ n
 unfolding zeros

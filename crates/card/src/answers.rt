@@ -18,8 +18,8 @@ ghost use Rattle.account.specs.Step.{
   requestOf,
   messageOf,
 };
-ghost use Rattle.card.specs.Words.{bytes, streamName, causeName};
-ghost use Rattle.card.specs.Answers.{
+ghost use Rattle.grammar.specs.Words.{bytes, streamName, causeName};
+ghost use Rattle.grammar.specs.Answers.{
   dash,
   flag,
   statusText,

@@ -6,7 +6,7 @@ ghost use lib.ListN.{length, take, drop};
 ghost use Rattle.account.specs.Call as Calls;
 ghost use Rattle.account.specs.Step.{replied, receivedAs, asks, waits, answer};
 ghost use Rattle.runner.specs.Calls as Runs;
-ghost use Rattle.card.specs.Lines.{zeros};
+ghost use Rattle.grammar.specs.Lines.{zeros};
 ghost use Rattle.card.specs.Meaning.{callIs};
 ghost use Rattle.card.specs.Answering.{answerIs, AnswerIs};
 ghost use Rattle.card.specs.Making.{TimeIs, stateOf, OutputMade, InputMade, MessageMade, Made};

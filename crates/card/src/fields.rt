@@ -5,7 +5,7 @@ ghost use lib.ListN.{length};
 ghost use Rattle.text.specs.Answers.{AtMost};
 ghost use Rattle.text.specs.Decimal.{signed};
 ghost use Rattle.text.specs.Hexadecimal.{unhex};
-ghost use Rattle.card.specs.Lines.{u64, u32, messageLength, status, timeout, launchResult};
+ghost use Rattle.grammar.specs.Lines.{u64, u32, messageLength, status, timeout, launchResult};
 ghost use Rattle.card.specs.Meaning.{
   numberIs,
   narrowIs,

@@ -4,7 +4,7 @@ ghost use mathlib.Core.Path.{_≡_};
 ghost use mathlib.Core.List.{[], _∷_};
 ghost use Prim.Native.Nat.{_≤_, _/_};
 ghost use lib.ListN.{length};
-ghost use Rattle.card.specs.Lines.{
+ghost use Rattle.grammar.specs.Lines.{
   fields,
   find,
   plainCalls,

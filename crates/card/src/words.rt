@@ -1,7 +1,7 @@
 // The words of the card, read: a field is a word where it has the word's bytes and no others.
 ghost use mathlib.Core.Path.{_≡_};
-ghost use Rattle.card.specs.Words.{same, stream, pool, cause, settlement, unit};
-ghost use Rattle.card.specs.Lines.{missing, digit};
+ghost use Rattle.grammar.specs.Words.{same, stream, pool, cause, settlement, unit};
+ghost use Rattle.grammar.specs.Lines.{missing, digit};
 ghost use Rattle.card.specs.Meaning.{streamIs, poolIs, causeIs, settlementIs, unitIs, flagIs};
 use exec::Cause;
 use exec::MaybeCause;

@@ -1,6 +1,6 @@
 use native.Mathlib.Omega.{arith}
-use Rattle.card.specs.Words.{bytes}
-use Rattle.card.specs.Answers.{answerText}
+use Rattle.grammar.specs.Words.{bytes}
+use Rattle.grammar.specs.Answers.{answerText}
 use Rattle.card.specs.Written.{within}
 use borrow.Author.Needs.{needs}
 use Rattle.card.proofs.answers.put_answer.Statement.{statement}

@@ -1,4 +1,4 @@
-use Rattle.card.specs.Words.{bytes}
+use Rattle.grammar.specs.Words.{bytes}
 use Rattle.card.specs.Written.{joined}
 use borrow.Author.Needs.{needs}
 use Rattle.card.proofs.answers.put_flags.Statement.{statement}

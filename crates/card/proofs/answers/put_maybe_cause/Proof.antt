@@ -1,5 +1,5 @@
 use native.Mathlib.Omega.{arith}
-use Rattle.card.specs.Words.{bytes}
+use Rattle.grammar.specs.Words.{bytes}
 use Rattle.card.specs.Written.{within}
 use borrow.Author.Needs.{needs}
 use Rattle.card.proofs.answers.put_maybe_cause.Statement.{statement}

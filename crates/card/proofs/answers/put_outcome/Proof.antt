@@ -1,7 +1,7 @@
 -- `answers::put_outcome` meets its contract: its three parts are 01's eight fields.
 use native.Mathlib.Omega.{arith}
-use Rattle.card.specs.Answers.{flag}
-use Rattle.card.specs.Words.{bytes}
+use Rattle.grammar.specs.Answers.{flag}
+use Rattle.grammar.specs.Words.{bytes}
 use Rattle.card.specs.Written.{joined, joined-four, within}
 use borrow.Author.Needs.{needs}
 use Rattle.card.proofs.answers.put_outcome.Statement.{statement}

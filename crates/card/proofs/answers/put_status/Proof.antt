@@ -5,7 +5,7 @@ use mir.Syntax.{w32}
 use mir.Val.{SFits}
 use mir.ValLaws.{toZ-ofZ}
 use Rattle.text.specs.Decimal.{signedOf}
-use Rattle.card.specs.Words.{bytes}
+use Rattle.grammar.specs.Words.{bytes}
 use Rattle.card.specs.Written.{same-text}
 use borrow.Author.Needs.{needs}
 use Rattle.card.proofs.answers.put_status.Statement.{statement}

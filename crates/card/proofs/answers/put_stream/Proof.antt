@@ -1,4 +1,4 @@
-use Rattle.card.specs.Words.{bytes}
+use Rattle.grammar.specs.Words.{bytes}
 use borrow.Author.Needs.{needs}
 use Rattle.card.proofs.answers.put_stream.Statement.{statement}
 use Rattle.card.proofs.answers.put_stream.Tie as tie

@@ -1,6 +1,6 @@
 use mathlib.Core.List.{[], _∷_}
 use native.Mathlib.Omega.{arith}
-use Rattle.card.specs.Words.{bytes}
+use Rattle.grammar.specs.Words.{bytes}
 use Rattle.card.specs.Written.{joined, joined-two, within}
 use borrow.Author.Needs.{needs}
 use Rattle.card.proofs.answers.with_cause.Statement.{statement}

@@ -2,7 +2,7 @@
 use mathlib.Core.Path.{ap}
 use Prim.Native.Nat.{_-_}
 use native.Mathlib.Omega.{arith}
-use Rattle.card.specs.Answers.{filled}
+use Rattle.grammar.specs.Answers.{filled}
 use Rattle.card.specs.Written.{same-text}
 use Rattle.card.proofs.Lengths.{take-fewer}
 use borrow.Author.Needs.{needs}

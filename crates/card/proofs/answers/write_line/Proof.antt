@@ -1,6 +1,6 @@
 use native.Mathlib.Omega.{arith}
-use Rattle.card.specs.Words.{bytes}
-use Rattle.card.specs.Answers.{lineText}
+use Rattle.grammar.specs.Words.{bytes}
+use Rattle.grammar.specs.Answers.{lineText}
 use Rattle.card.specs.Written.{joined, within}
 use borrow.Author.Needs.{needs}
 use Rattle.card.proofs.answers.write_line.Statement.{statement}

@@ -3,7 +3,7 @@ use Prim.Native.Nat.{_-_}
 use native.Mathlib.Omega.{arith}
 use lib.ListN.{length, take}
 use Rattle.runner.specs.Calls.{nextMessage}
-use Rattle.card.specs.Lines.{zeros}
+use Rattle.grammar.specs.Lines.{zeros}
 use Rattle.card.specs.Making.{cleared, said-made}
 use borrow.Author.Needs.{needs}
 use Rattle.card.proofs.calls.next_message.Statement.{statement}

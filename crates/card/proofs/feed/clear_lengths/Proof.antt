@@ -5,7 +5,7 @@ use Prim.Native.Nat.{_-_, _≤_}
 use native.Mathlib.Omega.{arith}
 use borrow.Author.Needs.{needs}
 use lib.ListN.{length, drop, length-set}
-use Rattle.card.specs.Lines.{zeros}
+use Rattle.grammar.specs.Lines.{zeros}
 use Rattle.card.specs.Zeros.{zeros-start, zeros-turn, zeros-all}
 use Rattle.card.proofs.feed.clear_lengths.Statement.{statement}
 use Rattle.card.proofs.feed.clear_lengths.Tie as tie

@@ -1,5 +1,5 @@
 use mathlib.Core.Path.{_∙_, sym, ap}
-use Rattle.card.specs.Lines.{launchResult}
+use Rattle.grammar.specs.Lines.{launchResult}
 use Rattle.card.specs.Meaning.{flagIs}
 use borrow.Author.Needs.{needs}
 use Rattle.card.proofs.fields.launch_result.Statement.{statement}

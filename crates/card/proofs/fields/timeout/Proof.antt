@@ -1,5 +1,5 @@
 use mathlib.Core.Path.{_∙_, sym, ap}
-use Rattle.card.specs.Lines.{timeout}
+use Rattle.grammar.specs.Lines.{timeout}
 use Rattle.card.specs.Meaning.{numberIs}
 use borrow.Author.Needs.{needs}
 use Rattle.card.proofs.fields.timeout.Statement.{statement}

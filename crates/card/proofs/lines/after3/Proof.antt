@@ -1,7 +1,7 @@
 use mathlib.Core.Path.{refl, sym, ap, _∙_}
 use mathlib.Core.List.{List, _∷_}
 use Prim.Native.Nat.{ℕ}
-use Rattle.card.specs.Lines.{callOf}
+use Rattle.grammar.specs.Lines.{callOf}
 use Rattle.card.specs.FieldLaws.{fields-last, fields-at}
 use borrow.Author.Needs.{needs}
 use Rattle.card.proofs.lines.after3.Statement.{statement}

@@ -1,5 +1,5 @@
 use mathlib.Core.Path.{_∙_, sym, ap}
-use Rattle.card.specs.Lines.{callOf}
+use Rattle.grammar.specs.Lines.{callOf}
 use Rattle.card.specs.Meaning.{verb3Is}
 use borrow.Author.Needs.{needs}
 use Rattle.card.proofs.lines.call3.Statement.{statement}

@@ -1,6 +1,6 @@
 use mathlib.Core.Path.{_∙_, sym}
-use Rattle.card.specs.Lines.{find}
-use Rattle.card.specs.Words.{bytes}
+use Rattle.grammar.specs.Lines.{find}
+use Rattle.grammar.specs.Words.{bytes}
 use borrow.Author.Needs.{needs}
 use Rattle.card.proofs.lines.verb_of_2.Statement.{statement}
 use Rattle.card.proofs.lines.verb_of_2.Tie as tie

@@ -4,7 +4,7 @@ use Prim.Native.Nat.{_-_, _+_, _≤_}
 use native.Mathlib.Omega.{arith}
 use borrow.Author.Needs.{needs}
 use lib.ListN.{length, drop}
-use Rattle.card.specs.Lines.{fields}
+use Rattle.grammar.specs.Lines.{fields}
 use Rattle.card.specs.FieldLaws.{count-turn, count-end}
 use Rattle.card.proofs.opening.count.Statement.{statement}
 use Rattle.card.proofs.opening.count.Tie as tie

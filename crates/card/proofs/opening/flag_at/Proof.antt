@@ -1,5 +1,5 @@
 use mathlib.Core.Path.{ap, _∙_}
-use Rattle.card.specs.Lines.{digit}
+use Rattle.grammar.specs.Lines.{digit}
 use Rattle.card.specs.FieldLaws.{place-part}
 use borrow.Author.Needs.{needs}
 use Rattle.card.proofs.opening.flag_at.Statement.{statement}

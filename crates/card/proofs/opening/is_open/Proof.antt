@@ -1,5 +1,5 @@
-use Rattle.card.specs.Words.{bytes}
-use Rattle.card.specs.Lines.{isOpen}
+use Rattle.grammar.specs.Words.{bytes}
+use Rattle.grammar.specs.Lines.{isOpen}
 use Rattle.card.specs.FieldLaws.{first-part}
 use borrow.Author.Needs.{needs}
 use Rattle.card.proofs.opening.is_open.Statement.{statement}

@@ -1,5 +1,5 @@
 use mathlib.Core.Path.{_∙_, sym, ap}
-use Rattle.card.specs.Lines.{limitsOf}
+use Rattle.grammar.specs.Lines.{limitsOf}
 use Rattle.card.specs.Meaning.{flagIs, narrowIs, windowIs}
 use borrow.Author.Needs.{needs}
 use Rattle.card.proofs.opening.limits.Statement.{statement}

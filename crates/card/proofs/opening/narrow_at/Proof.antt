@@ -1,5 +1,5 @@
 use mathlib.Core.Path.{ap, _∙_}
-use Rattle.card.specs.Lines.{u32}
+use Rattle.grammar.specs.Lines.{u32}
 use Rattle.card.specs.FieldLaws.{place-part}
 use borrow.Author.Needs.{needs}
 use Rattle.card.proofs.opening.narrow_at.Statement.{statement}

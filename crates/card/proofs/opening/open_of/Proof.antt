@@ -1,5 +1,5 @@
 use mathlib.Core.Path.{_∙_, sym}
-use Rattle.card.specs.Lines.{openOf}
+use Rattle.grammar.specs.Lines.{openOf}
 use borrow.Author.Needs.{needs}
 use Rattle.card.proofs.opening.open_of.Statement.{statement}
 use Rattle.card.proofs.opening.open_of.Tie as tie

@@ -1,5 +1,5 @@
 use mathlib.Core.Path.{_∙_, sym, ap}
-use Rattle.card.specs.Lines.{openingOf}
+use Rattle.grammar.specs.Lines.{openingOf}
 use Rattle.card.specs.Meaning.{limitsIs, numberIs, timersIs}
 use borrow.Author.Needs.{needs}
 use Rattle.card.proofs.opening.opening_of.Statement.{statement}

@@ -5,7 +5,7 @@ use native.Mathlib.Nat.{sub-zero}
 use native.Mathlib.Omega.{arith}
 use borrow.Author.Needs.{needs}
 use lib.ListN.{length, drop}
-use Rattle.card.specs.Lines.{at, fields}
+use Rattle.grammar.specs.Lines.{at, fields}
 use Rattle.card.specs.FieldLaws.{Behind, part-behind, place-turn}
 use Rattle.card.proofs.opening.place.Statement.{statement}
 use Rattle.card.proofs.opening.place.Tie as tie

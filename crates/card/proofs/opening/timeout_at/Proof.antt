@@ -1,5 +1,5 @@
 use mathlib.Core.Path.{ap, _∙_}
-use Rattle.card.specs.Lines.{timeout}
+use Rattle.grammar.specs.Lines.{timeout}
 use Rattle.card.specs.FieldLaws.{place-part}
 use borrow.Author.Needs.{needs}
 use Rattle.card.proofs.opening.timeout_at.Statement.{statement}

@@ -1,5 +1,5 @@
 use mathlib.Core.Path.{_∙_, sym, ap}
-use Rattle.card.specs.Lines.{timersOf}
+use Rattle.grammar.specs.Lines.{timersOf}
 use Rattle.card.specs.Meaning.{numberIs, timeoutIs}
 use borrow.Author.Needs.{needs}
 use Rattle.card.proofs.opening.timers.Statement.{statement}

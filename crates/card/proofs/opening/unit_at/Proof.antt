@@ -1,5 +1,5 @@
 use mathlib.Core.Path.{ap, _∙_}
-use Rattle.card.specs.Words.{unit}
+use Rattle.grammar.specs.Words.{unit}
 use Rattle.card.specs.FieldLaws.{place-part}
 use borrow.Author.Needs.{needs}
 use Rattle.card.proofs.opening.unit_at.Statement.{statement}

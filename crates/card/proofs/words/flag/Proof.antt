@@ -1,6 +1,6 @@
 use mathlib.Core.Path.{_∙_, sym}
-use Rattle.card.specs.Lines.{digit}
-use Rattle.card.specs.Words.{bytes}
+use Rattle.grammar.specs.Lines.{digit}
+use Rattle.grammar.specs.Words.{bytes}
 use borrow.Author.Needs.{needs}
 use Rattle.card.proofs.words.flag.Statement.{statement}
 use Rattle.card.proofs.words.flag.Tie as tie

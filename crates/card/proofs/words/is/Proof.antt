@@ -6,7 +6,7 @@ use native.Mathlib.Omega.{arith}
 use borrow.Author.Needs.{needs}
 use borrow.Author.Tests.{eq-eqb, ne-eqb}
 use lib.ListN.{length, drop}
-use Rattle.card.specs.Words.{same}
+use Rattle.grammar.specs.Words.{same}
 use Rattle.card.specs.WordLaws.{same-length, same-turn, same-end}
 use Rattle.card.proofs.words.is.Statement.{statement}
 use Rattle.card.proofs.words.is.Tie as tie

@@ -1,5 +1,5 @@
 use mathlib.Core.Path.{_∙_, sym}
-use Rattle.card.specs.Words.{named, bytes}
+use Rattle.grammar.specs.Words.{named, bytes}
 use borrow.Author.Needs.{needs}
 use Rattle.card.proofs.words.settlement.Statement.{statement}
 use Rattle.card.proofs.words.settlement.Tie as tie

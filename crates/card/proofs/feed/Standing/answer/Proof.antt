@@ -1,4 +1,4 @@
-use Rattle.card.specs.Feed.{answerOf}
+use Rattle.grammar.specs.Feed.{answerOf}
 use borrow.Author.Tests.{le-leb, lt-leb}
 use borrow.Author.Needs.{needs}
 use Rattle.card.proofs.feed.Standing.answer.Statement.{statement}

@@ -1,5 +1,5 @@
 use Rattle.card.proofs.Standings.{bad-made}
-use Rattle.card.specs.Feed.{answered}
+use Rattle.grammar.specs.Feed.{answered}
 use borrow.Author.Needs.{needs}
 use Rattle.card.proofs.feed.Standing.answered.Statement.{statement}
 use Rattle.card.proofs.feed.Standing.answered.Tie as tie

@@ -1,4 +1,4 @@
-use Rattle.card.specs.Feed.{isBack, later}
+use Rattle.grammar.specs.Feed.{isBack, later}
 use Prim.Native.Nat.{ℕ}
 use mathlib.Core.Option.{Option}
 use mathlib.Core.Path.{refl, sym, ap, _∙_}

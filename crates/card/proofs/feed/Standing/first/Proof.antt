@@ -1,6 +1,6 @@
 use Rattle.card.proofs.Standings.{bad-made}
 use Rattle.card.specs.Meaning.{openingIs}
-use Rattle.card.specs.Feed.{first}
+use Rattle.grammar.specs.Feed.{first}
 use mathlib.Core.Path.{sym, ap, _∙_}
 use borrow.Author.Needs.{needs}
 use Rattle.card.proofs.feed.Standing.first.Statement.{statement}

@@ -1,6 +1,6 @@
 use Rattle.card.proofs.Standings.{bad-made}
 use Rattle.card.specs.Meaning.{lineIs}
-use Rattle.card.specs.Feed.{later}
+use Rattle.grammar.specs.Feed.{later}
 use Rattle.card.specs.declared.lines.Line.{Line}
 use mathlib.Core.Path.{sym, ap, _∙_}
 use borrow.Author.Needs.{needs}

@@ -1,7 +1,7 @@
 use lib.ListN.{length}
 use Rattle.card.proofs.Standings.{opened-first}
 use Rattle.card.specs.Zeros.{zeros-length, zeros-all}
-use Rattle.card.specs.Lines.{zeros}
+use Rattle.grammar.specs.Lines.{zeros}
 use mathlib.Core.Path.{_≡_, sym, ap, _∙_}
 use borrow.Author.Needs.{needs}
 use Rattle.card.proofs.feed.Standing.open.Statement.{statement}

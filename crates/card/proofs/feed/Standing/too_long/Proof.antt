@@ -1,5 +1,5 @@
 use Rattle.card.proofs.Standings.{bad-made}
-use Rattle.card.specs.Feed.{tooLong}
+use Rattle.grammar.specs.Feed.{tooLong}
 use borrow.Author.Needs.{needs}
 use Rattle.card.proofs.feed.Standing.too_long.Statement.{statement}
 use Rattle.card.proofs.feed.Standing.too_long.Tie as tie

@@ -10,8 +10,8 @@ use lib.ListN.{length}
 use Rattle.account.specs.Call as Call
 use Rattle.account.specs.Call.{Call}
 use Rattle.account.specs.Step.{State, next, answer, after}
-use Rattle.card.specs.Lines.{lineCall}
-use Rattle.card.specs.Feed.{Stage, First, Running, Over, Session, Step, Answered, isBack, isRefused, timeOf, remembered, later, answered, tooLong, answerOf, lineEnds, hold, eat, feeds}
+use Rattle.grammar.specs.Lines.{lineCall}
+use Rattle.grammar.specs.Feed.{Stage, First, Running, Over, Session, Step, Answered, isBack, isRefused, timeOf, remembered, later, answered, tooLong, answerOf, lineEnds, hold, eat, feeds}
 
 -- ---- the calls
 

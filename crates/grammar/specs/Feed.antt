@@ -12,8 +12,8 @@ use Rattle.runner.specs.Calls as Calls
 use Rattle.account.specs.Call as Call
 use Rattle.account.specs.Call.{Call, Answer}
 use Rattle.account.specs.Step.{State, replied, next, answer, opened}
-use Rattle.card.specs.Lines.{Opening, lineCall, lineOpen, zeros}
-use Rattle.card.specs.Answers.{lineText}
+use Rattle.grammar.specs.Lines.{Opening, lineCall, lineOpen, zeros}
+use Rattle.grammar.specs.Answers.{lineText}
 
 -- where a session stands: before its first line; with a runner, and the last time that is remembered; or without one, where
 -- every line is 30

@@ -17,7 +17,7 @@ use Rattle.text.specs.Decimal.{digitsOf, signedOf}
 use Rattle.text.specs.Hexadecimal.{hexOf}
 use Rattle.account.specs.Call as Call
 use Rattle.account.specs.Call.{Answer, Message, Request}
-use Rattle.card.specs.Words.{bytes, streamName, causeName}
+use Rattle.grammar.specs.Words.{bytes, streamName, causeName}
 
 -- ---- fields
 

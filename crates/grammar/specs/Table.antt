@@ -5,6 +5,7 @@ use mathlib.Core.List.{List, [], _∷_}
 use mathlib.Core.Option.{Option, none, some}
 use Prim.Native.Nat.{ℕ}
 use Prim.Native.String.{String}
+use lib.ListN.{length}
 use lib.IntN.{pos, negsuc}
 use Rattle.exec.specs.declared.Cause.the-variants as Cause
 use Rattle.exec.specs.declared.LaunchResult.the-variants as LaunchResult
@@ -21,11 +22,11 @@ use Rattle.text.specs.Decimal.{number, numberFrom, areDigits, valueFrom, signed
 use Rattle.text.specs.Hexadecimal.{unhex, arePairs, areHex, pairs, hexValue, hexOf, hexDigit}
 use Rattle.account.specs.Call as Call
 use Rattle.account.specs.Call.{Call, Answer}
-use Rattle.card.specs.Words.{bytes, same, named}
-use Rattle.card.specs.Lines.{fields, digit, status, timeout, launchResult, find, callOf, openOf, isOpen, openingOf, limitsOf, timersOf, lineCall, lineOpen, zeros}
+use Rattle.grammar.specs.Words.{bytes, same, named}
+use Rattle.grammar.specs.Lines.{fields, digit, status, timeout, launchResult, find, callOf, openOf, isOpen, openingOf, limitsOf, timersOf, lineCall, lineOpen, zeros}
 use Rattle.account.specs.Step.{State}
-use Rattle.card.specs.Answers.{answerText, lineText}
-use Rattle.card.specs.Feed.{First, Running, Over, bad, first, later, answered}
+use Rattle.grammar.specs.Answers.{answerText, lineText}
+use Rattle.grammar.specs.Feed.{First, Running, Over, bad, remembered, first, later, answered, tooLong, answerOf}
 
 calls : String → Option Call
 unfolding bytes fields same callOf find named number numberFrom areDigits valueFrom signed unhex arePairs areHex pairs hexValue digit status launchResult
@@ -102,3 +103,12 @@ session-lines : (s : State)
     × (answered Over (bytes "tick,9") ≡ bad Over)
 unfolding calls openOf isOpen answered first later
 session-lines s = (refl, refl, refl, refl, refl)
+
+-- a line of 65,536 bytes is refused whole, whatever it says
+long-line : (s : State) (last : ℕ) (line : List ℕ) → length line ≡ 65536 → answerOf (Running s last) line ≡ bad (Running s last)
+unfolding answerOf tooLong
+long-line s last line e = rw e refl
+
+-- a refused line's NOW is not remembered, another's is
+times : (now last : ℕ) → (remembered true (some now) last ≡ last) × (remembered false (some now) last ≡ now)
+times now last = (refl, refl)

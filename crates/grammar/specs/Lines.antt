@@ -20,7 +20,7 @@ use Rattle.text.specs.Decimal.{number, signed}
 use Rattle.text.specs.Hexadecimal.{unhex}
 use Rattle.account.specs.Call as Call
 use Rattle.account.specs.Call.{Conf, Call}
-use Rattle.card.specs.Words.{bytes, same, stream, pool, cause, settlement, unit}
+use Rattle.grammar.specs.Words.{bytes, same, stream, pool, cause, settlement, unit}
 
 -- all the fields of a line have to be good
 abbrev pub on : {A B : Type 0} → Option A → (A → Option B) → Option B
