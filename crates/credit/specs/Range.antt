@@ -30,6 +30,12 @@ inboxFits l g b =
     (ringFits (b .start) (inputBytes l) && leb (b .length) (inputBytes l))
     && (unitsFit g (inboxHeld (l .input .unit) b) (l .input .size) && framesFit (l .input .unit) (l .input .size) (l .chunk) b)
 
+-- the same, of a chunk and a size that are not 0: a start is below its ring's size, and what waits is within the ring by its units
+abbrev pub inboxWithin : Units.Unit → (size chunk : ℕ) → Granted → Inbox → Bool
+inboxWithin Bytes size chunk g b = ltb (b .start) size && (unitsFit g (b .length) size && (eqb (b .first) 0 && eqb (b .frames) 0))
+inboxWithin Frames size chunk g b =
+    ltb (b .start) (size * chunk) && (unitsFit g (b .frames) size && (ltb (b .first) size && leb (b .length) (b .frames * chunk)))
+
 -- ---- what the calls on an inbox ask
 
 -- in Frames there is a place for a length more

@@ -2,13 +2,13 @@
 use Prim.Native.Nat.{ℕ, _+_, _*_, _^_, _≤_, _<_, min}
 use native.Mathlib.Omega.{arith}
 use native.Mathlib.Decide.{decLt}
-use native.Mathlib.Nat.{mul-le-mul}
-use mathlib.Core.Path.{_≡_, refl}
-use mathlib.Core.Bool.{Bool, true, false, _&&_}
+use native.Mathlib.Nat.{mul-le-mul, mul-pos}
+use mathlib.Core.Path.{_≡_, refl, sym}
+use mathlib.Core.Bool.{Bool, true, false, _&&_, _||_}
 use mathlib.Core.List.{List}
-use lib.Dec.{leb, eqb}
+use lib.Dec.{leb, ltb, eqb}
 use lib.ListN.{length}
-use borrow.Author.Tests.{leb-true, eqb-true, le-ltb}
+use borrow.Author.Tests.{leb-true, eqb-true, le-ltb, ne-eqb, le-leb}
 use Rattle.exec.specs.declared.Limits.{Limits}
 use Rattle.exec.specs.declared.Unit as Units
 use Rattle.exec.specs.declared.Unit.the-variants.{Bytes, Frames}
@@ -19,7 +19,7 @@ use Rattle.credit.specs.declared.receiver.Granted.{Granted}
 use Rattle.credit.specs.Inbox.{inboxHeld, freedBy, popFreed}
 use Rattle.credit.specs.Receiver.{unitsFit}
 use Rattle.credit.specs.Need.{byteNeed, lengthNeed, need-fits}
-use Rattle.credit.specs.Range.{ringFits, framesFit, inboxFits, Waiting, Pushable, Poppable}
+use Rattle.credit.specs.Range.{ringFits, framesFit, inboxFits, inboxWithin, Waiting, Pushable, Poppable}
 
 pub both : (a b : Bool) → (a && b) ≡ true → (a ≡ true) × (b ≡ true)
 both true b h = (refl, h)
@@ -44,6 +44,14 @@ ring-below start size h some =
           let z : (eqb size 0 && eqb start 0) ≡ true = rw (le-ltb start size (omega arith)) at h in
           absurd (omega (arith, eqb-true size 0 (both (eqb size 0) (eqb start 0) z .0)))
     ]
+
+-- where the size is not 0
+pub ring-valid : (start size : ℕ) → 0 < size → ringFits start size ≡ ltb start size
+ring-valid start size some = rw (ne-eqb size 0 (omega arith)) (or-false (ltb start size))
+  where
+    or-false : (a : Bool) → (a || false) ≡ a
+    or-false true = refl
+    or-false false = refl
 
 -- in Frames, the lengths and the bytes of the frames
 pub record FramesIn (u : Units.Unit) (size chunk : ℕ) (b : Inbox) : Type 0 where
@@ -80,6 +88,38 @@ in-range l g b h =
       units = leb-true (g .open + g .returnable + inboxHeld (l .input .unit) b) (l .input .size) (r .0);
       frames = frames-in (l .input .unit) (l .input .size) (l .chunk) b (r .1);
     }
+
+-- ---- the quicker test
+
+-- x need not be asked where u and f imply it
+implied : (a x u f : Bool) → (u ≡ true → f ≡ true → x ≡ true) → ((a && x) && (u && f)) ≡ (a && (u && f))
+implied true true u f h = refl
+implied false x u f h = refl
+implied true false true true h = h refl refl
+implied true false true false h = refl
+implied true false false f h = refl
+
+within-as : (u : Units.Unit) (size chunk : ℕ) (g : Granted) (b : Inbox) → 0 < size → 0 < chunk
+    → inboxWithin u size chunk g b
+    ≡ ((ringFits (b .start) (bytesWith u size chunk) && leb (b .length) (bytesWith u size chunk))
+    && (unitsFit g (inboxHeld u b) size && framesFit u size chunk b))
+unfolding bytesWith
+within-as Bytes size chunk g b hs hc =
+    let most = leb-true (g .open + g .returnable + b .length) size in
+    rw (ring-valid (b .start) size hs)
+    (sym (implied (ltb (b .start) size) (leb (b .length) size) (unitsFit g (b .length) size) (eqb (b .first) 0 && eqb (b .frames) 0) (λ u f. le-leb (b .length) size (omega (arith, most u)))))
+within-as Frames size chunk g b hs hc =
+    let units = leb-true (g .open + g .returnable + b .frames) size in
+    rw (ring-valid (b .start) (size * chunk) (mul-pos hs hc), ring-valid (b .first) size hs)
+    (sym (implied (ltb (b .start) (size * chunk)) (leb (b .length) (size * chunk)) (unitsFit g (b .frames) size) (ltb (b .first) size && leb (b .length) (b .frames * chunk))
+    (λ u f.
+    let held = leb-true (b .length) (b .frames * chunk) (both (ltb (b .first) size) (leb (b .length) (b .frames * chunk)) f .1) in
+    let all : b .frames * chunk ≤ size * chunk = mul-le-mul (omega (arith, units u)) (omega arith) in
+    le-leb (b .length) (size * chunk) (omega (arith, held, all)))))
+
+pub within-fits : (l : Limits) (g : Granted) (b : Inbox) → 0 < l .input .size → 0 < l .chunk
+    → inboxWithin (l .input .unit) (l .input .size) (l .chunk) g b ≡ inboxFits l g b
+within-fits l g b hs hc = within-as (l .input .unit) (l .input .size) (l .chunk) g b hs hc
 
 -- ---- what follows, for limits of 32 bits and stores that do
 

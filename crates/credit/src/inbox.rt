@@ -15,7 +15,7 @@ ghost use Rattle.credit.specs.Inbox.{
   pop,
   popUnits,
 };
-ghost use Rattle.credit.specs.Range.{ringFits, framesFit, inboxFits, Pushable, FrameRoom, Waiting, Poppable, Slots};
+ghost use Rattle.credit.specs.Range.{ringFits, framesFit, inboxFits, inboxWithin, Pushable, FrameRoom, Waiting, Poppable, Slots};
 use crate::receiver::Granted;
 use exec::Limits;
 use exec::Unit;
@@ -172,6 +172,29 @@ impl Inbox {
                 let slots = size as usize;
                 let most = (self.frames as usize) * (chunk as usize);
                 ring_fits(first, slots) & (self.length <= most)
+            }
+        }
+    }
+
+    // As `fits`, for limits that are valid, and quicker: each call asks it.
+    pub fn within(self, limits: Limits, granted: Granted) -> bool
+        ensures { λ r. ⌜ r ≡ inboxWithin (limits .input .unit) (limits .input .size) (limits .chunk) granted self ⌝ }
+    {
+        let window = limits.input;
+        let unit = window.unit;
+        let size = window.size as usize;
+        match unit {
+            Unit::Bytes => {
+                let units = granted.fits(self.length, window.size);
+                (self.start < size) & (units & ((self.first == 0) & (self.frames == 0)))
+            }
+            Unit::Frames => {
+                let chunk = limits.chunk as usize;
+                let frames = self.frames as usize;
+                let most = frames * chunk;
+                let units = granted.fits(frames, window.size);
+                (self.start < size * chunk)
+                    & (units & ((self.first < window.size) & (self.length <= most)))
             }
         }
     }

@@ -36,8 +36,8 @@ use Rattle.runner.specs.declared.answer.Hearing.{Hearing}
 use Rattle.runner.specs.declared.answer.Taken.the-variants as Taken
 use Rattle.runner.specs.declared.runner.Runner.{Runner}
 use Rattle.runner.specs.RangeLaws.{InRange}
-use Rattle.runner.specs.State.{withInput, withOutputs, withFlow, outOf, putOutput, base, creditAt, putCredit, buffered, noteBuffered}
-use Rattle.runner.specs.Streams.{keepsNone, isShut, room, outputFilled, outputNext, outputTaken, outputBytes, outputAfter, outputTook, creditIn, creditNext, receiptOf, isApplied, heard, inputAnswer, inputNext, inputBytes, inputLengths, inputAfter, received, writtenNext, writtenLengths, wroteAfter, wrote}
+use Rattle.runner.specs.State.{withInput, withOutputs, withFlow, outOf, putOutput, base, creditAt, putCredit, buffered}
+use Rattle.runner.specs.Streams.{keepsNone, isShut, room, outputFilled, outputNext, outputTaken, outputBytes, outputAfter, outputTook, creditIn, creditNext, receiptOf, isApplied, inputAnswer, inputNext, inputBytes, inputLengths, inputAfter, received, writtenNext, writtenLengths, wroteAfter, wrote}
 
 -- ---- output
 
@@ -107,26 +107,28 @@ applied-by false = refl
 applied-kept : (l : Limits) (i : Input) (n : ℕ) → isApplied (In.receiveAnswer l i n) ≡ In.isKept l i n
 applied-kept l i n = In.asked-of isApplied (λ x. refl) l i n (not (i .closed)) (applied-by (i .closed))
 
--- the high water, where it is noted and where not
-noted-by : (b : Bool) (r : Runner) → cond b (noteBuffered r) r ≡ withFlow (r .credits) (r .turn) (r .flags) (cond b (noteBuffered r .«high_water») (r .«high_water»)) r
-noted-by true r = refl
-noted-by false r = refl
+-- the high water is noted where it was kept
+noted-by : (kept : Bool) (high held : ℕ) → cond (not kept) high held ≡ cond kept held high
+noted-by true high held = refl
+noted-by false high held = refl
 
-pub received-own : (r : Runner) (bytes store lengths : List ℕ) (v : Receiving) (h : Hearing) (store′ lengths′ : List ℕ) → r .flags .finished ≡ false
+pub received-own : (r : Runner) (bytes store lengths : List ℕ) (v : Receiving) (dropped : Bool) (mark : ℕ) (store′ lengths′ : List ℕ) → r .flags .finished ≡ false
     → In.receiveAfter v store′ lengths′ ≡ In.receive (r .limits) (r .input) bytes store lengths
-    → h ≡ heard (v .received) (withInput (v .input) r)
-    → inputAfter h store′ lengths′ ≡ received Admission.Own r bytes store lengths
-unfolding received inputNext inputAnswer inputBytes inputLengths heard
-received-own r bytes store lengths v h store′ lengths′ f e hh =
+    → dropped ≡ not (isApplied (v .received)) → mark ≡ cond dropped (r .«high_water») (max (r .«high_water») (buffered (withInput (v .input) r)))
+    → inputAfter (record { runner = withFlow (r .credits) (r .turn) (r .flags) mark (withInput (v .input) r); received = v .received }) store′ lengths′
+    ≡ received Admission.Own r bytes store lengths
+unfolding received inputNext inputAnswer inputBytes inputLengths
+received-own r bytes store lengths v dropped mark store′ lengths′ f e hd hm =
     let n = length bytes in
     rw (
-      hh,
+      hm,
+      hd,
       ap (λ (a : In.ReceiveAfter). a .receiving .received) e,
       ap (λ (a : In.ReceiveAfter). a .receiving .input) e,
       ap (λ (a : In.ReceiveAfter). a .bytes) e,
       ap (λ (a : In.ReceiveAfter). a .lengths) e,
       applied-kept (r .limits) (r .input) n,
-      noted-by (In.isKept (r .limits) (r .input) n) (withInput (In.receiveInput (r .limits) (r .input) n) r),
+      noted-by (In.isKept (r .limits) (r .input) n) (r .«high_water») (max (r .«high_water») (buffered (withInput (In.receiveInput (r .limits) (r .input) n) r))),
       f,
     )
 
@@ -149,7 +151,7 @@ unfolding In.receiveInput
 length-of l i n true e = rw e
 length-of l i n false e = rw e
 
-pub received-fits : (r : Runner) (bytes store lengths : List ℕ) (v : Receiving) (store′ lengths′ : List ℕ) → InRange r
+received-fits : (r : Runner) (bytes store lengths : List ℕ) (v : Receiving) (store′ lengths′ : List ℕ) → InRange r
     → In.receiveAfter v store′ lengths′ ≡ In.receive (r .limits) (r .input) bytes store lengths
     → buffered (withInput (v .input) r) ≤ byteNeed (r .limits)
 received-fits r bytes store lengths v store′ lengths′ h e =
@@ -159,6 +161,12 @@ received-fits r bytes store lengths v store′ lengths′ h e =
     let m : v .input .inbox .length ≡ cond b (r .input .inbox .length + n) (r .input .inbox .length) =
     ap (λ (a : In.ReceiveAfter). a .receiving .input .inbox .length) e ∙ length-of (r .limits) (r .input) n b refl in
     omega (arith, h .stdout .most, h .stderr .most, k, m)
+
+pub received-small : (r : Runner) (bytes store lengths : List ℕ) (v : Receiving) (store′ lengths′ : List ℕ) → InRange r
+    → In.receiveAfter v store′ lengths′ ≡ In.receive (r .limits) (r .input) bytes store lengths
+    → byteNeed (r .limits) ≤ 2 ^ 64 - 1 → buffered (withInput (v .input) r) < 2 ^ 64
+received-small r bytes store lengths v store′ lengths′ h e need =
+    omega (arith, received-fits r bytes store lengths v store′ lengths′ h e)
 
 pub wrote-is : (r : Runner) (count : ℕ) (lengths : List ℕ) (i : Input) (lengths′ : List ℕ)
     → In.writtenAfter i lengths′ ≡ In.written (r .limits) (r .input) count lengths → wroteAfter (withInput i r) lengths′ ≡ wrote r count lengths

@@ -6,8 +6,10 @@ use mathlib.Core.List.{List, []}
 use lib.ListN.{length}
 use borrow.Author.Tests.{leb-true}
 use Rattle.exec.specs.declared.Admission.{Admission}
+use Rattle.exec.specs.declared.Admission.the-variants as Admission
 use Rattle.exec.specs.declared.Key.{Key}
 use Rattle.exec.specs.declared.Limits.{Limits}
+use Rattle.exec.specs.declared.Receipt.the-variants as Receipt
 use Rattle.exec.specs.declared.Received.the-variants as Received
 use Rattle.exec.specs.declared.Refusal.{Refusal}
 use Rattle.exec.specs.declared.Reply.the-variants as Reply
@@ -22,16 +24,19 @@ use Rattle.credit.specs.RangeLaws.{both}
 use Rattle.stdio.specs.Input as In
 use Rattle.runner.specs.declared.answer.Hearing.{Hearing}
 use Rattle.runner.specs.declared.answer.Noting.{Noting}
+use Rattle.runner.specs.declared.answer.Said.{Said}
 use Rattle.runner.specs.declared.answer.Said.the-variants as Said
-use Rattle.runner.specs.declared.answer.Saying.{Saying}
 use Rattle.runner.specs.declared.answer.Taken.the-variants as Taken
 use Rattle.runner.specs.declared.answer.Taking.{Taking}
 use Rattle.runner.specs.declared.message.Choice.{Choice}
+use Rattle.runner.specs.declared.message.Moved.{Moved}
 use Rattle.runner.specs.declared.runner.Runner.{Runner}
 use Rattle.runner.specs.Calls.{«open», noting, storesDo, input, output, pendingAfter, pendingInput, writtenAfter, inputWritten, nextMessage}
-use Rattle.runner.specs.Message.{choose, messageAfter, saidAfter}
+use Rattle.runner.specs.Message.{choose, messageAfter, saidFor, MovedAfter, movedAfter, moves}
 use Rattle.runner.specs.Range.{bytesDo, lengthsDo, isGood, stop, opens, openStop, fresh}
 use Rattle.runner.specs.RangeLaws.{InRange, is-good}
+use Rattle.runner.proofs.Flows.{received-other, received-stale}
+use Rattle.runner.proofs.Says.{withMoved, put-back}
 use Rattle.runner.specs.Streams.{outputAfter, outputTook, inputAfter, received, pendingOf, wroteAfter, WroteAfter, wrote}
 
 -- what the code tested, as the definition tests it
@@ -90,11 +95,25 @@ module _ (r : Runner) where
 
   -- input
   module _ (k : Key) (bytes store lengths : List ℕ) where
-    pub input-goes : (h : Hearing) (store′ lengths′ : List ℕ) (a : Admission) → isGood r (storesDo r store lengths) ≡ true
-        → a ≡ admits (r .key) k → inputAfter h store′ lengths′ ≡ received a r bytes store lengths
+    input-goes : (h : Hearing) (store′ lengths′ : List ℕ) (a : Admission) → isGood r (storesDo r store lengths) ≡ true
+        → admits (r .key) k ≡ a → inputAfter h store′ lengths′ ≡ received a r bytes store lengths
         → inputAfter h store′ lengths′ ≡ input r k bytes store lengths
     unfolding input received
-    input-goes h store′ lengths′ a g ha e = rw g (rw ha at e)
+    input-goes h store′ lengths′ a g ha e = rw (g, ha) e
+
+    module _ (g : isGood r (storesDo r store lengths) ≡ true) where
+      pub input-other : (x : Refusal) → admits (r .key) k ≡ Admission.Refused x
+          → inputAfter (record { runner = r; received = Received.Refused x }) store lengths ≡ input r k bytes store lengths
+      input-other x ha = input-goes _ _ _ _ g ha (received-other r bytes store lengths x)
+
+      pub input-stale : admits (r .key) k ≡ Admission.Stale
+          → inputAfter (record { runner = r; received = Received.Receipt Receipt.Stale }) store lengths ≡ input r k bytes store lengths
+      input-stale ha = input-goes _ _ _ _ g ha (received-stale r bytes store lengths)
+
+    pub input-own : (h : Hearing) (store′ lengths′ : List ℕ) → isGood r (storesDo r store lengths) ≡ true
+        → admits (r .key) k ≡ Admission.Own → inputAfter h store′ lengths′ ≡ received Admission.Own r bytes store lengths
+        → inputAfter h store′ lengths′ ≡ input r k bytes store lengths
+    input-own h store′ lengths′ g ha e = input-goes h store′ lengths′ Admission.Own g ha e
 
     pub input-stops : (h : Hearing) → isGood r (storesDo r store lengths) ≡ false → h ≡ record { runner = r; received = Received.Refused (stop r) }
         → inputAfter h store lengths ≡ input r k bytes store lengths
@@ -125,10 +144,12 @@ module _ (r : Runner) where
 
   -- next_message
   module _ (store buffer : List ℕ) where
-    pub message-goes : (s : Saying) (buffer′ : List ℕ) (c : Choice) → isGood r (bytesDo (r .limits) store) ≡ true → c ≡ choose r (length buffer)
-        → messageAfter s buffer′ ≡ saidAfter c r store buffer → messageAfter s buffer′ ≡ nextMessage r store buffer
-    unfolding nextMessage saidAfter
-    message-goes s buffer′ c g hc e = rw g (rw hc at e)
+    pub message-goes : (m : Moved) (s : Said) (buffer′ : List ℕ) (c : Choice) → isGood r (bytesDo (r .limits) store) ≡ true → c ≡ choose r (length buffer)
+        → s ≡ saidFor c r → movedAfter m buffer′ ≡ moves c r store buffer
+        → messageAfter (record { runner = withMoved m r; said = s }) buffer′ ≡ nextMessage r store buffer
+    unfolding nextMessage moves
+    message-goes m s buffer′ c g hc hs e =
+        rw (g, hs, ap (λ (a : MovedAfter). a .moved) e, ap (λ (a : MovedAfter). a .buffer) e, put-back c r, hc)
 
     pub message-stops : (z : Refusal) → isGood r (bytesDo (r .limits) store) ≡ false → z ≡ stop r
         → messageAfter (record { runner = r; said = Said.Refused z }) buffer ≡ nextMessage r store buffer

@@ -2,7 +2,7 @@
 -- calls' own places.
 pub mod Branch
 pub mod Quiet
+pub mod Says
+pub mod Flows
 pub mod Guards
 pub mod Cancels
-pub mod Flows
-pub mod Says

@@ -14,6 +14,7 @@ use Rattle.ring.specs.Ring.{ringRead}
 use Rattle.credit.specs.Sender.{sendable, spent}
 use Rattle.lifecycle.specs.declared.flags.Flags.{Flags}
 use Rattle.lifecycle.specs.Life.{terminateTaken}
+use Rattle.stdio.specs.declared.output.Output.{Output}
 use Rattle.stdio.specs.Input.{canGrant, grantedIn, messageTold, closeAsked}
 use Rattle.stdio.specs.Output.{isDone, endedOut, askedOut, sentOut}
 use Rattle.runner.specs.declared.answer.Message.the-variants as Message
@@ -24,6 +25,7 @@ use Rattle.runner.specs.declared.answer.Said.the-variants as Said
 use Rattle.runner.specs.declared.answer.Saying.{Saying}
 use Rattle.runner.specs.declared.message.Choice.{Choice}
 use Rattle.runner.specs.declared.message.Choice.the-variants as Choice
+use Rattle.runner.specs.declared.message.Moved.{Moved}
 use Rattle.runner.specs.declared.message.Wish.{Wish}
 use Rattle.runner.specs.declared.message.Wish.the-variants as Wish
 use Rattle.runner.specs.declared.runner.Runner.{Runner}
@@ -102,17 +104,17 @@ effect Choice.Terminal r = withFlags (messageFlags (r .flags .«started_message�
 unfoldable pub payload : Runner → Stream → ℕ → List ℕ → List ℕ
 payload r x n store = ringRead (base x (r .limits .chunk)) (r .limits .chunk) (outOf x r .start) n store
 
--- what sending the bytes leaves: the state, and the buffer
+-- what sending the bytes leaves: the outputs, and the buffer
 pub record SentAfter : Type 0 where
-  pub runner : Runner
+  pub outputs : List Output
   pub buffer : List ℕ
 
-abbrev pub sentAfter : Runner → List ℕ → SentAfter
-sentAfter r buffer = record { runner = r; buffer = buffer }
+abbrev pub sentAfter : List Output → List ℕ → SentAfter
+sentAfter os buffer = record { outputs = os; buffer = buffer }
 
 unfoldable pub sentOutput : Stream → ℕ → Runner → (store buffer : List ℕ) → SentAfter
 sentOutput x n r store buffer =
-    sentAfter (at x (sentOut (r .limits .chunk) n) r) (payload r x n store ++ drop n buffer)
+    sentAfter (at x (sentOut (r .limits .chunk) n) r .outputs) (payload r x n store ++ drop n buffer)
 
 unfoldable pub bufferAfter : Choice → Runner → (store buffer : List ℕ) → List ℕ
 bufferAfter Choice.None r store buffer = buffer
@@ -122,6 +124,20 @@ bufferAfter Choice.InputClosed r store buffer = buffer
 bufferAfter (Choice.End x) r store buffer = buffer
 bufferAfter (Choice.Output x n) r store buffer = payload r x n store ++ drop n buffer
 bufferAfter Choice.Terminal r store buffer = buffer
+
+-- what a message moves: parts of the state, and the buffer
+abbrev pub partsOf : Runner → Moved
+partsOf r = record { flags = r .flags; input = r .input; outputs = r .outputs; credits = r .credits; turn = r .turn }
+
+pub record MovedAfter : Type 0 where
+  pub moved : Moved
+  pub buffer : List ℕ
+
+abbrev pub movedAfter : Moved → List ℕ → MovedAfter
+movedAfter m buffer = record { moved = m; buffer = buffer }
+
+unfoldable pub moves : Choice → Runner → (store buffer : List ℕ) → MovedAfter
+moves c r store buffer = movedAfter (partsOf (effect c r)) (bufferAfter c r store buffer)
 
 -- what is said
 unfoldable pub saidFor : Choice → Runner → Said
@@ -140,10 +156,6 @@ pub record MessageAfter : Type 0 where
 
 abbrev pub messageAfter : Saying → List ℕ → MessageAfter
 messageAfter s buffer = record { saying = s; buffer = buffer }
-
-unfoldable pub saidAfter : Choice → Runner → (store buffer : List ℕ) → MessageAfter
-saidAfter c r store buffer =
-    messageAfter (record { runner = effect c r; said = saidFor c r }) (bufferAfter c r store buffer)
 
 -- ---- requests: ending first, then discarding, closing the input, settling
 

@@ -22,7 +22,7 @@ use Rattle.runner.specs.declared.runner.Runner.{Runner}
 use Rattle.runner.specs.Choose.{ifElse}
 use Rattle.stdio.specs.Input.{canGrant}
 use Rattle.runner.specs.Life.{awaitsLaunch, isReady}
-use Rattle.runner.specs.Message.{sendableOf, untold, order, choose, outputPaid}
+use Rattle.runner.specs.Message.{sendableOf, untold, order, choose}
 use Rattle.runner.specs.RangeLaws.{Queued, InRange, queue-of}
 use Rattle.runner.specs.State.{outOf, other, base, creditAt}
 
@@ -135,8 +135,3 @@ module _ (r : Runner) (x : Stream) (n : ℕ) (store buffer : List ℕ) (h : InRa
         queued = omega (arith, c .bytes, l);
         fits = omega (arith, c .bytes, l);
       }
-
--- paying for the bytes moves none of them
-pub still-sendable : (r : Runner) (x : Stream) (n : ℕ) (store buffer : List ℕ) → Sendable r x n store buffer → Sendable (outputPaid x n r) x n store buffer
-unfolding outputPaid
-still-sendable r x n store buffer h = record { area = h .area; queue = h .queue; queued = h .queued; fits = h .fits }

@@ -14,14 +14,14 @@ use Rattle.exec.specs.declared.Timers.{Timers}
 use Rattle.exec.specs.Limits.{isValid, bytesWindow}
 use Rattle.exec.specs.Time.{timeoutAt}
 use Rattle.credit.specs.Need.{byteNeed, lengthNeed}
-use Rattle.credit.specs.Range.{inboxFits}
+use Rattle.credit.specs.Range.{inboxFits, inboxWithin}
 use Rattle.credit.specs.Sender.{newCredit, creditFits}
 use Rattle.lifecycle.specs.declared.life.Exit.the-variants as Exit
 use Rattle.lifecycle.specs.declared.life.Launch.the-variants as Launch
 use Rattle.lifecycle.specs.declared.life.Settling.the-variants as Settling
 use Rattle.stdio.specs.Input.{newInput}
 use Rattle.stdio.specs.Output.{newOutput}
-use Rattle.stdio.specs.Outputs.{outputsFit}
+use Rattle.stdio.specs.Outputs.{outputsFit, outputsWithin}
 use Rattle.runner.specs.declared.runner.Runner.{Runner}
 use Rattle.runner.specs.State.{flagsOf, credit0, credit1}
 
@@ -30,6 +30,13 @@ unfoldable pub inRange : Runner → Bool
 inRange r =
     ((outputsFit (r .limits .chunk) (r .outputs) && (creditFits (credit0 (r .credits)) && creditFits (credit1 (r .credits))))
     && inboxFits (r .limits) (r .input .window) (r .input .inbox))
+    && leb (r .turn) 1
+
+-- the same, of limits that are valid
+unfoldable pub within : Runner → Bool
+within r =
+    ((outputsWithin (r .limits .chunk) (r .outputs) && (creditFits (credit0 (r .credits)) && creditFits (credit1 (r .credits))))
+    && inboxWithin (r .limits .input .unit) (r .limits .input .size) (r .limits .chunk) (r .input .window) (r .input .inbox))
     && leb (r .turn) 1
 
 -- a lent store is not below its need

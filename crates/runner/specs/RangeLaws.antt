@@ -1,9 +1,9 @@
 -- A state in range, as facts, which the calls' parts ask.
-use Prim.Native.Nat.{ℕ, _≤_}
-use mathlib.Core.Path.{_≡_}
-use mathlib.Core.Bool.{Bool, true, _&&_}
-use lib.Dec.{leb}
-use borrow.Author.Tests.{leb-true}
+use Prim.Native.Nat.{ℕ, _≤_, _<_}
+use mathlib.Core.Path.{_≡_, refl}
+use mathlib.Core.Bool.{Bool, true, false, _&&_}
+use lib.Dec.{leb, ltb}
+use borrow.Author.Tests.{leb-true, ltb-true}
 use Rattle.exec.specs.declared.Stream.{Stream}
 use Rattle.exec.specs.declared.Stream.the-variants.{Stdout, Stderr}
 use Rattle.exec.specs.Limits.{isValid}
@@ -11,9 +11,10 @@ use Rattle.credit.specs.Range.{inboxFits}
 use Rattle.credit.specs.RangeLaws as Inbox
 use Rattle.credit.specs.Sender.{creditFits}
 use Rattle.stdio.specs.declared.output.Output.{Output}
+use Rattle.stdio.specs.Output as Queue
 use Rattle.stdio.specs.Output.{outputFits, output-range}
 use Rattle.runner.specs.declared.runner.Runner.{Runner}
-use Rattle.runner.specs.Range.{inRange, isGood}
+use Rattle.runner.specs.Range.{inRange, within, isGood}
 use Rattle.runner.specs.State.{out0, out1, outOf, credit0, credit1}
 
 -- a queue within its ring
@@ -73,3 +74,30 @@ is-good r stores h =
     let p = Inbox.both (inRange r && isValid (r .limits)) stores h in
     let q = Inbox.both (inRange r) (isValid (r .limits)) (p .0) in
     record { range = in-range r (q .0); valid = q .1; stores-do = p .1 }
+
+-- the quicker test, of limits that are valid, is the test
+within-range : (r : Runner) → 0 < r .limits .chunk → 0 < r .limits .input .size → within r ≡ inRange r
+unfolding within inRange
+within-range r hc hs =
+    rw (
+      Queue.within-fits (r .limits .chunk) (out0 r) hc,
+      Queue.within-fits (r .limits .chunk) (out1 r) hc,
+      Inbox.within-fits (r .limits) (r .input .window) (r .input .inbox) hs hc,
+    )
+
+pub good-within : (r : Runner) (stores : Bool) → ((within r && isValid (r .limits)) && stores) ≡ isGood r stores
+unfolding isGood
+good-within r stores = by (isValid (r .limits)) refl
+  where
+    none : (w i : Bool) → ((w && false) && stores) ≡ ((i && false) && stores)
+    none true true = refl
+    none true false = refl
+    none false true = refl
+    none false false = refl
+
+    by : (v : Bool) → isValid (r .limits) ≡ v → ((within r && v) && stores) ≡ ((inRange r && v) && stores)
+    by false h = none (within r) (inRange r)
+    by true h =
+        let p = Inbox.both (ltb 0 (r .limits .chunk) && ltb 0 (r .limits .input .size)) (ltb 0 (r .limits .output .size)) h .0 in
+        let q = Inbox.both (ltb 0 (r .limits .chunk)) (ltb 0 (r .limits .input .size)) p in
+        rw (within-range r (ltb-true 0 (r .limits .chunk) (q .0)) (ltb-true 0 (r .limits .input .size) (q .1)))

@@ -1,5 +1,5 @@
 -- The runner's state with some of its parts set, and its parts by stream and by pool.
-use Prim.Native.Nat.{ℕ, _+_, max}
+use Prim.Native.Nat.{ℕ, _+_}
 use mathlib.Core.Bool.{Bool, cond}
 use mathlib.Core.List.{List, [], _∷_}
 use lib.Dec.{eqb}
@@ -129,7 +129,3 @@ putCredit i c cs = cond (eqb i 0) c (credit0 cs) ∷ cond (eqb i 0) (credit1 cs)
 
 abbrev pub buffered : Runner → ℕ
 buffered r = out0 r .queued + out1 r .queued + r .input .inbox .length
-
--- noted for the high-water mark
-abbrev pub noteBuffered : Runner → Runner
-noteBuffered r = withFlow (r .credits) (r .turn) (r .flags) (max (r .«high_water») (buffered r)) r

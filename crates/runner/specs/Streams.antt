@@ -25,7 +25,7 @@ use Rattle.runner.specs.declared.answer.Hearing.{Hearing}
 use Rattle.runner.specs.declared.answer.Taken.the-variants as Taken
 use Rattle.runner.specs.declared.answer.Taking.{Taking}
 use Rattle.runner.specs.declared.runner.Runner.{Runner}
-use Rattle.runner.specs.State.{withInput, withFlow, outOf, at, base, creditAt, putCredit, buffered, noteBuffered}
+use Rattle.runner.specs.State.{withInput, withFlow, outOf, at, base, creditAt, putCredit, buffered}
 
 -- ---- output: closed or given up, it takes 0; while discarding it takes all and keeps none; else min(length, chunk - queued)
 
@@ -169,10 +169,6 @@ isApplied (Refused x) = false
 isApplied (Receipt Applied) = true
 isApplied (Receipt Stale) = false
 isApplied (Receipt Late) = false
-
--- once the input has the message: the high water is noted where it was kept
-unfoldable pub heard : Received → Runner → Hearing
-heard x r = record { runner = cond (isApplied x) (noteBuffered r) r; received = x }
 
 -- a grant's reply as the answer to its message
 abbrev pub receiptOf : Reply → Received

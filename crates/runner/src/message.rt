@@ -9,12 +9,12 @@ ghost use Rattle.runner.specs.Message.{
   untold,
   order,
   choose,
-  effect,
   outputPaid,
   sentAfter,
   sentOutput,
-  messageAfter,
-  saidAfter,
+  saidFor,
+  movedAfter,
+  moves,
   wishFor,
   wish,
   handed,
@@ -25,7 +25,6 @@ ghost use Rattle.runner.specs.State.{other};
 use crate::answer::Message;
 use crate::answer::Request;
 use crate::answer::Said;
-use crate::answer::Saying;
 use crate::pairs::credit_at;
 use crate::pairs::other_stream;
 use crate::pairs::output_in;
@@ -33,8 +32,12 @@ use crate::pairs::put_credit;
 use crate::pairs::put_output;
 use crate::pairs::ring_base;
 use crate::runner::Runner;
+use credit::sender::Credit;
 use exec::MaybeCause;
 use exec::Stream;
+use lifecycle::flags::Flags;
+use stdio::input::Input;
+use stdio::output::Output;
 
 // What the runner says next, by what its state shows.
 pub enum Choice {
@@ -45,6 +48,15 @@ pub enum Choice {
     End(Stream),
     Output(Stream, u32),
     Terminal,
+}
+
+// What a message moves of the runner.
+pub struct Moved {
+    pub flags: Flags,
+    pub input: Input,
+    pub outputs: [Output; 2],
+    pub credits: [Credit; 2],
+    pub turn: u8,
 }
 
 // What the runner asks of the adapter next.
@@ -167,86 +179,122 @@ impl Runner {
         )
     }
 
-    // Says what was chosen.
-    pub(crate) fn say(mut self, choice: Choice, store: &[u8], buffer: &mut [u8]) -> Saying
-        requires { ⌜ InRange self × (byteNeed (self .limits) ≤ length (now store)) × (choice ≡ choose self (length (now buffer))) ⌝ }
-        ensures { λ r. ⌜ messageAfter r (now (buffer .exit)) ≡ saidAfter choice self (now (store .entry)) (now (buffer .entry)) ⌝ }
+    // What is said.
+    pub(crate) fn said(self, choice: Choice) -> Said
+        ensures { λ r. ⌜ r ≡ saidFor choice self ⌝ }
     {
         match choice {
-            Choice::None => Saying {
-                runner: self,
-                said: Said::None,
+            Choice::None => Said::None,
+            Choice::Credit => {
+                let input = self.input;
+                let window = input.window;
+                Said::Message(Message::Credit(window.returnable))
+            }
+            Choice::Started => Said::Message(Message::Started),
+            Choice::InputClosed => Said::Message(Message::InputClosed),
+            Choice::End(stream) => Said::Message(Message::End(stream)),
+            Choice::Output(stream, n) => Said::Message(Message::Output(stream, n as usize)),
+            Choice::Terminal => {
+                let outcome = self.outcome();
+                Said::Message(Message::Terminal(outcome))
+            }
+        }
+    }
+
+    // What saying it moves. It hands back these parts and not the runner, which would be copied once more.
+    pub(crate) fn moved(self, choice: Choice, store: &[u8], buffer: &mut [u8]) -> Moved
+        requires { ⌜ InRange self × (byteNeed (self .limits) ≤ length (now store)) × (choice ≡ choose self (length (now buffer))) ⌝ }
+        ensures { λ r. ⌜ movedAfter r (now (buffer .exit)) ≡ moves choice self (now (store .entry)) (now (buffer .entry)) ⌝ }
+    {
+        let mut flags = self.flags;
+        let input = self.input;
+        let outputs = self.outputs;
+        let credits = self.credits;
+        let turn = self.turn;
+        match choice {
+            Choice::None => Moved {
+                flags,
+                input,
+                outputs,
+                credits,
+                turn,
             },
             Choice::Credit => {
-                let held = self.input;
-                let crediting = held.take_credit();
-                let input = crediting.input;
-                self.input = input;
-                self.flags.credited = true;
-                Saying {
-                    runner: self,
-                    said: Said::Message(Message::Credit(crediting.units)),
+                flags.credited = true;
+                let crediting = input.take_credit();
+                let granted = crediting.input;
+                Moved {
+                    flags,
+                    input: granted,
+                    outputs,
+                    credits,
+                    turn,
                 }
             }
             Choice::Started => {
-                self.flags.started_message = false;
-                self.flags.credited = false;
-                Saying {
-                    runner: self,
-                    said: Said::Message(Message::Started),
+                flags.started_message = false;
+                flags.credited = false;
+                Moved {
+                    flags,
+                    input,
+                    outputs,
+                    credits,
+                    turn,
                 }
             }
             Choice::InputClosed => {
-                let held = self.input;
-                let input = held.message_told();
-                self.input = input;
-                self.flags.credited = false;
-                Saying {
-                    runner: self,
-                    said: Said::Message(Message::InputClosed),
+                flags.credited = false;
+                let told = input.message_told();
+                Moved {
+                    flags,
+                    input: told,
+                    outputs,
+                    credits,
+                    turn,
                 }
             }
             Choice::End(stream) => {
-                let runner = self.end_output(stream);
-                Saying {
-                    runner,
-                    said: Said::Message(Message::End(stream)),
+                flags.credited = false;
+                let output = output_in(stream, outputs);
+                let ended = put_output(stream, output.end(), outputs);
+                Moved {
+                    flags,
+                    input,
+                    outputs: ended,
+                    credits,
+                    turn,
                 }
             }
             Choice::Output(stream, n) => {
-                let paid = self.pay(stream, n);
-                let runner = paid.send_output(stream, n, store, buffer);
-                Saying {
-                    runner,
-                    said: Said::Message(Message::Output(stream, n as usize)),
+                flags.credited = false;
+                let paid = self.paid(stream, n);
+                let sent = self.sent(stream, n, store, buffer);
+                let next = turn_after(stream);
+                Moved {
+                    flags,
+                    input,
+                    outputs: sent,
+                    credits: paid,
+                    turn: next,
                 }
             }
             Choice::Terminal => {
-                let outcome = self.outcome();
-                self.flags.finished = true;
-                Saying {
-                    runner: self,
-                    said: Said::Message(Message::Terminal(outcome)),
+                flags.finished = true;
+                Moved {
+                    flags,
+                    input,
+                    outputs,
+                    credits,
+                    turn,
                 }
             }
         }
     }
 
-    fn end_output(mut self, stream: Stream) -> Runner
-        ensures { λ r. ⌜ r ≡ effect (Choice.End stream) self ⌝ }
-    {
-        let outputs = self.outputs;
-        let output = output_in(stream, outputs);
-        let next = put_output(stream, output.end(), outputs);
-        self.outputs = next;
-        self.flags.credited = false;
-        self
-    }
-
-    // Spends the credit of n bytes of a stream; the other stream has its turn next.
-    fn pay(mut self, stream: Stream, n: u32) -> Runner
+    // The accounts once the cost of n bytes of a stream is spent.
+    fn paid(self, stream: Stream, n: u32) -> [Credit; 2]
         requires { ⌜ Payable self stream n ⌝ }
-        ensures { λ r. ⌜ r ≡ outputPaid stream n self ⌝ }
+        ensures { λ r. ⌜ r ≡ outputPaid stream n self .credits ⌝ }
     {
         let limits = self.limits;
         let window = limits.output;
@@ -254,15 +302,11 @@ impl Runner {
         let pool = limits.pool_of(stream);
         let account = credit_at(pool, credits);
         let spent = account.spend_in(window.cost(n));
-        let next = put_credit(pool, spent, credits);
-        self.credits = next;
-        self.turn = turn_after(stream);
-        self.flags.credited = false;
-        self
+        put_credit(pool, spent, credits)
     }
 
-    // Moves n bytes of a stream's queue to the start of the buffer.
-    fn send_output(mut self, stream: Stream, n: u32, store: &[u8], buffer: &mut [u8]) -> Runner
+    // The outputs once n bytes of a stream's queue are moved to the start of the buffer.
+    fn sent(self, stream: Stream, n: u32, store: &[u8], buffer: &mut [u8]) -> [Output; 2]
         requires { ⌜ Sendable self stream n (now store) (now buffer) ⌝ }
         ensures { λ r. ⌜ sentAfter r (now (buffer .exit)) ≡ sentOutput stream n self (now (store .entry)) (now (buffer .entry)) ⌝ }
     {
@@ -272,9 +316,7 @@ impl Runner {
         let output = output_in(stream, outputs);
         let base = ring_base(stream, chunk);
         let sent = output.send(store, base, chunk, n, buffer);
-        let next = put_output(stream, sent, outputs);
-        self.outputs = next;
-        self
+        put_output(stream, sent, outputs)
     }
 
     // What is asked for next.

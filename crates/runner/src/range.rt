@@ -5,7 +5,7 @@ ghost use lib.Dec.{leb};
 ghost use lib.ListN.{length};
 ghost use Rattle.credit.specs.Need.{byteNeed, lengthNeed};
 ghost use Rattle.runner.specs.Calls.{noting, hearing};
-ghost use Rattle.runner.specs.Range.{inRange, bytesDo, lengthsDo, isGood, stop};
+ghost use Rattle.runner.specs.Range.{inRange, within, bytesDo, lengthsDo, isGood, stop};
 use crate::answer::Count;
 use crate::answer::Hearing;
 use crate::answer::Noting;
@@ -49,12 +49,29 @@ impl Runner {
             & (self.turn <= 1)
     }
 
-    // Whether none of the three is met, given whether the lent stores do.
+    // As `in_range`, for limits that are valid.
+    fn within(self) -> bool
+        ensures { λ r. ⌜ r ≡ within self ⌝ }
+    {
+        let limits = self.limits;
+        let chunk = limits.chunk;
+        let outputs = self.outputs;
+        let first = self.credits[0];
+        let second = self.credits[1];
+        let input = self.input;
+        let inbox = input.inbox;
+        let window = input.window;
+        ((stdio::outputs::within(outputs, chunk) & (first.fits() & second.fits()))
+            & inbox.within(limits, window))
+            & (self.turn <= 1)
+    }
+
+    // Whether none of the three is met, given whether the lent stores do. Each call asks it, so it takes the quicker test.
     pub(crate) fn is_good(self, stores: bool) -> bool
         ensures { λ r. ⌜ r ≡ isGood self stores ⌝ }
     {
         let limits = self.limits;
-        (self.in_range() & limits.is_valid()) & stores
+        (self.within() & limits.is_valid()) & stores
     }
 
     // Which of the three.

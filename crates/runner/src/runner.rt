@@ -60,6 +60,7 @@ use crate::pairs::put_output;
 use crate::pairs::ring_base;
 use crate::range::bytes_do;
 use crate::range::lengths_do;
+use crate::streams::is_dropped;
 use credit::sender::Credit;
 use exec::Admission;
 use exec::Cause;
@@ -221,15 +222,49 @@ impl Runner {
         self.unheard()
     }
 
-    // Bytes of the workload's input from the peer. Once the input is closed they are dropped, and the charge stands.
-    pub fn input(self, key: Key, store: &mut [u8], lengths: &mut [u32], bytes: &[u8]) -> Hearing
+    // Bytes of the workload's input from the peer. Once the input is closed they are dropped, and the charge stands. As in
+    // cancel, all answers are given here.
+    pub fn input(mut self, key: Key, store: &mut [u8], lengths: &mut [u32], bytes: &[u8]) -> Hearing
         ensures { λ r. ⌜ inputAfter r (now (store .exit)) (now (lengths .exit)) ≡ input self key (now (bytes .entry)) (now (store .entry)) (now (lengths .entry)) ⌝ }
     {
         let limits = self.limits;
         let enough = bytes_do(limits, store.len()) & lengths_do(limits, lengths.len());
         if self.is_good(enough) {
             let own = self.key;
-            return self.receive_as(own.admits(key), store, lengths, bytes);
+            let admission = own.admits(key);
+            match admission {
+                Admission::Refused(refusal) => {
+                    return Hearing {
+                        runner: self,
+                        received: Received::Refused(refusal),
+                    };
+                }
+                Admission::Stale => {
+                    return Hearing {
+                        runner: self,
+                        received: Received::Receipt(Receipt::Stale),
+                    };
+                }
+                Admission::Own => {
+                    if self.flags.finished {
+                        return Hearing {
+                            runner: self,
+                            received: Received::Receipt(Receipt::Late),
+                        };
+                    }
+                    let held = self.input;
+                    let receiving = held.receive(limits, store, lengths, bytes);
+                    let input = receiving.input;
+                    let received = receiving.received;
+                    self.input = input;
+                    let mark = self.mark(is_dropped(received));
+                    self.high_water = mark;
+                    return Hearing {
+                        runner: self,
+                        received,
+                    };
+                }
+            }
         }
         self.unheard()
     }
@@ -572,13 +607,24 @@ impl Runner {
     }
 
     // The next message to send the peer, if one waits. An output message stands at the start of `buffer`.
-    pub fn next_message(self, store: &[u8], buffer: &mut [u8]) -> Saying
+    pub fn next_message(mut self, store: &[u8], buffer: &mut [u8]) -> Saying
         ensures { λ r. ⌜ messageAfter r (now (buffer .exit)) ≡ nextMessage self (now (store .entry)) (now (buffer .entry)) ⌝ }
     {
         let limits = self.limits;
         if self.is_good(bytes_do(limits, store.len())) {
             let choice = self.choose(buffer.len());
-            return self.say(choice, store, buffer);
+            let said = self.said(choice);
+            let moved = self.moved(choice, store, buffer);
+            let flags = moved.flags;
+            let input = moved.input;
+            let outputs = moved.outputs;
+            let credits = moved.credits;
+            self.flags = flags;
+            self.input = input;
+            self.outputs = outputs;
+            self.credits = credits;
+            self.turn = moved.turn;
+            return Saying { runner: self, said };
         }
         let refusal = self.stop();
         Saying {

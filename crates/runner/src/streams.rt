@@ -1,6 +1,6 @@
 // The output streams, the credit and the input: what each call does once it is not refused by 12, 10 or 11.
 ghost use mathlib.Core.Path.{_≡_};
-ghost use mathlib.Core.Bool.{cond};
+ghost use mathlib.Core.Bool.{cond, not};
 ghost use Prim.Native.Nat.{_≤_, _<_, _^_, max};
 ghost use lib.ListN.{length};
 ghost use Rattle.credit.specs.Need.{byteNeed, lengthNeed};
@@ -16,10 +16,7 @@ ghost use Rattle.runner.specs.Streams.{
   creditIn,
   creditAnswer,
   creditNext,
-  inputAfter,
-  received,
   isApplied,
-  heard,
   receiptOf,
   endAnswer,
   endNext,
@@ -175,68 +172,6 @@ impl Runner {
         }
     }
 
-    // Bytes from the peer.
-    pub(crate) fn receive_as(
-        self,
-        admission: Admission,
-        store: &mut [u8],
-        lengths: &mut [u32],
-        bytes: &[u8],
-    ) -> Hearing
-        requires { ⌜ InRange self × (byteNeed (self .limits) ≤ length (now store)) × (lengthNeed (self .limits) ≤ length (now lengths)) ⌝ }
-        ensures { λ r. ⌜ inputAfter r (now (store .exit)) (now (lengths .exit)) ≡ received admission self (now (bytes .entry)) (now (store .entry)) (now (lengths .entry)) ⌝ }
-    {
-        match admission {
-            Admission::Refused(refusal) => Hearing {
-                runner: self,
-                received: Received::Refused(refusal),
-            },
-            Admission::Stale => Hearing {
-                runner: self,
-                received: Received::Receipt(Receipt::Stale),
-            },
-            Admission::Own => self.receive(store, lengths, bytes),
-        }
-    }
-
-    fn receive(mut self, store: &mut [u8], lengths: &mut [u32], bytes: &[u8]) -> Hearing
-        requires { ⌜ InRange self × (byteNeed (self .limits) ≤ length (now store)) × (lengthNeed (self .limits) ≤ length (now lengths)) ⌝ }
-        ensures { λ r. ⌜ inputAfter r (now (store .exit)) (now (lengths .exit)) ≡ received Admission.Own self (now (bytes .entry)) (now (store .entry)) (now (lengths .entry)) ⌝ }
-    {
-        if self.flags.finished {
-            return Hearing {
-                runner: self,
-                received: Received::Receipt(Receipt::Late),
-            };
-        }
-        let held = self.input;
-        let limits = self.limits;
-        let receiving = held.receive(limits, store, lengths, bytes);
-        let input = receiving.input;
-        self.input = input;
-        let received = receiving.received;
-        self.heard(received)
-    }
-
-    // The high water is noted where the message was kept.
-    fn heard(mut self, received: Received) -> Hearing
-        requires { ⌜ buffered self < 2 ^ 64 ⌝ }
-        ensures { λ r. ⌜ r ≡ heard received self ⌝ }
-    {
-        if is_applied(received) {
-            let mark = self.mark(false);
-            self.high_water = mark;
-            return Hearing {
-                runner: self,
-                received,
-            };
-        }
-        Hearing {
-            runner: self,
-            received,
-        }
-    }
-
     // The peer's end of the input.
     pub(crate) fn end_as(self, admission: Admission) -> Hearing
         ensures { λ r. ⌜ r ≡ record { runner = endNext admission self; received = endAnswer admission self } ⌝ }
@@ -294,16 +229,16 @@ fn larger(a: usize, b: usize) -> usize
     if a < b { b } else { a }
 }
 
-// Whether a message of the peer's changed the state as it asks.
-fn is_applied(received: Received) -> bool
-    ensures { λ r. ⌜ r ≡ isApplied received ⌝ }
+// Whether a message's bytes are not kept, by its answer.
+pub(crate) fn is_dropped(received: Received) -> bool
+    ensures { λ r. ⌜ r ≡ not (isApplied received) ⌝ }
 {
     match received {
-        Received::Refused(_) => false,
+        Received::Refused(_) => true,
         Received::Receipt(receipt) => match receipt {
-            Receipt::Applied => true,
-            Receipt::Stale => false,
-            Receipt::Late => false,
+            Receipt::Applied => false,
+            Receipt::Stale => true,
+            Receipt::Late => true,
         },
     }
 }

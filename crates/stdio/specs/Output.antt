@@ -8,7 +8,7 @@ use borrow.Author.Tests.{leb-true}
 use lib.Dec.{leb, ltb}
 use lib.ListN.{length, drop}
 use Rattle.credit.specs.Range.{ringFits}
-use Rattle.credit.specs.RangeLaws.{both, ring-start, ring-below}
+use Rattle.credit.specs.RangeLaws.{both, ring-start, ring-below, ring-valid}
 use Rattle.ring.specs.Ring.{wrap, ringRead, ringWrite}
 use Rattle.stdio.specs.declared.output.Intake.{Intake}
 use Rattle.stdio.specs.declared.output.Output.{Output}
@@ -259,6 +259,14 @@ sent chunk base n o store buffer =
 -- the queue is within its ring
 unfoldable pub outputFits : (chunk : ℕ) → Output → Bool
 outputFits chunk o = leb (o .queued) chunk && ringFits (o .start) chunk
+
+-- the same, of a chunk that is not 0
+abbrev pub outputWithin : (chunk : ℕ) → Output → Bool
+outputWithin chunk o = leb (o .queued) chunk && ltb (o .start) chunk
+
+pub within-fits : (chunk : ℕ) (o : Output) → 0 < chunk → outputWithin chunk o ≡ outputFits chunk o
+unfolding outputFits
+within-fits chunk o some = rw (ring-valid (o .start) chunk some) refl
 
 module _ (chunk : ℕ) (o : Output) (fits : outputFits chunk o ≡ true) where
   each : (leb (o .queued) chunk ≡ true) × (ringFits (o .start) chunk ≡ true)

@@ -4,7 +4,7 @@ use mathlib.Core.Bool.{Bool, _&&_, _||_}
 use mathlib.Core.List.{List, [], _∷_}
 use lib.ListN.{getD}
 use Rattle.stdio.specs.declared.output.Output.{Output}
-use Rattle.stdio.specs.Output.{newOutput, isHeld, isDelivered, outputFits}
+use Rattle.stdio.specs.Output.{newOutput, isHeld, isDelivered, outputFits, outputWithin}
 
 abbrev pub stdout : List Output → Output
 stdout l = getD l 0 newOutput
@@ -31,3 +31,6 @@ queuedOf l = stdout l .queued + stderr l .queued
 
 abbrev pub outputsFit : (chunk : ℕ) → List Output → Bool
 outputsFit chunk l = outputFits chunk (stdout l) && outputFits chunk (stderr l)
+
+abbrev pub outputsWithin : (chunk : ℕ) → List Output → Bool
+outputsWithin chunk l = outputWithin chunk (stdout l) && outputWithin chunk (stderr l)

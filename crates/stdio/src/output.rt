@@ -25,6 +25,7 @@ ghost use Rattle.stdio.specs.Output.{
   sendAfter,
   sent,
   outputFits,
+  outputWithin,
 };
 use credit::inbox::ring_fits;
 
@@ -243,6 +244,13 @@ impl Output {
         self.start = next as u32;
         self.queued = self.queued - n;
         self
+    }
+
+    // As `fits`, for a chunk that is not 0, and quicker: each call asks it.
+    pub fn within(self, chunk: u32) -> bool
+        ensures { λ r. ⌜ r ≡ outputWithin chunk self ⌝ }
+    {
+        (self.queued <= chunk) & (self.start < chunk)
     }
 
     // Whether the queue is within its ring.

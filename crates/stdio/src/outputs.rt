@@ -1,7 +1,7 @@
 // Both output streams side by side, in the order of Stream::ALL.
 ghost use mathlib.Core.Path.{_≡_};
 ghost use Rattle.stdio.specs.Output.{graceEnded, givenUp, abandoned};
-ghost use Rattle.stdio.specs.Outputs.{eachOutput, bothClosed, anyHeld, bothDelivered, queuedOf, outputsFit};
+ghost use Rattle.stdio.specs.Outputs.{eachOutput, bothClosed, anyHeld, bothDelivered, queuedOf, outputsFit, outputsWithin};
 use crate::output::Output;
 
 pub fn end_grace_of_both(outputs: [Output; 2]) -> [Output; 2]
@@ -68,4 +68,13 @@ pub fn fit(outputs: [Output; 2], chunk: u32) -> bool
     let stdout = outputs[0];
     let stderr = outputs[1];
     stdout.fits(chunk) & stderr.fits(chunk)
+}
+
+// The same, for a chunk that is not 0.
+pub fn within(outputs: [Output; 2], chunk: u32) -> bool
+    ensures { λ r. ⌜ r ≡ outputsWithin chunk outputs ⌝ }
+{
+    let stdout = outputs[0];
+    let stderr = outputs[1];
+    stdout.within(chunk) & stderr.within(chunk)
 }

@@ -1,8 +1,8 @@
--- `runner::runner::Runner::send_output` meets its contract.
+-- `runner::runner::Runner::sent` meets its contract.
 use Rattle.runner.proofs.Says.{sent-is}
 use borrow.Author.Needs.{needs}
-use Rattle.runner.proofs.runner.Runner.send_output.Statement.{statement}
-use Rattle.runner.proofs.runner.Runner.send_output.Tie as tie
+use Rattle.runner.proofs.runner.Runner.sent.Statement.{statement}
+use Rattle.runner.proofs.runner.Runner.sent.Tie as tie
 
 send-requires : tie.Need-send-requires
 send-requires c κs = let p = c .before .before .before .before .before .before .before .pre in
@@ -11,8 +11,8 @@ send-requires c κs = let p = c .before .before .before .before .before .before 
 returns : tie.Need-returns
 returns c = sent-is _ _ _ _ _ _ _ _ _ _ (c .before .before .before .before .before .before .output-in .ensures) (c .before .before .before .before .before .ring-base .ensures) (c .before .before .before .send .ensures) (c .put-output .ensures)
 
-pub send-output-spec : {M : Type 1} → statement M
-send-output-spec =
+pub sent-spec : {M : Type 1} → statement M
+sent-spec =
     tie.close
     (tie.spec
     (λ c κs. search needs)
