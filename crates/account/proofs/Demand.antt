@@ -27,12 +27,14 @@ use Rattle.account.specs.LateClaim.{LateAny}
 use Rattle.account.specs.Claim.{Demand3, Opens, IsPrefix, Silent, accountOf, isStop, isTerminal, anyTerminal}
 use Rattle.account.proofs.Plain.{enough, next, answer, afterAll, run, begun}
 use Rattle.account.proofs.Guarded.{next-is, answer-is, not-stopped}
-use Rattle.account.proofs.Range.{HeldIn, Lent, lent, in-range, and-both}
+use Rattle.account.proofs.Range.{Lent, lent, in-range}
 use Rattle.account.proofs.Finish.{framed, framed-conf}
 use Rattle.account.proofs.Lists
 use Rattle.account.proofs.Lists.{Sound, sound-next, sound-open, plainOf}
 use Rattle.account.proofs.Five
 use Rattle.account.proofs.Late
+use Rattle.account.proofs.InputRange.{HeldIn}
+use Rattle.account.proofs.Flags.{and-both}
 
 -- what a call is lent does
 enough-all : (c : Call) (s : State) → bytesDo (s .runner .limits) (s .bytes) ≡ true → lengthsDo (s .runner .limits) (s .lengths) ≡ true → enough s c ≡ true

@@ -1,7 +1,7 @@
 -- Terminal finishes the runner, nothing else does, and a finished runner says no more.
-use mathlib.Core.Bool.{Bool, true, false, true≢false, false≢true}
+use mathlib.Core.Bool.{Bool, true, false, true≢false, false≢true, _||_, or-true, or-assoc}
 use mathlib.Core.Path.{_≡_, refl, sym, ap, _∙_}
-use mathlib.Core.List.{List, [], _∷_}
+use mathlib.Core.List.{List, [], _∷_, _++_}
 use Prim.Native.Nat.{ℕ}
 use lib.ListN.{length}
 use Rattle.exec.specs.declared.Cause.{Cause}
@@ -30,9 +30,9 @@ use Rattle.runner.specs.Message.{order, choose, outputPaid, outputSent, effect,
 use Rattle.account.specs.Call as Call
 use Rattle.account.specs.Call.{Call, Answer}
 use Rattle.account.specs.Step.{State, receivedAs, asks}
-use Rattle.account.proofs.Plain.{said, next, answer, run}
+use Rattle.account.proofs.Plain.{said, next, answer, run, afterAll}
 use Rattle.account.proofs.Stages.{launchedIf}
-use Rattle.account.specs.Claim.{isMessage, isTerminal, Silent}
+use Rattle.account.specs.Claim.{isMessage, isTerminal, Silent, anyTerminal}
 use Rattle.account.proofs.Lives.{confOf, Frame, frame, ticked-frame, cancel-frame, detach-frame, exited-frame}
 
 handed-frame : (w : Request) (s : Runner) → frame (handed w s) ≡ frame s
@@ -295,3 +295,22 @@ chosen-ready n s e = order-terminal _ _ _ _ _ _ _ _ _ _ _ _ _ e
 pub ends-answer : (s : State) (c : Call) → Ends s c → answer s c ≡ Call.Says (Call.Terminal (outcomeOf (s .runner)))
 unfolding answer said
 ends-answer s c e = rw (e .call, e .chosen) refl
+
+-- ---- over a list
+
+pub run-append : (cs ds : List Call) (s : State) → anyTerminal (run s (cs ++ ds)) ≡ (anyTerminal (run s cs) || anyTerminal (run (afterAll s cs) ds))
+run-append [] ds s = refl
+run-append (c ∷ cs) ds s = rw (run-append cs ds (next s c)) (sym (or-assoc (isTerminal (answer s c)) (anyTerminal (run (next s c) cs)) (anyTerminal (run (afterAll (next s c) cs) ds))))
+
+-- a runner that has finished has said Terminal
+pub finished-came : (cs : List Call) (s : State) → s .runner .flags .finished ≡ false → afterAll s cs .runner .flags .finished ≡ true → anyTerminal (run s cs) ≡ true
+finished-came [] s f g = absurd (true≢false (sym g ∙ f))
+finished-came (c ∷ cs) s f g = go (next s c .runner .flags .finished) refl (λ e. finished-came cs (next s c) e g)
+  where
+    go : (b : Bool) → next s c .runner .flags .finished ≡ b → (next s c .runner .flags .finished ≡ false → anyTerminal (run (next s c) cs) ≡ true) → (isTerminal (answer s c) || anyTerminal (run (next s c) cs)) ≡ true
+    go true e r = rw (ends-by c s f e) refl
+    go false e r = rw (r e) (or-true (isTerminal (answer s c)))
+
+pub conf-list : (cs : List Call) (s : State) → confOf (afterAll s cs .runner) ≡ confOf (s .runner)
+conf-list [] s = refl
+conf-list (c ∷ cs) s = conf-list cs (next s c) ∙ framed-conf (framed c s)

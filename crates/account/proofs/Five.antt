@@ -1,7 +1,7 @@
 -- The fourth part: Terminal by the fifth message after the late tick.
-use mathlib.Core.Bool.{Bool, true, false, cond, not, _&&_, _||_, true≢false}
+use mathlib.Core.Bool.{Bool, true, false, cond, not, _&&_, _||_, true≢false, or-true}
 use mathlib.Core.Path.{_≡_, refl, sym, ap, _∙_, subst⁻¹}
-use mathlib.Core.List.{List, [], _∷_, _++_}
+use mathlib.Core.List.{List, [], _∷_}
 use Prim.Native.Nat.{ℕ, suc, _+_, _≤_, _<_, _^_, min}
 use native.Mathlib.Omega.{arith}
 use native.Mathlib.Nat.{le-refl}
@@ -41,13 +41,15 @@ use Rattle.runner.specs.Message.{sendableOf, order, choose, effect}
 use Rattle.account.specs.Call as Call
 use Rattle.account.specs.Call.{Call}
 use Rattle.account.specs.Step.{State, receivedAs}
-use Rattle.account.proofs.Plain.{said, next, answer, begun, afterAll, run}
+use Rattle.account.proofs.Plain.{said, next, answer, afterAll, run}
 use Rattle.account.proofs.Stages.{graceIf, terminateIf, giveUpIf, stage1, stage2, stage3, stage4, tickIf, tick-is, cancelIf, late, cancelNext}
 use Rattle.account.specs.Claim.{isTerminal, anyTerminal, messages, counts}
-use Rattle.account.proofs.Streams.{or-true, or-false-l, or-false-r, blocked-by}
-use Rattle.account.proofs.Lives.{confOf, tick-fin, ticked-frame, cancel-frame, Frame}
-use Rattle.account.proofs.Finish.{framed, framed-conf, ends-by}
-use Rattle.account.proofs.Timing.{Either, left, right, Dry, AllKnown, Phase, left-over, low-next, low-timeout, low-grace, low-settle, low-abandon, cleaned-known, known-given, bit}
+use Rattle.account.proofs.Streams.{blocked-by}
+use Rattle.account.proofs.Lives.{tick-fin, ticked-frame, cancel-frame, Frame}
+use Rattle.account.proofs.Finish.{ends-by}
+use Rattle.account.proofs.Timing.{low-next, low-timeout, low-grace, low-settle, low-abandon}
+use Rattle.account.proofs.Flags.{or-false-l, or-false-r}
+use Rattle.account.proofs.Phase.{Either, left, right, Dry, AllKnown, Phase, left-over, cleaned-known, known-given, bit}
 
 -- ---- the two phases
 
@@ -356,30 +358,9 @@ count (c ∷ es) s h f l = count-by c es s (step c s (messages es) h f l) (λ h�
 
 -- ---- the whole list
 
-pub run-append : (cs ds : List Call) (s : State) → anyTerminal (run s (cs ++ ds)) ≡ (anyTerminal (run s cs) || anyTerminal (run (afterAll s cs) ds))
-run-append [] ds s = refl
-run-append (c ∷ cs) ds s = rw (run-append cs ds (next s c)) (assoc (isTerminal (answer s c)) (anyTerminal (run (next s c) cs)) (anyTerminal (run (afterAll (next s c) cs) ds)))
-  where
-    assoc : (a b c : Bool) → (a || (b || c)) ≡ ((a || b) || c)
-    assoc true b c = refl
-    assoc false b c = refl
-
--- a runner that has finished has said Terminal
-pub finished-came : (cs : List Call) (s : State) → s .runner .flags .finished ≡ false → afterAll s cs .runner .flags .finished ≡ true → anyTerminal (run s cs) ≡ true
-finished-came [] s f g = absurd (true≢false (sym g ∙ f))
-finished-came (c ∷ cs) s f g = go (next s c .runner .flags .finished) refl (λ e. finished-came cs (next s c) e g)
-  where
-    go : (b : Bool) → next s c .runner .flags .finished ≡ b → (next s c .runner .flags .finished ≡ false → anyTerminal (run (next s c) cs) ≡ true) → (isTerminal (answer s c) || anyTerminal (run (next s c) cs)) ≡ true
-    go true e r = rw (ends-by c s f e) refl
-    go false e r = rw (r e) (or-true (isTerminal (answer s c)))
-
 pub before-list : (sum : ℕ) (cs : List Call) (s : State) → Before sum (s .runner) → Before sum (afterAll s cs .runner)
 before-list sum [] s h = h
 before-list sum (c ∷ cs) s h = before-list sum cs (next s c) (low-next (Soon sum) (soon-lower sum) c s h .hold)
-
-pub conf-list : (cs : List Call) (s : State) → confOf (afterAll s cs .runner) ≡ confOf (s .runner)
-conf-list [] s = refl
-conf-list (c ∷ cs) s = conf-list cs (next s c) ∙ framed-conf (framed c s)
 
 pub bits : (s : Runner) → left-over s ≤ 4
 bits s = let a = small (s .flags .«started_message») in let b = small (s .input .«closed_message») in let c = small (not (out0 s .ended)) in let d = small (not (out1 s .ended)) in omega arith

@@ -1,8 +1,8 @@
 -- The workload's input is a queue: what a call hands over comes off the front of the inbox, what it brings goes behind it, and an
 -- inbox that is cleared belongs to an input that is closed from then on.
-use mathlib.Core.Bool.{Bool, true, false, cond, not, _&&_, _||_, false≢true}
+use mathlib.Core.Bool.{Bool, true, false, cond, not, _&&_, _||_, false≢true, or-true}
 use mathlib.Core.Path.{_≡_, refl, sym, ap, _∙_, subst, subst⁻¹}
-use mathlib.Core.List.{List, [], _∷_, _++_, append-assoc}
+use mathlib.Core.List.{List, [], _∷_, _++_, append-assoc, append-nil}
 use mathlib.Core.Logic.{inr}
 use Prim.Native.Nat.{ℕ, _+_, _*_, _≤_, _<_, min}
 use native.Mathlib.Omega.{arith}
@@ -12,8 +12,6 @@ use Rattle.exec.specs.declared.Admission.{Admission}
 use Rattle.exec.specs.declared.Admission.the-variants as Admission
 use Rattle.exec.specs.declared.Cause.the-variants.{Dropped, Reset, Disconnected}
 use Rattle.exec.specs.declared.Limits.{Limits}
-use Rattle.exec.specs.declared.Receipt.the-variants.{Applied, Late}
-use Rattle.exec.specs.declared.Received.the-variants.{Receipt, Refused}
 use Rattle.exec.specs.declared.Stream.{Stream}
 use Rattle.exec.specs.declared.Stream.the-variants.{Stdout, Stderr}
 use Rattle.exec.specs.Key.{admits}
@@ -27,7 +25,7 @@ use Rattle.credit.specs.RangeLaws as Fits
 use Rattle.credit.specs.Sender.{creditFits}
 use Rattle.stdio.specs.declared.input.Input.{Input}
 use Rattle.stdio.specs.Input.{pendingInput, receiveAnswer, asked-of, isPaid, isKept, receiveInput, receiveBytes, closeWhenTaken, isTaken, peerEnds, popIn, endInput, writtenInput}
-use Rattle.stdio.specs.Output.{keeps as keepsOf}
+use Rattle.stdio.specs.Output.{keeps as keepsOf, keeps-fit}
 use Rattle.stdio.specs.Outputs.{outputsFit}
 use Rattle.runner.specs.declared.answer.Request.the-variants as Request
 use Rattle.runner.specs.declared.message.Choice.{Choice}
@@ -48,12 +46,14 @@ use Rattle.account.specs.Step.{State, receivedAs}
 use Rattle.account.specs.InputClaim.{isApplied, front, handedBy, handed, broughtBy, brought, InputFifo}
 use Rattle.account.proofs.Plain.{next, answer, begun}
 use Rattle.account.proofs.Rings.{ring-split}
-use Rattle.account.proofs.Streams.{append-nil, or-true, take-all, keeps-room, keeps-less}
-use Rattle.account.proofs.Range.{paid, room-by, lent, in-range}
-use Rattle.account.proofs.Timing.{and-l, and-r}
+use Rattle.account.proofs.Streams.{keeps-less}
+use Rattle.account.proofs.Range.{lent, in-range}
 use Rattle.account.proofs.Finish.{framed, framed-conf}
 use Rattle.account.proofs.Demand.{Fine, fine-next, next-same, answer-same, fine-open, opens-by, open-same, same-after, same-answer}
-use Rattle.account.proofs.InputMoves.{Moves, same, shut, stays, close, ticks, launches, exits, detaches, cancels}
+use Rattle.account.proofs.InputMoves.{Moves, same, shut, close, ticks, launches, exits, detaches, cancels}
+use Rattle.account.proofs.InputRange.{paid, room-by}
+use Rattle.account.proofs.Flags.{and-l, and-r}
+use lib.Seq.{take-length}
 
 -- ---- what flows through the inbox
 
@@ -94,12 +94,8 @@ within s h =
 -- ---- bytes from the peer
 
 -- an answer is Applied exactly where the bytes are kept
-applied-by : (closed : Bool) → isApplied (receivedAs (cond closed (Receipt Late) (Receipt Applied))) ≡ not closed
-applied-by true = refl
-applied-by false = refl
-
 applied-is : (l : Limits) (i : Input) (n : ℕ) → isApplied (receivedAs (receiveAnswer l i n)) ≡ isKept l i n
-applied-is l i n = asked-of (λ x. isApplied (receivedAs x)) (λ x. refl) l i n (not (i .closed)) (applied-by (i .closed))
+applied-is l i n = asked-of (λ x. isApplied (receivedAs x)) (λ x. refl) not refl refl l i n
 
 receive-flow : (l : Limits) (i : Input) (b st : List ℕ) (k : Bool) → isKept l i (length b) ≡ k → Within l i st
     → (k ≡ true → i .inbox .length + length b ≤ inboxSize l)
@@ -109,7 +105,7 @@ receive-flow l i b st false e w m = rw e (on (append-nil (queue l i st)) (λ c. 
 receive-flow l i b st true e w m =
     let a = w .area in let s = w .begins in
     let z = write-read (inboxBase l) (inboxSize l) (i .inbox .start) (i .inbox .length) b (length b) st a (omega arith) (omega arith) (m refl) in
-    rw e (on (sym (z ∙ ap (λ (x : List ℕ). queue l i st ++ x) (take-all b))) (λ c. (c, refl)))
+    rw e (on (sym (z ∙ ap (λ (x : List ℕ). queue l i st ++ x) (take-length b))) (λ c. (c, refl)))
 
 kept-room : (b : List ℕ) (s : State) → Fine s → isKept (s .runner .limits) (s .runner .input) (length b) ≡ true
     → s .runner .input .inbox .length + length b ≤ inboxSize (s .runner .limits)
@@ -167,7 +163,7 @@ output-flow Stdout b s h =
     let r = s .runner in let c : ℕ = r .limits .chunk in let w = within s h in
     let k : ℕ = keepsOf (isShut Stdout r) (out0 r .discarding) (room Stdout r) (length b) in
     let has = keeps-less (isShut Stdout r) (out0 r .discarding) (room Stdout r) (length b) in
-    let kr = keeps-room (isShut Stdout r) (out0 r .discarding) (room Stdout r) (length b) in
+    let kr = keeps-fit (isShut Stdout r) (out0 r .discarding) (room Stdout r) (length b) in
     let i0 = h .sound .ranged .0 .inside in let w0 = h .sound .ranged .0 .within in let a = w .area in let g = w .begins in
     let z = write-other 0 c (out0 r .start) (out0 r .queued) b k (s .bytes) (omega arith) (omega arith) has (omega arith)
     (2 * c) (inboxSize (r .limits)) (r .input .inbox .start) (r .input .inbox .length) a (omega arith) (w .most) (inr (omega arith)) in
@@ -176,7 +172,7 @@ output-flow Stderr b s h =
     let r = s .runner in let c : ℕ = r .limits .chunk in let w = within s h in
     let k : ℕ = keepsOf (isShut Stderr r) (out1 r .discarding) (room Stderr r) (length b) in
     let has = keeps-less (isShut Stderr r) (out1 r .discarding) (room Stderr r) (length b) in
-    let kr = keeps-room (isShut Stderr r) (out1 r .discarding) (room Stderr r) (length b) in
+    let kr = keeps-fit (isShut Stderr r) (out1 r .discarding) (room Stderr r) (length b) in
     let i1 = h .sound .ranged .1 .inside in let w1 = h .sound .ranged .1 .within in let a = w .area in let g = w .begins in
     let z = write-other c c (out1 r .start) (out1 r .queued) b k (s .bytes) (omega arith) (omega arith) has (omega arith)
     (2 * c) (inboxSize (r .limits)) (r .input .inbox .start) (r .input .inbox .length) a (omega arith) (w .most) (inr (omega arith)) in

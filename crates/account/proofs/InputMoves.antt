@@ -11,7 +11,6 @@ use Rattle.exec.specs.declared.Deadline.the-variants.{Never}
 use Rattle.exec.specs.declared.LaunchResult.{LaunchResult}
 use Rattle.exec.specs.declared.LaunchResult.the-variants as LaunchResult
 use Rattle.exec.specs.declared.MaybeStatus.{MaybeStatus}
-use Rattle.exec.specs.declared.Received.the-variants.{Refused}
 use Rattle.exec.specs.Time.{due}
 use Rattle.credit.specs.Inbox.{newInbox}
 use Rattle.stdio.specs.declared.input.Input.{Input}
@@ -22,7 +21,6 @@ use Rattle.lifecycle.specs.declared.life.Launch.the-variants as Launch
 use Rattle.lifecycle.specs.Life.{isFenced}
 use Rattle.lifecycle.specs.Setters.{setGiveUpAt, setLaunch}
 use Rattle.runner.specs.State.{withClocks, withLife}
-use Rattle.account.specs.Units.{cleared}
 
 pub data Moves (i i′ : Input) : Type 0 where
   same : i′ .window ≡ i .window → i′ .inbox ≡ i .inbox → i′ .closed ≡ i .closed → Moves i i′

@@ -1,5 +1,5 @@
 -- The bound of demand 3 after every call that ticks: what the late tick leaves, the rest of the call keeps.
-use mathlib.Core.Bool.{Bool, true, false, _||_}
+use mathlib.Core.Bool.{Bool, true, false, _||_, or-true}
 use mathlib.Core.Path.{_≡_, refl, ap, _∙_, subst⁻¹}
 use mathlib.Core.List.{List, _∷_, _++_}
 use mathlib.Core.Option.{some, Option·some-injective, Option·none-ne-some}
@@ -27,11 +27,10 @@ use Rattle.account.specs.Claim.{isTerminal, anyTerminal, messages}
 use Rattle.account.specs.LateClaim.{ownTick, tickOf}
 use Rattle.account.proofs.Plain.{next, answer, begun, afterAll, run}
 use Rattle.account.proofs.Stages.{late, cancelNext}
-use Rattle.account.proofs.Streams.{or-true}
 use Rattle.account.proofs.Lives.{confOf}
-use Rattle.account.proofs.Finish.{ends-by}
+use Rattle.account.proofs.Finish.{ends-by, run-append, finished-came, conf-list}
 use Rattle.account.proofs.Timing.{low-cancelIf, low-detachIf, low-exitedIf}
-use Rattle.account.proofs.Five.{Gone, gone-lower, Before, After, late-ticked, cancelled, count, bits, run-append, finished-came, before-list, conf-list}
+use Rattle.account.proofs.Five.{Gone, gone-lower, Before, After, late-ticked, cancelled, count, bits, before-list}
 
 -- ---- the calls that tick
 

@@ -1,14 +1,18 @@
 -- The proof of demand 3, file by file.
 pub mod Plain
 pub mod Guarded
+pub mod Flags
 pub mod Rings
 pub mod Streams
 pub mod Stages
 pub mod Lives
 pub mod Choices
+pub mod InputRange
 pub mod Range
+pub mod Phase
 pub mod Timing
 pub mod Finish
+pub mod EachCall
 pub mod Lists
 pub mod Five
 pub mod Late

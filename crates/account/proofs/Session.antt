@@ -13,6 +13,7 @@ use Rattle.exec.specs.declared.MaybeCause.the-variants as MaybeCause
 use Rattle.exec.specs.declared.MaybeDuration.the-variants as MaybeDuration
 use Rattle.exec.specs.declared.MaybeLaunchFailure.the-variants as MaybeLaunchFailure
 use Rattle.exec.specs.declared.MaybeStatus.the-variants as MaybeStatus
+use Rattle.exec.specs.declared.Outcome.{Outcome}
 use Rattle.exec.specs.declared.Pool.the-variants as Pool
 use Rattle.exec.specs.declared.Refusal.{Refusal}
 use Rattle.exec.specs.declared.Reply.the-variants as Reply
@@ -64,6 +65,17 @@ calls = Call.launched LaunchResult.Started
     ∷ message
     ∷ []
 
+-- cancelled and given up: both streams truncated, and nothing to be used again
+abbrev pub cutShort : Outcome
+cutShort = record {
+  status = MaybeStatus.None;
+  cause = MaybeCause.Some Cause.Cancelled;
+  «launch_failure» = MaybeLaunchFailure.None;
+  «stdout_truncated» = true;
+  «stderr_truncated» = true;
+  reusable = false;
+}
+
 abbrev answers : List Answer
 answers = Call.Ok
     ∷ Call.Applied
@@ -76,14 +88,7 @@ answers = Call.Ok
     ∷ Call.Says Call.InputClosed
     ∷ Call.Says (Call.End Stdout)
     ∷ Call.Says (Call.End Stderr)
-    ∷ Call.Says (Call.Terminal (record {
-      status = MaybeStatus.None;
-      cause = MaybeCause.Some Cause.Cancelled;
-      «launch_failure» = MaybeLaunchFailure.None;
-      «stdout_truncated» = true;
-      «stderr_truncated» = true;
-      reusable = false;
-    }))
+    ∷ Call.Says (Call.Terminal cutShort)
     ∷ Call.Nothing
     ∷ []
 

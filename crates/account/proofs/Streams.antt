@@ -1,7 +1,7 @@
 -- One stream: what each change of an output does to its account. Nothing here knows of calls.
-use mathlib.Core.Bool.{Bool, true, false, not, _&&_, _||_, true≢false, false≢true}
+use mathlib.Core.Bool.{Bool, true, false, not, _&&_, _||_, or-true, or-assoc}
 use mathlib.Core.Path.{_≡_, refl, sym, ap, _∙_}
-use mathlib.Core.List.{List, [], _∷_, _++_, append-assoc}
+use mathlib.Core.List.{List, [], _∷_, _++_, append-assoc, append-nil}
 use Prim.Native.Nat.{ℕ, _+_, _-_, _≤_, _<_, min}
 use native.Mathlib.Omega.{arith}
 use lib.Dec.{ltb}
@@ -10,9 +10,11 @@ use lib.ListN.{length, take, length-append}
 use Rattle.ring.specs.Ring.{wrap, ringWrite}
 use Rattle.ring.specs.RingLaws.{wrap-lt, read-none, write-read, write-length}
 use Rattle.stdio.specs.declared.output.Output.{Output}
-use Rattle.stdio.specs.Output.{graceEnded, givenUp, abandoned, closedOut, failedOut, lostOut, sentOut, takes, keeps, intake}
+use Rattle.stdio.specs.Output.{graceEnded, givenUp, abandoned, closedOut, failedOut, lostOut, sentOut, takes, keeps, intake, keeps-fit}
 use Rattle.account.specs.Account.{Tally, marked, takenBy, sentBy, cut}
 use Rattle.account.proofs.Rings.{some?, ring, ring-some, ring-split}
+use lib.Seq.{take-length}
+use Rattle.account.proofs.Flags.{or-false-r, or-swap}
 
 -- taken is sent, then queued, then lost; once bytes are lost nothing is queued any more
 pub record Kept (q : List ℕ) (closed discarding truncated : Bool) (t : Tally) : Type 0 where
@@ -31,30 +33,6 @@ pub record Fits (n start count : ℕ) : Type 0 where
 abbrev pub Good : List ℕ → ℕ → ℕ → Output → Tally → Type 0
 Good st b n o t = Kept (ring st b n (o .start) (o .queued)) (o .closed) (o .discarding) (o .truncated) t × Fits n (o .start) (o .queued) × (b + n ≤ length st)
 
-pub or-true : (a : Bool) → (a || true) ≡ true
-or-true true = refl
-or-true false = refl
-
-pub or-left : (a b : Bool) → a ≡ true → (a || b) ≡ true
-or-left true b e = refl
-or-left false b e = absurd (false≢true e)
-
-pub or-false-l : (a b : Bool) → (a || b) ≡ false → a ≡ false
-or-false-l true b e = e
-or-false-l false b e = refl
-
-pub or-false-r : (a b : Bool) → (a || b) ≡ false → b ≡ false
-or-false-r true b e = absurd (true≢false e)
-or-false-r false b e = e
-
-pub or-swap : (m a b : Bool) → (m || (a || b)) ≡ (a || (m || b))
-or-swap true a b = sym (or-true a)
-or-swap false a b = refl
-
-pub or-assoc′ : (a b c : Bool) → ((a || b) || c) ≡ (a || (b || c))
-or-assoc′ true b c = refl
-or-assoc′ false b c = refl
-
 pub some-append : (a b : List ℕ) → some? (a ++ b) ≡ (some? a || some? b)
 some-append [] b = refl
 some-append (x ∷ a) b = refl
@@ -62,10 +40,6 @@ some-append (x ∷ a) b = refl
 pub not-some : (a : List ℕ) → some? a ≡ false → a ≡ []
 not-some [] e = refl
 not-some (x ∷ a) e = let z : true ≡ false = e in cc
-
-pub append-nil : (a : List ℕ) → a ++ [] ≡ a
-append-nil [] = refl
-append-nil (x ∷ a) = ap (λ (l : List ℕ). x ∷ l) (append-nil a)
 
 pub blocked-by : (c d : Bool) → (c || (d || not c)) ≡ true
 blocked-by true d = refl
@@ -81,7 +55,7 @@ end-grace-kept q c d tr t g = record {
   whole = drop-whole (t .taken) (t .sent) q (g .rest) (g .whole);
   lost = λ e. (refl, blocked-by c d);
   idle = λ e. refl;
-  flag = rw (some-append, g .flag) (sym (or-assoc′ (some? q) (some? (g .rest)) (t .mark)));
+  flag = rw (some-append, g .flag) (sym (or-assoc (some? q) (some? (g .rest)) (t .mark)));
 }
 
 given-up-kept : (q : List ℕ) (c d tr : Bool) (t : Tally) → Kept q c d tr t → Kept [] true d (not c || (some? q || tr)) (marked (not c) t)
@@ -91,7 +65,7 @@ given-up-kept q c d tr t g = record {
   lost = λ e. (refl, refl);
   idle = λ e. refl;
   flag = rw (some-append, g .flag)
-      (ap (λ (b : Bool). not c || b) (sym (or-assoc′ (some? q) (some? (g .rest)) (t .mark)))
+      (ap (λ (b : Bool). not c || b) (sym (or-assoc (some? q) (some? (g .rest)) (t .mark)))
       ∙ or-swap (not c) (some? q || some? (g .rest)) (t .mark));
 }
 
@@ -137,10 +111,6 @@ failed-by st b n o t (g, fit, area) = (record { rest = g .rest; whole = g .whole
 pub discarded-by : (st : List ℕ) (b n : ℕ) (m : Bool) (o : Output) (t : Tally) → Good st b n o t → Good st b n (lostOut m o) (marked m t)
 discarded-by st b n m o t (g, fit, area) = (record { rest = g .rest; whole = g .whole; lost = g .lost; idle = g .idle; flag = rw (g .flag) (or-swap m (some? (g .rest)) (t .mark)) }, fit, area)
 
-pub take-all : (b : List ℕ) → take (length b) b ≡ b
-take-all [] = refl
-take-all (x ∷ b) = ap (λ (l : List ℕ). x ∷ l) (take-all b)
-
 pub some-length : (b : List ℕ) → some? b ≡ ltb 0 (length b)
 some-length [] = refl
 some-length (x ∷ b) = sym (lt-ltb 0 (length (x ∷ b)) (omega arith))
@@ -180,10 +150,10 @@ taken-kept : (shut : Bool) (room : ℕ) (b q : List ℕ) (c d tr : Bool) (t : Ta
 taken-kept true room b q c d tr t s g = record { rest = g .rest; whole = rw (append-nil, append-nil) (g .whole); lost = rw append-nil (g .lost); idle = rw append-nil (g .idle); flag = g .flag }
 taken-kept false room b q c true tr t s g = record {
   rest = g .rest ++ b;
-  whole = rw (take-all, g .whole, append-nil) (append-assoc (t .sent ++ q) (g .rest) b);
+  whole = rw (take-length, g .whole, append-nil) (append-assoc (t .sent ++ q) (g .rest) b);
   lost = λ e. rw append-nil (g .idle refl, or-true c);
   idle = rw append-nil (g .idle);
-  flag = rw (some-append, g .flag) (or-swap (some? b) (some? (g .rest)) (t .mark) ∙ sym (or-assoc′ (some? (g .rest)) (some? b) (t .mark)));
+  flag = rw (some-append, g .flag) (or-swap (some? b) (some? (g .rest)) (t .mark) ∙ sym (or-assoc (some? (g .rest)) (some? b) (t .mark)));
 }
 taken-kept false room b q c false tr t s g =
     let oc : c ≡ false = open-still c false s refl in
@@ -197,11 +167,6 @@ taken-kept false room b q c false tr t s g =
       flag = g .flag ∙ rw nr refl;
     }
 
-pub keeps-room : (s d : Bool) (room n : ℕ) → keeps s d room n ≤ room
-keeps-room true d room n = omega arith
-keeps-room false true room n = omega arith
-keeps-room false false room n = omega arith
-
 pub keeps-less : (s d : Bool) (room n : ℕ) → keeps s d room n ≤ n
 keeps-less true d room n = omega arith
 keeps-less false true room n = omega arith
@@ -214,7 +179,7 @@ pub taken-by : (st : List ℕ) (b n : ℕ) (shut : Bool) (bytes : List ℕ) (o :
 taken-by st b n shut bytes o t s (g, fit, area) =
     let k : ℕ = keeps shut (o .discarding) (n - o .queued) (length bytes) in
     let has : k ≤ length bytes = keeps-less shut (o .discarding) (n - o .queued) (length bytes) in
-    let kr : k ≤ n - o .queued = keeps-room shut (o .discarding) (n - o .queued) (length bytes) in
+    let kr : k ≤ n - o .queued = keeps-fit shut (o .discarding) (n - o .queued) (length bytes) in
     let lt : o .start < n = fit .inside in let le : o .queued ≤ n = fit .within in
     let w : ring (ringWrite b n (o .start) (o .queued) bytes k st) b n (o .start) (o .queued + k) ≡ ring st b n (o .start) (o .queued) ++ take k bytes
     = write-read b n (o .start) (o .queued) bytes k st area (omega arith) has (omega arith) in

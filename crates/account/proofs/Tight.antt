@@ -1,14 +1,11 @@
 -- Five is tight: a list on which the fifth next_message after the tick is Terminal and the four before it are other messages.
-use mathlib.Core.Bool.{true, false}
+use mathlib.Core.Bool.{false}
 use mathlib.Core.Path.{_≡_, refl, ap, _∙_}
 use mathlib.Core.List.{List, [], _∷_, _++_}
 use Prim.Native.Nat.{ℕ, _≤_}
 use lib.ListN.{length}
 use Rattle.exec.specs.declared.Cause.the-variants as Cause
 use Rattle.exec.specs.declared.LaunchResult.the-variants as LaunchResult
-use Rattle.exec.specs.declared.MaybeCause.the-variants as MaybeCause
-use Rattle.exec.specs.declared.MaybeLaunchFailure.the-variants as MaybeLaunchFailure
-use Rattle.exec.specs.declared.MaybeStatus.the-variants as MaybeStatus
 use Rattle.exec.specs.declared.Stream.the-variants.{Stdout, Stderr}
 use Rattle.exec.specs.Key.{admits}
 use Rattle.runner.specs.Choose.{ifElse}
@@ -22,7 +19,7 @@ use Rattle.account.specs.Claim.{anyTerminal, messages}
 use Rattle.account.specs.Step as Step
 use Rattle.account.proofs.Plain.{said, next, answer, begun, run}
 use Rattle.account.proofs.Demand.{same-run}
-use Rattle.account.proofs.Session.{conf, message, answersOf, open-ok}
+use Rattle.account.proofs.Session.{conf, message, cutShort, answersOf, open-ok}
 
 -- the launch is reported and the Credit sent; then a cancel at 20, and the tick at 20 + 10 + 5
 abbrev pub before : List Call
@@ -40,14 +37,7 @@ answers = Call.Says (Call.Credit 8)
     ∷ Call.Says Call.InputClosed
     ∷ Call.Says (Call.End Stdout)
     ∷ Call.Says (Call.End Stderr)
-    ∷ Call.Says (Call.Terminal (record {
-      status = MaybeStatus.None;
-      cause = MaybeCause.Some Cause.Cancelled;
-      «launch_failure» = MaybeLaunchFailure.None;
-      «stdout_truncated» = true;
-      «stderr_truncated» = true;
-      reusable = false;
-    }))
+    ∷ Call.Says (Call.Terminal cutShort)
     ∷ []
 
 computed : (bytes lengths : List ℕ) → answersOf (run (begun conf 0 bytes lengths) (before ++ (four ++ (message ∷ [])))) ≡ answers

@@ -1,13 +1,12 @@
--- After an Applied cancel: what holds until give-up, what holds after it, and how many messages are left.
-use mathlib.Core.Bool.{Bool, true, false, cond, not, _&&_, _||_, true≢false, false≢true}
+-- Every call keeps the phase that an Applied cancel begins, and after give-up lets the messages left be no more.
+use mathlib.Core.Bool.{Bool, true, false, cond, true≢false}
 use mathlib.Core.Path.{_≡_, refl, sym, _∙_, subst⁻¹}
 use mathlib.Core.List.{[], _∷_}
-use Prim.Native.Nat.{ℕ, _+_, _-_, _≤_}
+use Prim.Native.Nat.{ℕ, _≤_}
 use native.Mathlib.Omega.{arith}
-use native.Mathlib.Nat.{le-refl, add-zero}
+use native.Mathlib.Nat.{le-refl}
 use lib.Dec.{ltb}
 use lib.ListN.{length}
-use borrow.Author.Tests.{ltb-false, le-ltb}
 use Rattle.exec.specs.declared.Admission.{Admission}
 use Rattle.exec.specs.declared.Admission.the-variants as Admission
 use Rattle.exec.specs.declared.Cause.{Cause}
@@ -19,26 +18,22 @@ use Rattle.runner.specs.declared.answer.Request.{Request}
 use Rattle.runner.specs.declared.answer.Request.the-variants as Request
 use Rattle.runner.specs.declared.message.Wish.{Wish}
 use Rattle.runner.specs.declared.message.Wish.the-variants as Wish
-use Rattle.exec.specs.declared.Settlement.{Settlement}
 use Rattle.exec.specs.declared.Stream.{Stream}
 use Rattle.exec.specs.declared.Stream.the-variants.{Stdout, Stderr}
 use Rattle.runner.specs.declared.message.Choice.{Choice}
 use Rattle.runner.specs.declared.message.Choice.the-variants as Choice
 use Rattle.stdio.specs.declared.input.Input.{Input}
 use Rattle.stdio.specs.declared.output.Output.{Output}
-use Rattle.lifecycle.specs.declared.life.Settling.{Settling}
-use Rattle.lifecycle.specs.declared.life.Settling.the-variants as Settling
 use Rattle.runner.specs.declared.runner.Runner.{Runner}
 use Rattle.exec.specs.declared.Deadline.{Deadline}
 use Rattle.exec.specs.declared.Deadline.the-variants.{Never}
 use Rattle.exec.specs.Time.{earliest, due}
 use Rattle.exec.specs.Key.{admits}
-use Rattle.lifecycle.specs.Life.{launchKnown, exitKnown, isFenced, isSettled, expired, settleWith}
-use Rattle.lifecycle.specs.Setters.{setTimeoutAt, setSettling}
-use Rattle.stdio.specs.Input as In
-use Rattle.stdio.specs.Input.{closeInput, closeWhenTaken, peerEnds, popIn, endInput, receiveInput, writtenInput}
-use Rattle.stdio.specs.Output.{closedOut, failedOut, hungUp, lostOut, endedOut, askedOut, sentOut, keeps, intake}
-use Rattle.runner.specs.State.{withClocks, withLife, withInput, withOutputs, withFlow, out0, out1, at}
+use Rattle.lifecycle.specs.Life.{exitKnown, isFenced}
+use Rattle.lifecycle.specs.Setters.{setTimeoutAt}
+use Rattle.stdio.specs.Input.{closeInput, closeWhenTaken, popIn, endInput, receiveInput, writtenInput}
+use Rattle.stdio.specs.Output.{closedOut, failedOut, hungUp, lostOut, endedOut, askedOut, sentOut}
+use Rattle.runner.specs.State.{withClocks, withInput, withOutputs, withFlow, out0, out1, at}
 use Rattle.runner.specs.Life as Life
 use Rattle.runner.specs.Life.{awaitsLaunch, isCleanedUp, closeRunnerInput, endGrace, giveUp, abandonLaunch, abandonOpenStreams, terminate, dropLaunch, ticked, noteStarted, noteLaunch, launchedNext, settledNext, noteExit, noteExitOnce, exitedNext, detached, giveUpSoon, cutOff, cutOffOnce, detachNext}
 use Rattle.runner.specs.Streams.{room, outputFilled, outputNext, discardedNext, closedNext, failedNext, hungUpNext, creditNext, isTaken, inputReceived, inputNext, endNext, writtenNext}
@@ -47,175 +42,10 @@ use Rattle.account.specs.Call as Call
 use Rattle.account.specs.Call.{Call}
 use Rattle.account.specs.Step.{State}
 use Rattle.account.proofs.Plain.{next}
-use Rattle.account.proofs.Stages.{graceIf, terminateIf, timeoutIf, giveUpIf, dropLaunchIf, abandonStreamsIf, abandonIf, stage1, stage2, stage3, stage4, stage5, tickIf, tick-is, cancelIf, late, detachedNow, detachIf, exitedIf, launchedIf, cancelNext, over}
-use Rattle.account.proofs.Streams.{or-left, blocked-by, wider}
-use Rattle.account.proofs.Lives.{given-exit}
-
-pub and-l : (a b : Bool) → (a && b) ≡ true → a ≡ true
-and-l true b e = refl
-and-l false b e = e
-
-pub and-r : (a b : Bool) → (a && b) ≡ true → b ≡ true
-and-r true b e = e
-and-r false b e = absurd (false≢true e)
-
-pub not-true : (b : Bool) → not b ≡ true → b ≡ false
-not-true true e = sym e
-not-true false e = refl
-
-pub data Either (A B : Type 0) : Type 0 where
-  left : A → Either A B
-  right : B → Either A B
-
--- a stream that holds nothing and will hold nothing
-pub record Drained (k : ℕ) (closed discarding : Bool) : Type 0 where
-  pub none : ltb 0 k ≡ false
-  pub stop : (closed || discarding) ≡ true
-
-abbrev pub Dry : Runner → Type 0
-Dry s = Drained ((out0 s) .queued) ((out0 s) .closed) ((out0 s) .discarding) × Drained ((out1 s) .queued) ((out1 s) .closed) ((out1 s) .discarding)
-
--- nothing is waited for any more
-pub record Known (aw ex c0 c1 ov : Bool) : Type 0 where
-  pub launch : aw ≡ false
-  pub exit : ex ≡ true
-  pub closed0 : c0 ≡ true
-  pub closed1 : c1 ≡ true
-  pub settled : ov ≡ true
-
-abbrev pub AllKnown : Runner → Type 0
-AllKnown s = Known (awaitsLaunch s) (exitKnown (s .life .exit)) ((out0 s) .closed) ((out1 s) .closed) (over (s .life .settling))
-
--- The phase: the input is closed, the termination begun, and each of the two deadlines stands as P says or has done its work.
--- With P d = "d is a time at or before the sum" this is the phase before give-up, with P d = ⊥ the phase after it.
-abbrev pub Phase : (Deadline → Type 0) → Runner → Type 0
-Phase P s = (s .input .closed ≡ true) × (s .clocks .terminated ≡ true) × Either (P (s .clocks .«grace_until»)) (Dry s) × Either (P (s .clocks .«give_up_at»)) (AllKnown s)
-
-abbrev pub bit : Bool → ℕ
-bit true = 1
-bit false = 0
-
--- the messages that may still come before Terminal
-abbrev pub left-over : Runner → ℕ
-left-over s = bit (s .flags .«started_message») + bit (s .input .«closed_message») + bit (not ((out0 s) .ended)) + bit (not ((out1 s) .ended))
-
-over-overdue : (now : ℕ) (x : Settling) → over x ≡ true → over (expired x now) ≡ true
-over-overdue now Settling.Idle e = e
-over-overdue now (Settling.Requested d) e = absurd (false≢true e)
-over-overdue now Settling.Settled e = e
-over-overdue now Settling.Fenced e = e
-
-settled-over : (x : Settling) → isSettled x ≡ true → over x ≡ true
-settled-over Settling.Idle e = e
-settled-over (Settling.Requested d) e = e
-settled-over Settling.Settled e = e
-settled-over Settling.Fenced e = refl
-
-reported-over : (x : Settling) (y : Settlement) → over x ≡ true → over (settleWith x y) ≡ true
-reported-over Settling.Idle y e = e
-reported-over (Settling.Requested d) y e = absurd (false≢true e)
-reported-over Settling.Settled y e = e
-reported-over Settling.Fenced y e = e
-
-no-wait : (a b c : Bool) → a ≡ true → (not a && b && c) ≡ false
-no-wait true b c e = refl
-no-wait false b c e = absurd (false≢true e)
-
-and-none : (a b : Bool) → (a && false && b) ≡ false
-and-none true b = refl
-and-none false b = refl
-
-pub cleaned-known : (s : Runner) → isCleanedUp s ≡ true → AllKnown s
-cleaned-known s e =
-    let l = launchKnown (s .life .launch) in let x = exitKnown (s .life .exit) in let c0 = out0 s .closed in let c1 = out1 s .closed in let t = isSettled (s .life .settling) in
-    let e4 = and-l (l && x && (c0 && c1)) t e in let e3 = and-r (l && x) (c0 && c1) e4 in let e2 = and-l (l && x) (c0 && c1) e4 in
-    record {
-      launch = no-wait l (not (s .flags .«gave_up»)) (not (s .flags .«launch_abandoned»)) (and-l l x e2);
-      exit = and-r l x e2;
-      closed0 = and-l c0 c1 e3;
-      closed1 = and-r c0 c1 e3;
-      settled = settled-over (s .life .settling) (and-r (l && x && (c0 && c1)) t e);
-    }
-
-pub known-given : (s : Runner) → AllKnown (giveUp s)
-unfolding giveUp
-known-given s = record { launch = and-none (not (launchKnown (s .life .launch))) (not (s .flags .«launch_abandoned»)); exit = given-exit (s .life .exit); closed0 = refl; closed1 = refl; settled = refl }
-
-dry-given : {d0 d1 : Bool} → Drained 0 true d0 × Drained 0 true d1
-dry-given = (record { none = refl; stop = refl }, record { none = refl; stop = refl })
-
-known-left-if : (b : Bool) (s : Runner) → awaitsLaunch s ≡ b → AllKnown s → AllKnown (dropLaunchIf b s)
-known-left-if true s e d = absurd (true≢false (sym e ∙ d .launch))
-known-left-if false s e d = d
-
-known-left : (s : Runner) → AllKnown s → AllKnown (dropLaunch s)
-unfolding dropLaunch
-known-left s d = known-left-if (awaitsLaunch s) s refl d
-
--- what a change of the input, and of an output, must keep
-abbrev InKept : Input → Input → Type 0
-InKept i j = (j .closed ≡ true) × (j .«closed_message» ≡ i .«closed_message»)
-
-record OutKept (o p : Output) : Type 0 where
-  drained : Drained (o .queued) (o .closed) (o .discarding) → Drained (p .queued) (p .closed) (p .discarding)
-  closed : o .closed ≡ true → p .closed ≡ true
-  msg : bit (not (p .ended)) ≤ bit (not (o .ended))
-
-kept-asked : (o : Output) → OutKept o (askedOut o)
-kept-asked o = record { drained = λ d. d; closed = λ e. e; msg = le-refl (bit (not (o .ended))) }
-
-kept-end : (o : Output) → OutKept o (endedOut o)
-kept-end o = record { drained = λ d. d; closed = λ e. e; msg = omega arith }
-
-fewer : (k n : ℕ) → ltb 0 k ≡ false → ltb 0 (k - n) ≡ false
-fewer k n e = let l = ltb-false 0 k e in le-ltb 0 (k - n) (omega arith)
-
-kept-send : (c n : ℕ) (o : Output) → OutKept o (sentOut c n o)
-kept-send c n o = record { drained = λ d. record { none = fewer (o .queued) n (d .none); stop = d .stop }; closed = λ e. e; msg = le-refl (bit (not (o .ended))) }
-
-kept-discard : (b : Bool) (o : Output) → OutKept o (lostOut b o)
-kept-discard b o = record { drained = λ d. d; closed = λ e. e; msg = le-refl (bit (not (o .ended))) }
-
-kept-close : (o : Output) → OutKept o (closedOut o)
-kept-close o = record { drained = λ d. record { none = d .none; stop = refl }; closed = λ e. refl; msg = le-refl (bit (not (o .ended))) }
-
-kept-fail : (o : Output) → OutKept o (failedOut o)
-kept-fail o = record { drained = λ d. record { none = d .none; stop = refl }; closed = λ e. refl; msg = le-refl (bit (not (o .ended))) }
-
-kept-hang : (o : Output) → OutKept o (hungUp o)
-kept-hang o = record { drained = λ d. d; closed = λ e. e; msg = le-refl (bit (not (o .ended))) }
-
-intake-none : (c g d : Bool) (room n : ℕ) → (c || d) ≡ true → keeps (c || g) d room n ≡ 0
-intake-none true g d room n e = refl
-intake-none false true d room n e = refl
-intake-none false false true room n e = refl
-intake-none false false false room n e = absurd (false≢true e)
-
-kept-intake : (g : Bool) (room n : ℕ) (o : Output) → OutKept o (intake (o .closed || g) (o .discarding) room n o)
-kept-intake g room n o = record {
-  drained = λ d. record { none = rw (intake-none (o .closed) g (o .discarding) room n (d .stop), add-zero) (d .none); stop = d .stop };
-  closed = λ e. e;
-  msg = le-refl (bit (not (o .ended)));
-}
-
-kept-if : (b : Bool) (i j k : Input) → InKept i j → InKept i k → InKept i (cond b j k)
-kept-if true i j k p q = p
-kept-if false i j k p q = q
-
-or-right : (a b : Bool) → b ≡ true → (a || b) ≡ true
-or-right true b e = refl
-or-right false b e = e
-
-kept-taken : (i j : Input) → j .closed ≡ true → j .«closed_message» ≡ i .«closed_message» → InKept i (closeWhenTaken j)
-kept-taken i j e m = (or-right (In.isTaken j) (j .closed) e, m)
-
-kept-ended : (i : Input) → i .closed ≡ true → InKept i (endInput i)
-unfolding endInput
-kept-ended i e = kept-if (i .«peer_ended») i i (closeWhenTaken (peerEnds i)) (e, refl) (kept-taken i (peerEnds i) e refl)
-
-kept-written : (b : Bool) (i j : Input) → i .closed ≡ b → i .closed ≡ true → InKept i (cond b i j)
-kept-written true i j f e = (e, refl)
-kept-written false i j f e = absurd (true≢false (sym e ∙ f))
+use Rattle.account.proofs.Stages.{graceIf, terminateIf, timeoutIf, giveUpIf, dropLaunchIf, abandonStreamsIf, abandonIf, stage1, stage2, stage3, stage4, stage5, tickIf, tick-is, cancelIf, late, detachedNow, detachIf, exitedIf, launchedIf, cancelNext}
+use Rattle.account.proofs.Streams.{blocked-by, wider}
+use Rattle.account.proofs.Flags.{or-left}
+use Rattle.account.proofs.Phase.{Either, left, right, AllKnown, Phase, left-over, over-overdue, reported-over, cleaned-known, known-given, dry-given, InKept, OutKept, kept-asked, kept-end, kept-send, kept-discard, kept-close, kept-fail, kept-hang, kept-intake, kept-if, kept-ended, kept-written, left, right, on-right, not-right}
 
 module _ (P : Deadline → Type 0) (lower : (d e : Deadline) → P d → P (earliest d e)) where
   pub record Low (s t : Runner) : Type 0 where
@@ -245,11 +75,10 @@ module _ (P : Deadline → Type 0) (lower : (d e : Deadline) → P d → P (earl
   low-timeout true now s h = then (record { hold = h; less = λ n. le-refl (left-over s) }) (low-terminate now Cause.TimedOut (withClocks (setTimeoutAt Never (s .clocks)) s))
 
   pub low-settle : (now : ℕ) (s : Runner) → Phase P s → Low s (stage3 now s)
-  low-settle now s h = record { hold = (h .0, h .1, h .2, go (h .3)); less = λ n. le-refl (left-over s) }
-    where
-      go : Either (P (s .clocks .«give_up_at»)) (AllKnown s) → Either (P (s .clocks .«give_up_at»)) (AllKnown (stage3 now s))
-      go (left p) = left p
-      go (right d) = right (record { launch = d .launch; exit = d .exit; closed0 = d .closed0; closed1 = d .closed1; settled = over-overdue now (s .life .settling) (d .settled) })
+  low-settle now s h = record {
+    hold = (h .0, h .1, h .2, on-right (λ d. record { launch = d .launch; exit = d .exit; closed0 = d .closed0; closed1 = d .closed1; settled = over-overdue now (s .life .settling) (d .settled) }) (h .3));
+    less = λ n. le-refl (left-over s);
+  }
 
   low-giveUp : (b c : Bool) (s : Runner) → isCleanedUp s ≡ c → Phase P s → Low s (giveUpIf b c s)
   unfolding giveUp
@@ -259,11 +88,7 @@ module _ (P : Deadline → Type 0) (lower : (d e : Deadline) → P d → P (earl
 
   low-left-if : (b : Bool) (s : Runner) → awaitsLaunch s ≡ b → Phase P s → Low s (dropLaunchIf b s)
   unfolding abandonLaunch
-  low-left-if true s e h = record { hold = (h .0, h .1, h .2, go (h .3)); less = λ n. le-refl (left-over s) }
-    where
-      go : {B : Type 0} → Either (P (s .clocks .«give_up_at»)) (AllKnown s) → Either (P (s .clocks .«give_up_at»)) B
-      go (left p) = left p
-      go (right d) = absurd (true≢false (sym e ∙ d .launch))
+  low-left-if true s e h = record { hold = (h .0, h .1, h .2, not-right (λ d. true≢false (sym e ∙ d .launch)) (h .3)); less = λ n. le-refl (left-over s) }
   low-left-if false s e h = same h
 
   low-left : (s : Runner) → Phase P s → Low s (dropLaunch s)
@@ -273,18 +98,18 @@ module _ (P : Deadline → Type 0) (lower : (d e : Deadline) → P d → P (earl
   low-streams : (b : Bool) (s : Runner) → Phase P s → Low s (abandonStreamsIf b s)
   unfolding abandonOpenStreams
   low-streams false s h = same h
-  low-streams true s h = record { hold = (h .0, h .1, dry (h .2), known (h .3)); less = λ n. le-refl (left-over s) }
-    where
-      dry : Either (P (s .clocks .«grace_until»)) (Dry s) → Either (P (s .clocks .«grace_until»)) (Dry (abandonStreamsIf true s))
-      dry (left p) = left p
-      dry (right d) = right (
+  low-streams true s h = record {
+    hold = (
+      h .0,
+      h .1,
+      on-right (λ d. (
         record { none = d .0 .none; stop = wider ((out0 s) .closed) ((out0 s) .«hung_up») ((out0 s) .discarding) (d .0 .stop) },
         record { none = d .1 .none; stop = wider ((out1 s) .closed) ((out1 s) .«hung_up») ((out1 s) .discarding) (d .1 .stop) },
-      )
-
-      known : Either (P (s .clocks .«give_up_at»)) (AllKnown s) → Either (P (s .clocks .«give_up_at»)) (AllKnown (abandonStreamsIf true s))
-      known (left p) = left p
-      known (right d) = right (record { launch = d .launch; exit = d .exit; closed0 = or-left ((out0 s) .closed) _ (d .closed0); closed1 = or-left ((out1 s) .closed) _ (d .closed1); settled = d .settled })
+      )) (h .2),
+      on-right (λ d. record { launch = d .launch; exit = d .exit; closed0 = or-left ((out0 s) .closed) _ (d .closed0); closed1 = or-left ((out1 s) .closed) _ (d .closed1); settled = d .settled }) (h .3),
+    );
+    less = λ n. le-refl (left-over s);
+  }
 
   pub low-abandon : (b : Bool) (s : Runner) → Phase P s → Low s (abandonIf b s)
   low-abandon false s h = same h
@@ -351,11 +176,7 @@ module _ (P : Deadline → Type 0) (lower : (d e : Deadline) → P d → P (earl
   low-exitedIf true g now x s e h = same h
   low-exitedIf false true now x s e h = same h
   low-exitedIf false false now x s e h =
-      record { hold = (rw (closed-in s (h .0)) (h .0), h .1, h .2, go (h .3)); less = λ n. rw (closed-in s (h .0)) (le-refl (left-over s)) }
-    where
-      go : {B : Type 0} → Either (P (s .clocks .«give_up_at»)) (AllKnown s) → Either (P (s .clocks .«give_up_at»)) B
-      go (left p) = left p
-      go (right d) = absurd (true≢false (sym (d .exit) ∙ e))
+      record { hold = (rw (closed-in s (h .0)) (h .0), h .1, h .2, not-right (λ d. true≢false (sym (d .exit) ∙ e)) (h .3)); less = λ n. rw (closed-in s (h .0)) (le-refl (left-over s)) }
 
   low-exited : (now : ℕ) (x : MaybeStatus) (s : Runner) → Phase P s → Low s (exitedNext s now x)
   unfolding exitedNext noteExitOnce
@@ -367,21 +188,13 @@ module _ (P : Deadline → Type 0) (lower : (d e : Deadline) → P d → P (earl
   low-launchedIf : (b : Bool) (x : LaunchResult) (s : Runner) → awaitsLaunch s ≡ b → Phase P s → Low s (launchedIf b x s)
   unfolding noteLaunch noteStarted closeRunnerInput
   low-launchedIf false x s e h = same h
-  low-launchedIf true LaunchResult.Started s e h = record { hold = (h .0, h .1, h .2, go (h .3)); less = λ n. none-left n (h .3) }
+  low-launchedIf true LaunchResult.Started s e h = record { hold = (h .0, h .1, h .2, not-right (λ d. true≢false (sym e ∙ d .launch)) (h .3)); less = λ n. none-left n (h .3) }
     where
-      go : {B : Type 0} → Either (P (s .clocks .«give_up_at»)) (AllKnown s) → Either (P (s .clocks .«give_up_at»)) B
-      go (left p) = left p
-      go (right d) = absurd (true≢false (sym e ∙ d .launch))
-
       none-left : {B : Type 0} → ((d : Deadline) → P d → ⊥) → Either (P (s .clocks .«give_up_at»)) (AllKnown s) → B
       none-left n (left p) = absurd (n _ p)
       none-left n (right d) = absurd (true≢false (sym e ∙ d .launch))
   low-launchedIf true (LaunchResult.Failed x) s e h =
-      record { hold = (rw (closed-in s (h .0)) (h .0), h .1, h .2, go (h .3)); less = λ n. rw (closed-in s (h .0)) (le-refl (left-over s)) }
-    where
-      go : {B : Type 0} → Either (P (s .clocks .«give_up_at»)) (AllKnown s) → Either (P (s .clocks .«give_up_at»)) B
-      go (left p) = left p
-      go (right d) = absurd (true≢false (sym e ∙ d .launch))
+      record { hold = (rw (closed-in s (h .0)) (h .0), h .1, h .2, not-right (λ d. true≢false (sym e ∙ d .launch)) (h .3)); less = λ n. rw (closed-in s (h .0)) (le-refl (left-over s)) }
 
   -- the input: closed it stays, and its message stays or goes
   low-input : (s : Runner) (j : Input) → InKept (s .input) j → Phase P s → Low s (withInput j s)
@@ -389,26 +202,26 @@ module _ (P : Deadline → Type 0) (lower : (d e : Deadline) → P d → P (earl
 
   -- one output changed: what it must keep
   low-out0 : (s : Runner) (o : Output) → OutKept (out0 s) o → Phase P s → Low s (withOutputs (o ∷ out1 s ∷ []) s)
-  low-out0 s o k h = record { hold = (h .0, h .1, dry (h .2), known (h .3)); less = λ n. (let z = k .msg in omega arith) }
-    where
-      dry : Either (P (s .clocks .«grace_until»)) (Dry s) → Either (P (s .clocks .«grace_until»)) (Dry (withOutputs (o ∷ out1 s ∷ []) s))
-      dry (left p) = left p
-      dry (right d) = right (k .drained (d .0), d .1)
-
-      known : Either (P (s .clocks .«give_up_at»)) (AllKnown s) → Either (P (s .clocks .«give_up_at»)) (AllKnown (withOutputs (o ∷ out1 s ∷ []) s))
-      known (left p) = left p
-      known (right d) = right (record { launch = d .launch; exit = d .exit; closed0 = k .closed (d .closed0); closed1 = d .closed1; settled = d .settled })
+  low-out0 s o k h = record {
+    hold = (
+      h .0,
+      h .1,
+      on-right (λ d. (k .drained (d .0), d .1)) (h .2),
+      on-right (λ d. record { launch = d .launch; exit = d .exit; closed0 = k .closed (d .closed0); closed1 = d .closed1; settled = d .settled }) (h .3),
+    );
+    less = λ n. (let z = k .msg in omega arith);
+  }
 
   low-out1 : (s : Runner) (o : Output) → OutKept (out1 s) o → Phase P s → Low s (withOutputs (out0 s ∷ o ∷ []) s)
-  low-out1 s o k h = record { hold = (h .0, h .1, dry (h .2), known (h .3)); less = λ n. (let z = k .msg in omega arith) }
-    where
-      dry : Either (P (s .clocks .«grace_until»)) (Dry s) → Either (P (s .clocks .«grace_until»)) (Dry (withOutputs (out0 s ∷ o ∷ []) s))
-      dry (left p) = left p
-      dry (right d) = right (d .0, k .drained (d .1))
-
-      known : Either (P (s .clocks .«give_up_at»)) (AllKnown s) → Either (P (s .clocks .«give_up_at»)) (AllKnown (withOutputs (out0 s ∷ o ∷ []) s))
-      known (left p) = left p
-      known (right d) = right (record { launch = d .launch; exit = d .exit; closed0 = d .closed0; closed1 = k .closed (d .closed1); settled = d .settled })
+  low-out1 s o k h = record {
+    hold = (
+      h .0,
+      h .1,
+      on-right (λ d. (d .0, k .drained (d .1))) (h .2),
+      on-right (λ d. record { launch = d .launch; exit = d .exit; closed0 = d .closed0; closed1 = k .closed (d .closed1); settled = d .settled }) (h .3),
+    );
+    less = λ n. (let z = k .msg in omega arith);
+  }
 
   low-at : (x : Stream) (f : Output → Output) (s : Runner) → ((o : Output) → OutKept o (f o)) → Phase P s → Low s (at x f s)
   low-at Stdout f s k h = low-out0 s (f (out0 s)) (k (out0 s)) h
@@ -482,11 +295,10 @@ module _ (P : Deadline → Type 0) (lower : (d e : Deadline) → P d → P (earl
       low-input r _ (kept-written (r .input .closed) (r .input) (closeWhenTaken (popIn (r .limits) n (s .lengths) (r .input))) refl (h .0)) h
   low-next Call.inputClosed s h = low-close (s .runner) h
   low-next (Call.exited now x) s h = low-exited now x (s .runner) h
-  low-next (Call.settled x) s h = record { hold = (h .0, h .1, h .2, go (h .3)); less = λ n. le-refl (left-over (s .runner)) }
-    where
-      go : Either (P (s .runner .clocks .«give_up_at»)) (AllKnown (s .runner)) → Either (P (s .runner .clocks .«give_up_at»)) (AllKnown (withLife (setSettling (settleWith (s .runner .life .settling) x) (s .runner .life)) (s .runner)))
-      go (left p) = left p
-      go (right d) = right (record { launch = d .launch; exit = d .exit; closed0 = d .closed0; closed1 = d .closed1; settled = reported-over (s .runner .life .settling) x (d .settled) })
+  low-next (Call.settled x) s h = record {
+    hold = (h .0, h .1, h .2, on-right (λ d. record { launch = d .launch; exit = d .exit; closed0 = d .closed0; closed1 = d .closed1; settled = reported-over (s .runner .life .settling) x (d .settled) }) (h .3));
+    less = λ n. le-refl (left-over (s .runner));
+  }
   low-next (Call.dropped now) s h = low-detach now Cause.Dropped (s .runner) h
   low-next (Call.reset now) s h = low-detach now Cause.Reset (s .runner) h
   low-next (Call.disconnect now) s h = low-detach now Cause.Disconnected (s .runner) h

@@ -1,5 +1,5 @@
 -- The units of the input's window are never made up and never vanish.
-use mathlib.Core.Bool.{Bool, true, false, cond, not, _&&_, _||_}
+use mathlib.Core.Bool.{Bool, true, false, cond, not, _&&_, _||_, and-true, not-and-self}
 use mathlib.Core.Path.{_≡_, sym, refl, ap, _∙_, subst, subst⁻¹}
 use mathlib.Core.List.{List, [], _∷_}
 use Prim.Native.Nat.{ℕ, _+_, _-_, _≤_, min}
@@ -11,8 +11,6 @@ use Rattle.exec.specs.declared.Cause.the-variants.{Dropped, Reset, Disconnected
 use Rattle.exec.specs.declared.Limits.{Limits}
 use Rattle.exec.specs.declared.Unit as Kinds
 use Rattle.exec.specs.declared.Unit.the-variants.{Bytes, Frames}
-use Rattle.exec.specs.declared.Receipt.the-variants.{Applied, Late}
-use Rattle.exec.specs.declared.Received.the-variants.{Receipt, Refused}
 use Rattle.exec.specs.Key.{admits}
 use Rattle.exec.specs.Limits.{cost}
 use Rattle.ring.specs.FrameLaws.{pop-most}
@@ -37,10 +35,11 @@ use Rattle.account.specs.Step as Step
 use Rattle.account.specs.Step.{State, receivedAs}
 use Rattle.account.specs.Units.{unitsIn, isLate, lateCost, cleared, lostBy, lost, Units}
 use Rattle.account.proofs.Plain.{next, answer, begun}
-use Rattle.account.proofs.Range.{HeldIn, paid, lent}
+use Rattle.account.proofs.Range.{lent}
 use Rattle.account.proofs.Finish.{framed, framed-conf, fin-stays, ends, ends-by, ends-fin}
 use Rattle.account.proofs.Demand.{Fine, fine-next, next-same, answer-same, fine-open, opens-by, open-same}
 use Rattle.account.proofs.InputMoves.{Moves, same, shut, Keeps, close, ticks, launches, exits, detaches, cancels}
+use Rattle.account.proofs.InputRange.{HeldIn, paid}
 
 -- ---- what a move loses
 
@@ -48,17 +47,9 @@ none-held : (u : Kinds.Unit) → inboxHeld u newInbox ≡ 0
 none-held Bytes = refl
 none-held Frames = refl
 
-and-true : (b : Bool) → (b && true) ≡ b
-and-true true = refl
-and-true false = refl
-
-not-and : (b : Bool) → (not b && b) ≡ false
-not-and true = refl
-not-and false = refl
-
 moved-units : (l : Limits) (i i′ : Input) → Moves i i′
     → unitsIn l i′ + cond (not (i .closed) && i′ .closed) (inboxHeld (l .input .unit) (i .inbox)) 0 ≡ unitsIn l i
-moved-units l i i′ (same a b c) = rw (a, b, c, not-and (i .closed)) (omega arith)
+moved-units l i i′ (same a b c) = rw (a, b, c, not-and-self (i .closed)) (omega arith)
 moved-units l i i′ (shut a b c d) = rw (a, b, c, d, none-held (l .input .unit)) (omega arith)
 
 -- ---- bytes from the peer
@@ -78,12 +69,8 @@ receive-by l i n true false ep ec =
     rw (ep, ec, pushed-held (l .input .unit) n (i .inbox)) (omega (arith, paid l i n ep .enough))
 
 -- an answer is Late exactly then
-late-by : (closed : Bool) → isLate (receivedAs (cond closed (Receipt Late) (Receipt Applied))) ≡ closed
-late-by true = refl
-late-by false = refl
-
 late-is : (l : Limits) (i : Input) (n : ℕ) → isLate (receivedAs (receiveAnswer l i n)) ≡ (isPaid l i n && i .closed)
-late-is l i n = asked-of (λ x. isLate (receivedAs x)) (λ x. refl) l i n (i .closed) (late-by (i .closed))
+late-is l i n = asked-of (λ x. isLate (receivedAs x)) (λ x. refl) (λ closed. closed) refl refl l i n
 
 received-units : (a : Admission) (r : Runner) (n : ℕ) (f : Bool) → r .flags .finished ≡ f
     → unitsIn (r .limits) (inputNext a r n .input) + lateCost f (r .limits) n (receivedAs (inputAnswer a r n)) ≡ unitsIn (r .limits) (r .input)

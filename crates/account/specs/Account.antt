@@ -2,7 +2,7 @@
 -- arguments of open and of the calls, by 01's Time; nothing here reads a runner, and this file knows none.
 use mathlib.Core.Bool.{Bool, true, false, cond, not, _&&_, _||_}
 use mathlib.Core.List.{List, [], _∷_, _++_}
-use Prim.Native.Nat.{ℕ, _+_}
+use Prim.Native.Nat.{ℕ}
 use lib.Dec.{ltb}
 use lib.ListN.{length, take}
 use Rattle.exec.specs.declared.Admission.{Admission}

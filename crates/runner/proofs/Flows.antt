@@ -1,11 +1,10 @@
 -- Bytes and credit through the runner: output, grants and input, from what the calls on the parts ensure.
-use mathlib.Core.Path.{_≡_, refl, sym, ap, _∙_}
-use mathlib.Core.Bool.{Bool, true, false, cond, not, _&&_, _||_}
+use mathlib.Core.Path.{_≡_, refl, ap, _∙_}
+use mathlib.Core.Bool.{Bool, true, false, cond, not}
 use Prim.Native.Nat.{ℕ, _+_, _-_, _≤_, _<_, _^_, max}
 use native.Mathlib.Omega.{arith}
 use mathlib.Core.List.{List}
 use lib.ListN.{length}
-use lib.Dec.{ltb}
 use borrow.Author.Tests.{ltb-false}
 use Rattle.exec.specs.declared.Admission.{Admission}
 use Rattle.exec.specs.declared.Admission.the-variants as Admission
@@ -19,7 +18,7 @@ use Rattle.exec.specs.declared.Reply.the-variants as Reply
 use Rattle.exec.specs.declared.Stream.{Stream}
 use Rattle.exec.specs.declared.Stream.the-variants.{Stdout, Stderr}
 use Rattle.exec.specs.declared.Limits.{Limits}
-use Rattle.exec.specs.Limits.{cost, offChunk, inputBytes as inboxBytes}
+use Rattle.exec.specs.Limits.{cost, inputBytes as inboxBytes}
 use Rattle.credit.specs.declared.sender.Credit.{Credit}
 use Rattle.credit.specs.declared.sender.Granting.{Granting}
 use Rattle.credit.specs.Need.{byteNeed}
@@ -100,12 +99,8 @@ module _ (r : Runner) (bytes store lengths : List ℕ) where
   received-stale = refl
 
 -- a message is Applied exactly where it is kept
-applied-by : (closed : Bool) → isApplied (cond closed (Receipt Late) (Receipt Applied)) ≡ not closed
-applied-by true = refl
-applied-by false = refl
-
 applied-kept : (l : Limits) (i : Input) (n : ℕ) → isApplied (In.receiveAnswer l i n) ≡ In.isKept l i n
-applied-kept l i n = In.asked-of isApplied (λ x. refl) l i n (not (i .closed)) (applied-by (i .closed))
+applied-kept l i n = In.asked-of isApplied (λ x. refl) not refl refl l i n
 
 -- the high water is noted where it was kept
 noted-by : (kept : Bool) (high held : ℕ) → cond (not kept) high held ≡ cond kept held high
@@ -133,18 +128,12 @@ received-own r bytes store lengths v dropped mark store′ lengths′ f e hd hm 
     )
 
 -- what is kept has room, so all that is held is within the need
-paid-by : (ended off unpaid closed : Bool) → (not ((ended || off) || unpaid) && not closed) ≡ true → (off ≡ false) × (unpaid ≡ false)
-paid-by true off unpaid closed h = (let z : _≡_ {A = ℕ} 0 1 = cc in absurd (omega arith), let z : _≡_ {A = ℕ} 0 1 = cc in absurd (omega arith))
-paid-by false true unpaid closed h = (sym h, let z : _≡_ {A = ℕ} 0 1 = cc in absurd (omega arith))
-paid-by false false true closed h = (refl, sym h)
-paid-by false false false closed h = (refl, refl)
-
 kept-length : (l : Limits) (i : Input) (n : ℕ) (b : Bool) → In.isKept l i n ≡ b → Inbox.InRange l (i .window) (i .inbox)
     → cond b (i .inbox .length + n) (i .inbox .length) ≤ inboxBytes l
 kept-length l i n false e h = h .most
 kept-length l i n true e h =
-    let p = paid-by (i .«peer_ended») (offChunk l n) (ltb (i .window .open) (cost (l .input .unit) n)) (i .closed) e in
-    Inbox.has-room l (i .window) (i .inbox) h n (chunk-fits l n (p .0)) (ltb-false (i .window .open) (cost (l .input .unit) n) (p .1))
+    let p = In.passed l i n (Inbox.both (In.isPaid l i n) (not (i .closed)) e .0) in
+    Inbox.has-room l (i .window) (i .inbox) h n (chunk-fits l n (p .chunk)) (ltb-false (i .window .open) (cost (l .input .unit) n) (p .window))
 
 length-of : (l : Limits) (i : Input) (n : ℕ) (b : Bool) → In.isKept l i n ≡ b → In.receiveInput l i n .inbox .length ≡ cond b (i .inbox .length + n) (i .inbox .length)
 unfolding In.receiveInput

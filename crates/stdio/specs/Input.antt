@@ -1,7 +1,7 @@
 -- The workload's input: what each call does to it and to the stores.
 use Prim.Native.Nat.{ℕ, _-_, _≤_, min}
-use mathlib.Core.Path.{_≡_}
-use mathlib.Core.Bool.{Bool, true, false, cond, not, _&&_, _||_}
+use mathlib.Core.Path.{_≡_, refl}
+use mathlib.Core.Bool.{Bool, true, false, cond, not, _&&_, _||_, false≢true}
 use mathlib.Core.List.{List, []}
 use lib.Dec.{ltb, eqb}
 use lib.ListN.{length}
@@ -97,24 +97,35 @@ pub record Paid (l : Limits) (i : Input) (n : ℕ) : Type 0 where
   pub chunk : offChunk l n ≡ false
   pub window : ltb (i .window .open) (cost (l .input .unit) n) ≡ false
 
+passed-by : (ended off unpaid : Bool) → not ((ended || off) || unpaid) ≡ true → (ended ≡ false) × (off ≡ false) × (unpaid ≡ false)
+passed-by true off unpaid e = absurd (false≢true e)
+passed-by false true unpaid e = absurd (false≢true e)
+passed-by false false true e = absurd (false≢true e)
+passed-by false false false e = (refl, refl, refl)
+
+pub passed : (l : Limits) (i : Input) (n : ℕ) → isPaid l i n ≡ true → Paid l i n
+passed l i n e =
+    let p = passed-by (i .«peer_ended») (offChunk l n) (ltb (i .window .open) (cost (l .input .unit) n)) e in
+    record { goes-on = p .0; chunk = p .1; window = p .2 }
+
 -- and kept
 abbrev pub isKept : Limits → Input → ℕ → Bool
 isKept l i n = isPaid l i n && not (i .closed)
 
--- a question that every refusal answers no: its answer is told by whether the input is closed, where the message is charged
-module _ (P : Received → Bool) (refused : (x : Refusal) → P (Refused x) ≡ false) where
-  asked-by : (ended off unpaid closed b : Bool) → P (cond closed (Receipt Late) (Receipt Applied)) ≡ b
+-- a question that every refusal answers no: where the message is charged, its answer is told by whether the input is closed
+module _ (P : Received → Bool) (refused : (x : Refusal) → P (Refused x) ≡ false) (told : Bool → Bool) (late : P (Receipt Late) ≡ told true) (applied : P (Receipt Applied) ≡ told false) where
+  asked-by : (ended off unpaid closed : Bool)
       → P (cond ended (Refused Refusal.Ended) (cond off (Refused Refusal.Chunk) (cond unpaid (Refused Refusal.Window) (cond closed (Receipt Late) (Receipt Applied)))))
-      ≡ (not ((ended || off) || unpaid) && b)
-  asked-by true off unpaid closed b e = refused Refusal.Ended
-  asked-by false true unpaid closed b e = refused Refusal.Chunk
-  asked-by false false true closed b e = refused Refusal.Window
-  asked-by false false false closed b e = e
+      ≡ (not ((ended || off) || unpaid) && told closed)
+  asked-by true off unpaid closed = refused Refusal.Ended
+  asked-by false true unpaid closed = refused Refusal.Chunk
+  asked-by false false true closed = refused Refusal.Window
+  asked-by false false false true = late
+  asked-by false false false false = applied
 
-  pub asked-of : (l : Limits) (i : Input) (n : ℕ) (b : Bool) → P (cond (i .closed) (Receipt Late) (Receipt Applied)) ≡ b
-      → P (receiveAnswer l i n) ≡ (isPaid l i n && b)
+  pub asked-of : (l : Limits) (i : Input) (n : ℕ) → P (receiveAnswer l i n) ≡ (isPaid l i n && told (i .closed))
   unfolding receiveAnswer
-  asked-of l i n b e = asked-by (i .«peer_ended») (offChunk l n) (ltb (i .window .open) (cost (l .input .unit) n)) (i .closed) b e
+  asked-of l i n = asked-by (i .«peer_ended») (offChunk l n) (ltb (i .window .open) (cost (l .input .unit) n)) (i .closed)
 
 unfoldable pub receiveInput : Limits → Input → ℕ → Input
 receiveInput l i n = record {

@@ -1,0 +1,41 @@
+-- Laws of flags that more than one of these files cites.
+use mathlib.Core.Bool.{Bool, true, false, _&&_, _||_, true≢false, false≢true, or-true}
+use mathlib.Core.Path.{_≡_, refl, sym}
+
+pub and-l : (a b : Bool) → (a && b) ≡ true → a ≡ true
+and-l true b e = refl
+and-l false b e = e
+
+pub and-r : (a b : Bool) → (a && b) ≡ true → b ≡ true
+and-r true b e = e
+and-r false b e = absurd (false≢true e)
+
+pub and-both : (a b : Bool) → a ≡ true → b ≡ true → (a && b) ≡ true
+and-both true b p q = q
+and-both false b p q = p
+
+-- five flags that all hold
+pub five : (a b c d e : Bool) → (a && b && (c && d) && e) ≡ true → (a ≡ true) × (b ≡ true) × (c ≡ true) × (d ≡ true) × (e ≡ true)
+five a b c d e h =
+    let h4 = and-l (a && b && (c && d)) e h in let h3 = and-r (a && b) (c && d) h4 in let h2 = and-l (a && b) (c && d) h4 in
+    (and-l a b h2, and-r a b h2, and-l c d h3, and-r c d h3, and-r (a && b && (c && d)) e h)
+
+pub or-left : (a b : Bool) → a ≡ true → (a || b) ≡ true
+or-left true b e = refl
+or-left false b e = absurd (false≢true e)
+
+pub or-right : (a b : Bool) → b ≡ true → (a || b) ≡ true
+or-right true b e = refl
+or-right false b e = e
+
+pub or-false-l : (a b : Bool) → (a || b) ≡ false → a ≡ false
+or-false-l true b e = e
+or-false-l false b e = refl
+
+pub or-false-r : (a b : Bool) → (a || b) ≡ false → b ≡ false
+or-false-r true b e = absurd (true≢false e)
+or-false-r false b e = e
+
+pub or-swap : (m a b : Bool) → (m || (a || b)) ≡ (a || (m || b))
+or-swap true a b = sym (or-true a)
+or-swap false a b = refl
