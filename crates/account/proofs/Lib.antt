@@ -23,3 +23,4 @@ pub mod Session
 pub mod Tight
 pub mod InputFifo
 pub mod Records
+pub mod Refused

@@ -8,7 +8,7 @@ use native.Mathlib.Omega.{arith}
 use lib.Dec.{leb, eqb}
 use lib.ListN.{length, take, drop, getD, length-append}
 use lib.Seq.{drop-at, length-take-le, take-append-le}
-use borrow.Author.Tests.{leb-true}
+use borrow.Author.Tests.{leb-true, eqb-true}
 use Rattle.exec.specs.declared.Cause.{Cause}
 use Rattle.exec.specs.declared.Key.{Key}
 use Rattle.exec.specs.declared.Pool.the-variants as Pool
@@ -47,6 +47,7 @@ use Rattle.account.specs.Account as Accounts
 use Rattle.account.specs.Account.{Account, account, tallyOf, cut, tickA}
 use Rattle.account.specs.Claim.{Demand3, Opens, IsPrefix, Silent, isMessage, isTerminal, anyTerminal, isStop, accountOf}
 use Rattle.account.specs.Records.{Entry, call, readRecord, writeRecord, nextEntry, readAs, wroteAs, answerEntry, afterEntries, runEntries, callOf, made, consCall, callsOf, consDone, donesOf, entryAccount, anyTerminalIn, SilentIn, Whole}
+use Rattle.account.specs.Refused.{among, ofRecords}
 use Rattle.account.proofs.Plain as Plain
 use Rattle.account.proofs.Guarded.{payload-length}
 use Rattle.account.proofs.Finish.{framed, framed-conf}
@@ -54,16 +55,16 @@ use Rattle.account.proofs.Lives.{confOf}
 use Rattle.account.proofs.Demand.{Fine, goes, fine-next, next-same, fine-open, open-same, opens-by, demand3}
 use Rattle.account.proofs.Range.{lent}
 
--- ---- a refusal of the record's own: no call was made, and the refusal is none of 10, 11 and 12
+-- ---- a refusal of the record's own, 13 or 20 to 25: no call was made
 
 pub record Unmade (before after : State) (a : Answer) : Type 0 where
   pub kept : after ≡ before
   pub refusal : ℕ
   pub answered : a ≡ Call.Refused refusal
-  pub own : isStop (Call.Refused refusal) ≡ false
+  pub own : among refusal ofRecords ≡ true
 
 -- what an entry does, by the call that it makes
-pub Does : Option Call → (s after : State) → Answer → Type 0
+unfoldable pub Does : Option Call → (s after : State) → Answer → Type 0
 Does none s after a = Unmade s after a
 Does (some c) s after a = (after ≡ Step.next s c) × (a ≡ Step.answer s c)
 
@@ -85,7 +86,7 @@ leaves x = record { runner = x .reading .runner; bytes = x .bytes; lengths = x .
 -- the reader's refusals are its own
 OwnRefusal : Parsed → Type 0
 OwnRefusal (Parsed.Read rec) = Unit
-OwnRefusal (Parsed.Refused x) = isStop (Call.Refused (number x)) ≡ false
+OwnRefusal (Parsed.Refused x) = among (number x) ofRecords ≡ true
 
 either : (b : Bool) (p q : Parsed) → OwnRefusal p → OwnRefusal q → OwnRefusal (cond b p q)
 either true p q hp hq = hp
@@ -117,11 +118,11 @@ parsed-does (Parsed.Read Record.Close) s now b h = (refl, noted-as (Calls.discon
 parsed-does (Parsed.Refused x) s now b h = record { kept = refl; refusal = number x; answered = refl; own = h }
 
 -- what is met before a record, for a runner in range with its stores
-admitted-so : (r : Runner) (stores : Bool) → isGood r stores ≡ true → admitted r stores ≡ cond (isChannel (r .limits)) Reply.Ok (Reply.Refused NotAChannel)
+pub admitted-so : (r : Runner) (stores : Bool) → isGood r stores ≡ true → admitted r stores ≡ cond (isChannel (r .limits)) Reply.Ok (Reply.Refused NotAChannel)
 unfolding admitted
 admitted-so r stores g = rw g refl
 
-read-by : (channels : Bool) (s : State) (now channel : ℕ) (b : List ℕ)
+pub read-by : (channels : Bool) (s : State) (now channel : ℕ) (b : List ℕ)
     → Does (cond channels (callOf (confOf (s .runner)) now b (read channel b)) none) s
     (leaves (admittedRead (cond channels Reply.Ok (Reply.Refused NotAChannel)) (s .runner) now channel b (s .bytes) (s .lengths)))
     (readAs (admittedRead (cond channels Reply.Ok (Reply.Refused NotAChannel)) (s .runner) now channel b (s .bytes) (s .lengths) .reading .answer))
@@ -183,7 +184,7 @@ sent-does s channel buffer g h =
       rw g (choice-told (choose (s .runner) (length part)) (s .runner) (s .bytes) part buffer channel (s .runner .limits .chunk) (hasEnded (s .runner)) h (λ x n e. payload-length s part x n g e)),
     )
 
-write-by : (channels room : Bool) (s : State) (channel : ℕ) (buffer : List ℕ) → isGood (s .runner) (bytesDo (s .runner .limits) (s .bytes)) ≡ true
+pub write-by : (channels room : Bool) (s : State) (channel : ℕ) (buffer : List ℕ) → isGood (s .runner) (bytesDo (s .runner .limits) (s .bytes)) ≡ true
     → leb (13 + s .runner .limits .chunk) (length buffer) ≡ room
     → Does (cond (channels && room) (some (Call.nextMessage (take (s .runner .limits .chunk) (drop 13 buffer)))) none) s
     (Step.onRunner (admittedWrite (cond channels Reply.Ok (Reply.Refused NotAChannel)) (s .runner) channel (s .bytes) buffer .writing .runner) s)
@@ -301,9 +302,28 @@ unmade-as : (m : Option Call) (s after : State) (a : Answer) → m ≡ none → 
 unfolding Does
 unmade-as m s after a e d = let u : Unmade s after a = rw e at d in (u .kept, (u .refusal, u .answered))
 
+-- the records' own refusals are none of 10, 11 and 12
+abbrev IsCalm : ℕ → Type 0
+IsCalm n = isStop (Call.Refused n) ≡ false
+
+abbrev AllCalm : List ℕ → Type 0
+AllCalm [] = Unit
+AllCalm (x ∷ xs) = IsCalm x × AllCalm xs
+
+calm-at : (b : Bool) (n x : ℕ) (rest : Bool) → eqb n x ≡ b → IsCalm x → (rest ≡ true → IsCalm n) → (b || rest) ≡ true → IsCalm n
+calm-at true n x rest q h behind e = ap (λ (m : ℕ). isStop (Call.Refused m)) (eqb-true n x q) ∙ h
+calm-at false n x rest q h behind e = behind e
+
+calm-in : (n : ℕ) (xs : List ℕ) → AllCalm xs → among n xs ≡ true → IsCalm n
+calm-in n [] h e = absurd (false≢true e)
+calm-in n (x ∷ xs) h e = calm-at (eqb n x) n x (among n xs) refl (h .0) (calm-in n xs (h .1)) e
+
+own-calm : (n : ℕ) → among n ofRecords ≡ true → IsCalm n
+own-calm n h = calm-in n ofRecords (refl, (refl, (refl, (refl, (refl, (refl, (refl, tt))))))) h
+
 ranged-by : (m : Option Call) (s after : State) (a : Answer) → Does m s after a → ((c : Call) → isStop (Step.answer s c) ≡ false) → isStop a ≡ false
 unfolding Does
-ranged-by none s after a d h = ap isStop (d .answered) ∙ d .own
+ranged-by none s after a d h = ap isStop (d .answered) ∙ own-calm (d .refusal) (d .own)
 ranged-by (some c) s after a d h = ap isStop (d .1) ∙ h c
 
 -- ---- the demand

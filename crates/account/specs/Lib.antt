@@ -7,3 +7,4 @@ pub mod Units
 pub mod LateClaim
 pub mod InputClaim
 pub mod Records
+pub mod Refused

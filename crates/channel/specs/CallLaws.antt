@@ -1,12 +1,13 @@
 -- Laws of the record calls: what their inner functions ask and give (a record that was read is whole, a message's bytes fit its
--- record), and that a record which was laid reads back.
-use mathlib.Core.Bool.{Bool, cond}
+-- record), that a record which was laid reads back, and that the buffer is kept where no message waits.
+use mathlib.Core.Bool.{Bool, true, false, cond}
 use mathlib.Core.List.{List, _++_}
-use mathlib.Core.Path.{_≡_, refl, ap, _∙_}
+use mathlib.Core.Path.{_≡_, refl, sym, ap, _∙_}
 use Prim.Native.Nat.{ℕ, _+_, _-_, _^_, _≤_, _<_}
 use native.Mathlib.Omega.{arith}
-use lib.ListN.{length, take, drop, length-append, length-drop}
-use lib.Seq.{take-all, take-at, length-take-le}
+use lib.Dec.{leb}
+use lib.ListN.{length, take, drop, length-append, length-drop, take-append-drop}
+use lib.Seq.{take-all, take-at, length-take-le, drop-drop}
 use Rattle.exec.specs.declared.Limits.{Limits}
 use Rattle.exec.specs.declared.Refusal.the-variants.{StoreShort, NotAChannel}
 use Rattle.exec.specs.declared.Reply.{Reply}
@@ -18,11 +19,18 @@ use Rattle.runner.specs.declared.answer.Message.{Message}
 use Rattle.runner.specs.declared.answer.Message.the-variants as Message
 use Rattle.runner.specs.declared.answer.Said.{Said}
 use Rattle.runner.specs.declared.answer.Said.the-variants as Said
+use Rattle.runner.specs.declared.message.Choice.{Choice}
+use Rattle.runner.specs.declared.message.Choice.the-variants as Choice
+use Rattle.runner.specs.declared.runner.Runner.{Runner}
+use Rattle.runner.specs.Calls as Calls
+use Rattle.runner.specs.Message.{choose, saidFor, bufferAfter}
+use Rattle.runner.specs.Range.{bytesDo, isGood}
 use Rattle.channel.specs.declared.calls.Sending.{Sending}
 use Rattle.channel.specs.declared.calls.Sending.the-variants as Sending
+use Rattle.channel.specs.declared.calls.Wrote.the-variants as Wrote
 use Rattle.channel.specs.declared.codec.Parsed.{Parsed}
 use Rattle.channel.specs.declared.codec.Parsed.the-variants as Parsed
-use Rattle.channel.specs.Calls.{isChannel, laid}
+use Rattle.channel.specs.Calls.{isChannel, admitted, hasEnded, laid, wrote, wroteBuffer, partBack, told, sent, roomyWrite, admittedWrite, writeRecord}
 use Rattle.channel.specs.declared.codec.Record.{Record}
 use Rattle.channel.specs.declared.codec.Record.the-variants.{Data}
 use Rattle.channel.specs.Codec.{header, start, size, Fits, bytesOf, read}
@@ -104,3 +112,51 @@ module _ (channel : ℕ) (rec : Record) (b : List ℕ) (room : 13 + size rec ≤
   -- WHAT A RUNNER WRITES, THE PEER'S READER READS
   pub laid-reads : channel < 2 ^ 32 → Fits rec → read channel (take (start rec + size rec) (laid channel rec b)) ≡ Parsed.Read rec
   laid-reads known fits = ap (read channel) laid-front ∙ back channel rec (take (size rec) (drop 13 b)) known fits payload-length
+
+-- ---- no message
+
+-- the part that is lent, given back as it was, leaves the buffer as it was
+part-kept : (k : ℕ) (b : List ℕ) → partBack k b (take k (drop 13 b)) ≡ b
+part-kept k b =
+    ap (λ (x : List ℕ). take 13 b ++ (take k (drop 13 b) ++ x)) (sym (drop-drop k 13 b))
+    ∙ ap (λ (x : List ℕ). take 13 b ++ x) (take-append-drop k (drop 13 b))
+    ∙ take-append-drop 13 b
+
+some-message : (m : Message) (n : ℕ) → Wrote.Message m n ≡ Wrote.None → ⊥
+some-message m n e = let z : _≡_ {A = ℕ} 0 1 = cc in omega arith
+
+none-said : (c : Choice) (r : Runner) (channel k : ℕ) (ended : Bool) (store b : List ℕ) → wrote ended (saidFor c r) ≡ Wrote.None
+    → wroteBuffer channel ended (saidFor c r) (partBack k b (bufferAfter c r store (take k (drop 13 b)))) ≡ b
+unfolding saidFor bufferAfter wrote wroteBuffer
+none-said Choice.None r channel k ended store b e = part-kept k b
+none-said Choice.Credit r channel k ended store b e = absurd (some-message _ _ e)
+none-said Choice.Started r channel k ended store b e = absurd (some-message _ _ e)
+none-said Choice.InputClosed r channel k ended store b e = absurd (some-message _ _ e)
+none-said (Choice.End x) r channel k ended store b e = absurd (some-message _ _ e)
+none-said (Choice.Output x n) r channel k ended store b e = absurd (some-message _ _ e)
+none-said Choice.Terminal r channel k ended store b e = absurd (some-message _ _ e)
+
+none-sent : (good : Bool) (r : Runner) (channel : ℕ) (store b : List ℕ) → isGood r (bytesDo (r .limits) store) ≡ good
+    → sent r channel store b .writing .wrote ≡ Wrote.None → sent r channel store b .buffer ≡ b
+unfolding sent told Calls.nextMessage wroteBuffer
+none-sent true r channel store b g e =
+    rw g (none-said (choose r (length (take (r .limits .chunk) (drop 13 b)))) r channel (r .limits .chunk) (hasEnded r) store b (rw g at e))
+none-sent false r channel store b g e = rw g (part-kept (r .limits .chunk) b)
+
+none-roomy : (room : Bool) (r : Runner) (channel : ℕ) (store b : List ℕ) → leb (13 + r .limits .chunk) (length b) ≡ room
+    → roomyWrite r channel store b .writing .wrote ≡ Wrote.None → roomyWrite r channel store b .buffer ≡ b
+unfolding roomyWrite
+none-roomy true r channel store b h e = rw h (none-sent (isGood r (bytesDo (r .limits) store)) r channel store b refl (rw h at e))
+none-roomy false r channel store b h e = rw h refl
+
+none-admitted : (a : Reply) (r : Runner) (channel : ℕ) (store b : List ℕ)
+    → admittedWrite a r channel store b .writing .wrote ≡ Wrote.None → admittedWrite a r channel store b .buffer ≡ b
+unfolding admittedWrite
+none-admitted Reply.Ok r channel store b e = none-roomy (leb (13 + r .limits .chunk) (length b)) r channel store b refl e
+none-admitted (Reply.Refused x) r channel store b e = refl
+
+-- WHERE NO MESSAGE WAITS, THE WHOLE RECORD BUFFER IS KEPT
+pub none-kept : (r : Runner) (channel : ℕ) (store b : List ℕ)
+    → writeRecord r channel store b .writing .wrote ≡ Wrote.None → writeRecord r channel store b .buffer ≡ b
+unfolding writeRecord
+none-kept r channel store b e = none-admitted (admitted r (bytesDo (r .limits) store)) r channel store b e

@@ -215,3 +215,28 @@ ab = 94 ∷ 0 ∷ 0 ∷ 0 ∷ 5 ∷ 0 ∷ 0 ∷ 0 ∷ 2 ∷ 97 ∷ 98 ∷ []
 edge12 : (bytesOf 5 (Data 2) (97 ∷ 98 ∷ []) ≡ ab) × (read 5 ab ≡ Parsed.Read (Data 2))
 unfolding bytesOf header read kinded checked fitting numberAt be32At
 edge12 = (refl, refl)
+
+-- ---- beside the table: "Foreign lengths may leave a state that 12 meets at the next call"
+
+-- two frames of 4 bytes wait, and somebody else writes 1 over the first one's length
+abbrev frame4 : InputAfter
+frame4 = sent (granted inFrames) abcd
+
+abbrev frame44 : InputAfter
+frame44 = Calls.input (frame4 .hearing .runner) own abcd (frame4 .bytes) (frame4 .lengths)
+
+-- 2 bytes written then free that frame, and 6 bytes are left to a single frame: above 1 × chunk
+abbrev overwritten : WrittenAfter
+overwritten = Calls.inputWritten (frame44 .hearing .runner) 2 (1 ∷ 4 ∷ [])
+
+abbrev beyond : Runner
+beyond = overwritten .noting .runner
+
+foreign : (frame44 .lengths ≡ 4 ∷ 4 ∷ [])
+    × (overwritten .noting .reply ≡ Reply.Ok)
+    × (beyond .input .inbox .frames ≡ 1)
+    × (beyond .input .inbox .length ≡ 6)
+    × (Calls.tick beyond 0 ≡ record { runner = beyond; reply = Reply.Refused Refusal.StateOutOfRange })
+    × (number Refusal.StateOutOfRange ≡ 12)
+unfolding written Calls.tick Range.stop
+foreign = (refl, refl, refl, refl, refl, refl)

@@ -1,0 +1,477 @@
+-- Refusals change nothing: by 12, 10 and 11 the guard gives back what it was given, and behind it only credit, input, end_input
+-- and cancel refuse; of the records' own refusals `Records` tells.
+use mathlib.Core.Bool.{Bool, true, false, cond, not, _&&_, _||_, false≢true}
+use mathlib.Core.Path.{_≡_, refl, sym, ap, _∙_, subst}
+use mathlib.Core.List.{List, [], _∷_}
+use mathlib.Core.Option.{Option, none, some}
+use Prim.Native.Nat.{ℕ, _+_}
+use native.Mathlib.Omega.{arith}
+use lib.Dec.{leb, ltb, eqb}
+use lib.ListN.{length, take, drop}
+use Rattle.exec.specs.declared.Admission.{Admission}
+use Rattle.exec.specs.declared.Admission.the-variants as Admission
+use Rattle.exec.specs.declared.Cause.{Cause}
+use Rattle.exec.specs.declared.Key.{Key}
+use Rattle.exec.specs.declared.Limits.{Limits}
+use Rattle.exec.specs.declared.Pool.{Pool}
+use Rattle.exec.specs.declared.Pool.the-variants as Pool
+use Rattle.exec.specs.declared.PoolIndex.{PoolIndex}
+use Rattle.exec.specs.declared.PoolIndex.the-variants as PoolIndex
+use Rattle.exec.specs.declared.Receipt.the-variants as Receipt
+use Rattle.exec.specs.declared.Received.{Received}
+use Rattle.exec.specs.declared.Received.the-variants as Received
+use Rattle.exec.specs.declared.Refusal.{Refusal}
+use Rattle.exec.specs.declared.Refusal.the-variants as Refusal
+use Rattle.exec.specs.declared.Reply.the-variants as Reply
+use Rattle.exec.specs.Key.{admits}
+use Rattle.exec.specs.Limits.{cost, isValid, offChunk, outputPool}
+use Rattle.exec.specs.Refusal.{number}
+use Rattle.credit.specs.declared.sender.Credit.{Credit}
+use Rattle.credit.specs.Sender.{grantable, grant}
+use Rattle.stdio.specs.declared.input.Input.{Input}
+use Rattle.stdio.specs.Input as Input
+use Rattle.runner.specs.declared.answer.Request.the-variants as Request
+use Rattle.runner.specs.declared.message.Choice.{Choice}
+use Rattle.runner.specs.declared.message.Choice.the-variants as Choice
+use Rattle.runner.specs.declared.message.Wish.{Wish}
+use Rattle.runner.specs.declared.message.Wish.the-variants as Wish
+use Rattle.runner.specs.declared.runner.Runner.{Runner}
+use Rattle.runner.specs.Calls as Calls
+use Rattle.runner.specs.Calls.{askedFor, storesDo}
+use Rattle.runner.specs.Life.{isLate, ticked, cancelAnswer, cancelNext}
+use Rattle.runner.specs.Message.{choose, saidFor, wish}
+use Rattle.runner.specs.Range.{isGood, inRange, bytesDo, stop}
+use Rattle.runner.specs.State.{credit0, credit1, creditAt, putCredit, withFlow, withInput}
+use Rattle.runner.specs.Streams as Streams
+use Rattle.channel.specs.Calls as Channel
+use Rattle.channel.specs.Calls.{WriteAfter, isChannel, admitted, admittedRead, admittedWrite, roomyWrite, sent, told, wrote, hasEnded}
+use Rattle.account.specs.Call as Call
+use Rattle.account.specs.Call.{Call, Answer}
+use Rattle.account.specs.Step as Step
+use Rattle.account.specs.Step.{State, onRunner, receivedAs, asks, waits}
+use Rattle.account.specs.Records.{Entry, call, readRecord, writeRecord, nextEntry, wroteAs, answerEntry}
+use Rattle.account.specs.Refused.{TwoAccounts, among, ofCalls, ofRecords, Refusals}
+use Rattle.account.proofs.Plain as Plain
+use Rattle.account.proofs.Plain.{said}
+use Rattle.account.proofs.Guarded.{next-is, answer-is}
+use Rattle.account.proofs.Records.{Does, admitted-so, read-by, write-by}
+
+-- ---- what is to be shown of a call that leaves the state t and has the answer a
+
+-- of a refusal's number
+abbrev IfRefused : (ℕ → Type 0) → Answer → Type 0
+IfRefused P Call.Ok = Unit
+IfRefused P Call.Applied = Unit
+IfRefused P Call.Stale = Unit
+IfRefused P Call.Late = Unit
+IfRefused P (Call.Refused n) = P n
+IfRefused P (Call.Taken n) = Unit
+IfRefused P (Call.Pending b) = Unit
+IfRefused P (Call.Value n) = Unit
+IfRefused P (Call.Time d) = Unit
+IfRefused P (Call.Truth b) = Unit
+IfRefused P (Call.Asks r) = Unit
+IfRefused P (Call.Says m) = Unit
+IfRefused P (Call.IsKey k) = Unit
+IfRefused P (Call.AreLimits l) = Unit
+IfRefused P Call.Nothing = Unit
+
+record Kept (s t : State) (n : ℕ) : Type 0 where
+  same : TwoAccounts s → t ≡ s
+  known : among n ofCalls ≡ true
+
+abbrev Safe : (s t : State) → Answer → Type 0
+Safe s t a = IfRefused (Kept s t) a
+
+either : {A : Type 0} (P : A → Type 0) (b : Bool) (x y : A) → P x → P y → P (cond b x y)
+either P true x y p q = p
+either P false x y p q = q
+
+-- ---- refused by 12, 10 or 11
+
+stop-by : (P : Refusal → Type 0) → P Refusal.StoreShort → P Refusal.NoLimits → P Refusal.StateOutOfRange → (r : Runner) → P (stop r)
+unfolding stop
+stop-by P short limits range r = either P (inRange r) _ _ (either P (isValid (r .limits)) _ _ short limits) range
+
+stop-known : (r : Runner) → among (number (stop r)) ofCalls ≡ true
+stop-known r = stop-by (λ x. among (number x) ofCalls ≡ true) refl refl refl r
+
+waits-stop : (r : Runner) (b : List ℕ) → waits (number (stop r)) b ≡ Call.Refused (number (stop r))
+waits-stop r b = stop-by (λ x. waits (number x) b ≡ Call.Refused (number x)) refl refl refl r
+
+stopped : (s : State) (c : Call) → isGood (s .runner) (Plain.enough s c) ≡ false
+    → (Step.next s c ≡ s) × (Step.answer s c ≡ Call.Refused (number (stop (s .runner))))
+unfolding Plain.enough Step.next Step.answer Calls.key Calls.limits Calls.credit Calls.input Calls.endInput Calls.cancel Calls.launched Calls.readAllowance Calls.output Calls.discarded Calls.outputClosed Calls.outputFailed Calls.outputHungUp Calls.pendingInput Calls.inputWritten Calls.inputClosed Calls.exited Calls.settled Calls.dropped Calls.reset Calls.disconnect Calls.tick Calls.deadline Calls.nextRequest Calls.nextMessage Calls.isFinished Calls.isDetached Calls.awaitsSettlement Calls.memoryBound Calls.buffered Calls.highWater
+stopped s Call.key g = rw g (refl, refl)
+stopped s Call.limits g = rw g (refl, refl)
+stopped s (Call.credit k p u) g = rw g (refl, refl)
+stopped s (Call.input k b) g = rw g (refl, refl)
+stopped s (Call.endInput k) g = rw g (refl, refl)
+stopped s (Call.cancel now k c) g = rw g (refl, refl)
+stopped s (Call.launched x) g = rw g (refl, refl)
+stopped s (Call.readAllowance x) g = rw g (refl, refl)
+stopped s (Call.output x b) g = rw g (refl, refl)
+stopped s (Call.discarded x n) g = rw g (refl, refl)
+stopped s (Call.outputClosed x) g = rw g (refl, refl)
+stopped s (Call.outputFailed x) g = rw g (refl, refl)
+stopped s (Call.outputHungUp x) g = rw g (refl, refl)
+stopped s Call.pendingInput g = rw g (refl, waits-stop (s .runner) [])
+stopped s (Call.inputWritten n) g = rw g (refl, refl)
+stopped s Call.inputClosed g = rw g (refl, refl)
+stopped s (Call.exited now x) g = rw g (refl, refl)
+stopped s (Call.settled x) g = rw g (refl, refl)
+stopped s (Call.dropped now) g = rw g (refl, refl)
+stopped s (Call.reset now) g = rw g (refl, refl)
+stopped s (Call.disconnect now) g = rw g (refl, refl)
+stopped s (Call.tick now) g = rw g (refl, refl)
+stopped s Call.deadline g = rw g (refl, refl)
+stopped s Call.nextRequest g = rw g (refl, refl)
+stopped s (Call.nextMessage buffer) g = rw g (refl, refl)
+stopped s Call.isFinished g = rw g (refl, refl)
+stopped s Call.isDetached g = rw g (refl, refl)
+stopped s Call.awaitsSettlement g = rw g (refl, refl)
+stopped s Call.memoryBound g = rw g (refl, refl)
+stopped s Call.buffered g = rw g (refl, refl)
+stopped s Call.highWater g = rw g (refl, refl)
+
+-- ---- refused by 1 to 6
+
+-- a key is the runner's own, stale, or refused by 1
+admits-by : (P : Admission → Type 0) → P Admission.Own → P Admission.Stale → P (Admission.Refused Refusal.Key) → (own message : Key) → P (admits own message)
+unfolding admits
+admits-by P own stale other k m =
+    either P (eqb (m .id) (k .id)) _ _
+    (either P (ltb (m .generation) (k .generation)) _ _ stale (either P (eqb (m .generation) (k .generation)) _ _ own other))
+    other
+
+-- a pool is refused by 2, or has an account
+pool-by : (P : PoolIndex → Type 0) → P (PoolIndex.Refused Refusal.Pool) → ((i : ℕ) → P (PoolIndex.At i)) → (shared : Bool) (p : Pool) → P (outputPool shared p)
+pool-by P other at true Pool.Input = other
+pool-by P other at true Pool.Stdout = other
+pool-by P other at true Pool.Stderr = other
+pool-by P other at true Pool.Output = at 0
+pool-by P other at false Pool.Input = other
+pool-by P other at false Pool.Stdout = at 0
+pool-by P other at false Pool.Stderr = at 1
+pool-by P other at false Pool.Output = other
+
+-- an account put back leaves both as they were
+put-back : (first : Bool) (cs : List Credit) → length cs ≡ 2
+    → cond first (cond first (credit0 cs) (credit1 cs)) (credit0 cs) ∷ cond first (credit1 cs) (cond first (credit0 cs) (credit1 cs)) ∷ [] ≡ cs
+put-back first [] h = absurd (omega arith)
+put-back first (a ∷ []) h = absurd (omega arith)
+put-back true (a ∷ b ∷ []) h = refl
+put-back false (a ∷ b ∷ []) h = refl
+put-back first (a ∷ b ∷ c ∷ cs) h = absurd (omega arith)
+
+-- a grant that is refused leaves its account
+ungranted : (c : Credit) (u : ℕ) → grantable c u ≡ false → grant c u .credit ≡ c
+ungranted c u e = rw e refl
+
+-- the state with other accounts
+accounts : State → List Credit → State
+accounts s cs = onRunner (withFlow cs (s .runner .turn) (s .runner .flags) (s .runner .«high_water») (s .runner)) s
+
+granted : (s : State) (cs : List Credit) (finished fits : Bool) → (fits ≡ false → TwoAccounts s → cs ≡ s .runner .credits)
+    → Safe s (accounts s (cond finished (s .runner .credits) cs))
+    (receivedAs (cond finished (Received.Receipt Receipt.Late) (cond fits (Received.Receipt Receipt.Applied) (Received.Refused Refusal.Credit))))
+unfolding accounts
+granted s cs true fits h = tt
+granted s cs false true h = tt
+granted s cs false false h = record { same = λ t. ap (accounts s) (h refl t); known = refl }
+
+abbrev CreditSafe : State → ℕ → Admission → PoolIndex → Type 0
+CreditSafe s u a p = Safe s (onRunner (Streams.creditNext a p (s .runner) u) s) (receivedAs (Streams.creditAnswer a p (s .runner) u))
+
+credit-safe : (s : State) (k : Key) (p : Pool) (u : ℕ) → CreditSafe s u (admits (s .runner .key) k) (outputPool (s .runner .limits .shared) p)
+unfolding Streams.creditNext Streams.creditAnswer Streams.creditIn accounts
+credit-safe s k p u =
+    let cs = s .runner .credits in
+    admits-by (λ a. CreditSafe s u a (outputPool (s .runner .limits .shared) p))
+    (pool-by (CreditSafe s u Admission.Own) (record { same = λ h. refl; known = refl })
+    (λ i. granted s (putCredit i (grant (creditAt i cs) u .credit) cs) (s .runner .flags .finished) (grantable (creditAt i cs) u)
+    (λ e h. ap (λ (c : Credit). putCredit i c cs) (ungranted (creditAt i cs) u e) ∙ put-back (eqb i 0) cs h))
+    (s .runner .limits .shared) p)
+    tt (record { same = λ h. refl; known = refl }) (s .runner .key) k
+
+-- an input is refused by 4, 5 or 6 behind its key
+receive-by : (P : Received → Type 0) → ((x : Refusal) → among (number x) ofCalls ≡ true → P (Received.Refused x))
+    → P (Received.Receipt Receipt.Late) → P (Received.Receipt Receipt.Applied) → (l : Limits) (i : Input) (n : ℕ) → P (Input.receiveAnswer l i n)
+unfolding Input.receiveAnswer
+receive-by P refused late applied l i n =
+    either P (i .«peer_ended») _ _ (refused Refusal.Ended refl)
+    (either P (offChunk l n) _ _ (refused Refusal.Chunk refl)
+    (either P (ltb (i .window .open) (cost (l .input .unit) n)) _ _ (refused Refusal.Window refl) (either P (i .closed) _ _ late applied)))
+
+abbrev isReceipt : Received → Bool
+isReceipt (Received.Receipt x) = true
+isReceipt (Received.Refused x) = false
+
+receipt-safe : (s t : State) (x : Received) → isReceipt x ≡ true → Safe s t (receivedAs x)
+receipt-safe s t (Received.Receipt Receipt.Applied) h = tt
+receipt-safe s t (Received.Receipt Receipt.Stale) h = tt
+receipt-safe s t (Received.Receipt Receipt.Late) h = tt
+receipt-safe s t (Received.Refused x) h = absurd (false≢true h)
+
+late-safe : (s t : State) (late : Bool) → Safe s t (receivedAs (cond late (Received.Receipt Receipt.Late) (Received.Receipt Receipt.Applied)))
+late-safe s t true = tt
+late-safe s t false = tt
+
+-- one that is charged is not refused
+paid-receipt : (l : Limits) (i : Input) (n : ℕ) → Input.isPaid l i n ≡ true → isReceipt (Input.receiveAnswer l i n) ≡ true
+paid-receipt l i n h =
+    Input.asked-of isReceipt (λ x. refl) l i n true (either (λ x. isReceipt x ≡ true) (i .closed) _ _ refl refl) ∙ rw h refl
+
+abbrev received : State → List ℕ → Admission → State
+received s b a = record {
+  runner = Streams.inputNext a (s .runner) (length b);
+  bytes = Streams.inputBytes a (s .runner) b (s .bytes);
+  lengths = Streams.inputLengths a (s .runner) (length b) (s .lengths);
+}
+
+-- one that is not charged is not kept either: state and stores are what they were
+unpaid-by : (taken kept : Bool) (s : State) (i : Input) (bytes lengths : List ℕ) (high : ℕ) → i ≡ s .runner .input → bytes ≡ s .bytes → lengths ≡ s .lengths → kept ≡ false
+    → _≡_ {A = State} (record {
+      runner =
+          withFlow (s .runner .credits) (s .runner .turn) (s .runner .flags) (cond (taken && kept) high (s .runner .«high_water»))
+          (withInput (cond taken i (s .runner .input)) (s .runner));
+      bytes = cond taken bytes (s .bytes);
+      lengths = cond taken lengths (s .lengths);
+    }) s
+unpaid-by false kept s i bytes lengths high ei eb el k = refl
+unpaid-by true false s i bytes lengths high ei eb el k = rw (ei, eb, el) refl
+unpaid-by true true s i bytes lengths high ei eb el k = absurd (false≢true (sym k))
+
+module _ (l : Limits) (i : Input) (b : List ℕ) (h : Input.isPaid l i (length b) ≡ false) where
+  unpaid-input : Input.receiveInput l i (length b) ≡ i
+  unfolding Input.receiveInput
+  unpaid-input = rw h refl
+
+  unpaid-bytes : (store : List ℕ) → Input.receiveBytes l i b store ≡ store
+  unfolding Input.receiveBytes
+  unpaid-bytes store = rw h refl
+
+  unpaid-lengths : (lengths : List ℕ) → Input.receiveLengths l i (length b) lengths ≡ lengths
+  unfolding Input.receiveLengths
+  unpaid-lengths lengths = rw h refl
+
+unpaid : (s : State) (b : List ℕ) → Input.isPaid (s .runner .limits) (s .runner .input) (length b) ≡ false → received s b Admission.Own ≡ s
+unfolding Streams.inputNext Streams.inputBytes Streams.inputLengths
+unpaid s b h =
+    let l : Limits = s .runner .limits in
+    let i : Input = s .runner .input in
+    unpaid-by (not (s .runner .flags .finished)) (Input.isKept l i (length b)) s _ _ _ _ (unpaid-input l i b h) (unpaid-bytes l i b h (s .bytes))
+    (unpaid-lengths l i b h (s .lengths)) (rw h refl)
+
+abbrev InputSafe : State → List ℕ → Admission → Type 0
+InputSafe s b a = Safe s (received s b a) (receivedAs (Streams.inputAnswer a (s .runner) (length b)))
+
+input-own : (s : State) (b : List ℕ) (paid : Bool) → Input.isPaid (s .runner .limits) (s .runner .input) (length b) ≡ paid → InputSafe s b Admission.Own
+unfolding Streams.inputAnswer
+input-own s b true h =
+    either (λ x. Safe s (received s b Admission.Own) (receivedAs x)) (s .runner .flags .finished) _ _ tt
+    (receipt-safe s (received s b Admission.Own) (Input.receiveAnswer (s .runner .limits) (s .runner .input) (length b)) (paid-receipt (s .runner .limits) (s .runner .input) (length b) h))
+input-own s b false h =
+    either (λ x. Safe s (received s b Admission.Own) (receivedAs x)) (s .runner .flags .finished) _ _ tt
+    (receive-by (λ x. Safe s (received s b Admission.Own) (receivedAs x)) (λ x k. record { same = λ t. unpaid s b h; known = k }) tt tt (s .runner .limits) (s .runner .input) (length b))
+
+input-safe : (s : State) (k : Key) (b : List ℕ) → InputSafe s b (admits (s .runner .key) k)
+unfolding Streams.inputAnswer Streams.inputNext Streams.inputBytes Streams.inputLengths
+input-safe s k b =
+    admits-by (InputSafe s b) (input-own s b (Input.isPaid (s .runner .limits) (s .runner .input) (length b)) refl)
+    tt (record { same = λ h. refl; known = refl }) (s .runner .key) k
+
+-- end_input by 6: the input is kept
+ended : (over finished : Bool) (s : State) (i : Input)
+    → Safe s (onRunner (withInput (cond (not finished) (cond over (s .runner .input) i) (s .runner .input)) (s .runner)) s)
+    (receivedAs (cond finished (Received.Receipt Receipt.Late) (cond over (Received.Refused Refusal.Ended) (cond (s .runner .input .closed) (Received.Receipt Receipt.Late) (Received.Receipt Receipt.Applied)))))
+ended over true s i = tt
+ended true false s i = record { same = λ h. refl; known = refl }
+ended false false s i = late-safe s _ (s .runner .input .closed)
+
+end-safe : (s : State) (k : Key)
+    → Safe s (onRunner (Streams.endNext (admits (s .runner .key) k) (s .runner)) s) (receivedAs (Streams.endAnswer (admits (s .runner .key) k) (s .runner)))
+unfolding Streams.endNext Streams.endAnswer Input.endInput Input.endAnswer
+end-safe s k =
+    admits-by (λ a. Safe s (onRunner (Streams.endNext a (s .runner)) s) (receivedAs (Streams.endAnswer a (s .runner))))
+    (ended (s .runner .input .«peer_ended») (s .runner .flags .finished) s _) tt (record { same = λ h. refl; known = refl }) (s .runner .key) k
+
+-- cancel is refused by its key alone
+cancel-safe : (s : State) (now : ℕ) (k : Key) (c : Cause)
+    → Safe s (onRunner (cancelNext (admits (s .runner .key) k) (s .runner) now c) s) (receivedAs (cancelAnswer (admits (s .runner .key) k) (s .runner) now))
+unfolding cancelNext cancelAnswer
+cancel-safe s now k c =
+    admits-by (λ a. Safe s (onRunner (cancelNext a (s .runner) now c) s) (receivedAs (cancelAnswer a (s .runner) now)))
+    (late-safe s _ (isLate (ticked (s .runner) now))) tt (record { same = λ h. refl; known = refl }) (s .runner .key) k
+
+-- ---- every call
+
+wish-safe : (s t : State) (w : Wish) → Safe s t (asks (askedFor w))
+wish-safe s t Wish.None = tt
+wish-safe s t (Wish.Request (Request.Terminate c)) = tt
+wish-safe s t (Wish.Request (Request.Discard x)) = tt
+wish-safe s t (Wish.Request Request.CloseInput) = tt
+wish-safe s t (Wish.Request Request.Settle) = tt
+
+said-safe : (P : ℕ → Type 0) (m : Choice) (r : Runner) (bytes : List ℕ) → IfRefused P (said m r bytes)
+unfolding said
+said-safe P Choice.None r bytes = tt
+said-safe P Choice.Credit r bytes = tt
+said-safe P Choice.Started r bytes = tt
+said-safe P Choice.InputClosed r bytes = tt
+said-safe P (Choice.End x) r bytes = tt
+said-safe P (Choice.Output x n) r bytes = tt
+said-safe P Choice.Terminal r bytes = tt
+
+plain-safe : (s : State) (c : Call) → Safe s (Plain.next s c) (Plain.answer s c)
+unfolding Plain.next Plain.answer
+plain-safe s Call.key = tt
+plain-safe s Call.limits = tt
+plain-safe s (Call.credit k p u) = credit-safe s k p u
+plain-safe s (Call.input k b) = input-safe s k b
+plain-safe s (Call.endInput k) = end-safe s k
+plain-safe s (Call.cancel now k c) = cancel-safe s now k c
+plain-safe s (Call.launched x) = tt
+plain-safe s (Call.readAllowance x) = tt
+plain-safe s (Call.output x b) = tt
+plain-safe s (Call.discarded x n) = tt
+plain-safe s (Call.outputClosed x) = tt
+plain-safe s (Call.outputFailed x) = tt
+plain-safe s (Call.outputHungUp x) = tt
+plain-safe s Call.pendingInput = tt
+plain-safe s (Call.inputWritten n) = tt
+plain-safe s Call.inputClosed = tt
+plain-safe s (Call.exited now x) = tt
+plain-safe s (Call.settled x) = tt
+plain-safe s (Call.dropped now) = tt
+plain-safe s (Call.reset now) = tt
+plain-safe s (Call.disconnect now) = tt
+plain-safe s (Call.tick now) = tt
+plain-safe s Call.deadline = tt
+plain-safe s Call.nextRequest = wish-safe s _ (wish (s .runner))
+plain-safe s (Call.nextMessage buffer) = said-safe _ (choose (s .runner) (length buffer)) (s .runner) (s .bytes)
+plain-safe s Call.isFinished = tt
+plain-safe s Call.isDetached = tt
+plain-safe s Call.awaitsSettlement = tt
+plain-safe s Call.memoryBound = tt
+plain-safe s Call.buffered = tt
+plain-safe s Call.highWater = tt
+
+safe-by : (good : Bool) (s : State) (c : Call) → isGood (s .runner) (Plain.enough s c) ≡ good → Safe s (Step.next s c) (Step.answer s c)
+safe-by true s c g = rw (next-is s c g, answer-is s c g) (plain-safe s c)
+safe-by false s c g =
+    let x = stopped s c g in rw (x .1) (record { same = λ h. x .0; known = stop-known (s .runner) })
+
+safe : (s : State) (c : Call) → Safe s (Step.next s c) (Step.answer s c)
+safe s c = safe-by (isGood (s .runner) (Plain.enough s c)) s c refl
+
+refused : (s : State) (c : Call) (n : ℕ) → Step.answer s c ≡ Call.Refused n → Kept s (Step.next s c) n
+refused s c n e = subst (IfRefused (Kept s (Step.next s c))) e (safe s c)
+
+-- ---- a record
+
+record KeptBy (s t : State) (n : ℕ) : Type 0 where
+  same : TwoAccounts s → t ≡ s
+  known : (among n ofCalls || among n ofRecords) ≡ true
+
+or-right : (a b : Bool) → b ≡ true → (a || b) ≡ true
+or-right true b h = refl
+or-right false b h = h
+
+-- refused as the call that it makes, or by its own
+does-kept : (m : Option Call) (s t : State) (a : Answer) (n : ℕ) → Does m s t a → a ≡ Call.Refused n → KeptBy s t n
+unfolding Does
+does-kept none s t a n d e =
+    let k : d .refusal ≡ n = cc (d .answered) in
+    record { same = λ h. d .kept; known = or-right (among n ofCalls) (among n ofRecords) (subst (λ (m : ℕ). among m ofRecords ≡ true) k (d .own)) }
+does-kept (some c) s t a n d e =
+    let k = refused s c n (sym (d .1) ∙ e) in record { same = λ h. d .0 ∙ k .same h; known = rw (k .known) refl }
+
+-- refused by 12, 10 or 11
+stop-kept : (s t : State) (n : ℕ) → t ≡ s → Call.Refused (number (stop (s .runner))) ≡ Call.Refused n → KeptBy s t n
+stop-kept s t n k e =
+    let m : number (stop (s .runner)) ≡ n = cc in record { same = λ h. k; known = rw (← m) (rw (stop-known (s .runner)) refl) }
+
+admitted-not : (r : Runner) (stores : Bool) → isGood r stores ≡ false → admitted r stores ≡ Reply.Refused (stop r)
+unfolding admitted
+admitted-not r stores g = rw g refl
+
+read-kept : (good : Bool) (s : State) (now channel : ℕ) (b : List ℕ) (n : ℕ) → isGood (s .runner) (storesDo (s .runner) (s .bytes) (s .lengths)) ≡ good
+    → answerEntry s (readRecord now channel b) ≡ Call.Refused n → KeptBy s (nextEntry s (readRecord now channel b)) n
+unfolding nextEntry answerEntry Channel.readRecord admittedRead
+read-kept true s now channel b n g e =
+    let a = admitted-so (s .runner) (storesDo (s .runner) (s .bytes) (s .lengths)) g in
+    rw a (does-kept _ s _ _ n (read-by (isChannel (s .runner .limits)) s now channel b) (rw a at e))
+read-kept false s now channel b n g e =
+    let a = admitted-not (s .runner) (storesDo (s .runner) (s .bytes) (s .lengths)) g in rw a (stop-kept s s n refl (rw a at e))
+
+write-kept : (good : Bool) (s : State) (channel : ℕ) (buffer : List ℕ) (n : ℕ) → isGood (s .runner) (bytesDo (s .runner .limits) (s .bytes)) ≡ good
+    → answerEntry s (writeRecord channel buffer) ≡ Call.Refused n → KeptBy s (nextEntry s (writeRecord channel buffer)) n
+unfolding nextEntry answerEntry Channel.writeRecord admittedWrite
+write-kept true s channel buffer n g e =
+    let a = admitted-so (s .runner) (bytesDo (s .runner .limits) (s .bytes)) g in
+    rw a (does-kept _ s _ _ n (write-by (isChannel (s .runner .limits)) (leb (13 + s .runner .limits .chunk) (length buffer)) s channel buffer g refl) (rw a at e))
+write-kept false s channel buffer n g e =
+    let a = admitted-not (s .runner) (bytesDo (s .runner .limits) (s .bytes)) g in rw a (stop-kept s s n refl (rw a at e))
+
+kept : (s : State) (e : Entry) (n : ℕ) → answerEntry s e ≡ Call.Refused n → KeptBy s (nextEntry s e) n
+unfolding nextEntry answerEntry
+kept s (call c) n e = let k = refused s c n e in record { same = k .same; known = rw (k .known) refl }
+kept s (readRecord now channel b) n e = read-kept (isGood (s .runner) (storesDo (s .runner) (s .bytes) (s .lengths))) s now channel b n refl e
+kept s (writeRecord channel buffer) n e = write-kept (isGood (s .runner) (bytesDo (s .runner .limits) (s .bytes))) s channel buffer n refl e
+
+-- ---- the buffers
+
+-- what is said behind the guard is no refusal
+said-told : (P : ℕ → Type 0) (ended : Bool) (m : Choice) (r : Runner) (buffer : List ℕ) → IfRefused P (wroteAs (wrote ended (saidFor m r)) buffer)
+unfolding saidFor wrote
+said-told P ended Choice.None r buffer = tt
+said-told P ended Choice.Credit r buffer = tt
+said-told P ended Choice.Started r buffer = tt
+said-told P ended Choice.InputClosed r buffer = tt
+said-told P ended (Choice.End x) r buffer = tt
+said-told P ended (Choice.Output x n) r buffer = tt
+said-told P ended Choice.Terminal r buffer = tt
+
+message-buffer : (good : Bool) (s : State) (buffer : List ℕ) → isGood (s .runner) (bytesDo (s .runner .limits) (s .bytes)) ≡ good
+    → IfRefused (λ n. Calls.nextMessage (s .runner) (s .bytes) buffer .buffer ≡ buffer) (Step.answer s (Call.nextMessage buffer))
+unfolding Calls.nextMessage Plain.enough Plain.answer
+message-buffer true s buffer g =
+    rw (answer-is s (Call.nextMessage buffer) g) (said-safe _ (choose (s .runner) (length buffer)) (s .runner) (s .bytes))
+message-buffer false s buffer g = rw (stopped s (Call.nextMessage buffer) g .1) (rw g refl)
+
+abbrev BufferSafe : WriteAfter → List ℕ → Type 0
+BufferSafe w buffer = IfRefused (λ n. w .buffer ≡ buffer) (wroteAs (w .writing .wrote) (w .buffer))
+
+write-buffer : (channels room : Bool) (s : State) (channel : ℕ) (buffer : List ℕ) → isGood (s .runner) (bytesDo (s .runner .limits) (s .bytes)) ≡ true
+    → leb (13 + s .runner .limits .chunk) (length buffer) ≡ room
+    → BufferSafe (admittedWrite (cond channels Reply.Ok (Reply.Refused Refusal.NotAChannel)) (s .runner) channel (s .bytes) buffer) buffer
+unfolding admittedWrite roomyWrite sent told Calls.nextMessage
+write-buffer false room s channel buffer g e = refl
+write-buffer true false s channel buffer g e = rw e refl
+write-buffer true true s channel buffer g e =
+    rw (e, g) (said-told _ (hasEnded (s .runner)) (choose (s .runner) (length (take (s .runner .limits .chunk) (drop 13 buffer)))) (s .runner) _)
+
+record-buffer : (good : Bool) (s : State) (channel : ℕ) (buffer : List ℕ) → isGood (s .runner) (bytesDo (s .runner .limits) (s .bytes)) ≡ good
+    → BufferSafe (Channel.writeRecord (s .runner) channel (s .bytes) buffer) buffer
+unfolding Channel.writeRecord admittedWrite
+record-buffer true s channel buffer g =
+    rw (admitted-so (s .runner) (bytesDo (s .runner .limits) (s .bytes)) g)
+    (write-buffer (isChannel (s .runner .limits)) (leb (13 + s .runner .limits .chunk) (length buffer)) s channel buffer g refl)
+record-buffer false s channel buffer g = rw (admitted-not (s .runner) (bytesDo (s .runner .limits) (s .bytes)) g) refl
+
+-- DEMAND 1, OF REFUSALS
+pub refusals : Refusals
+unfolding answerEntry
+refusals = record {
+  call-kept = λ s c n h e. refused s c n e .same h;
+  message-kept = λ s buffer n e.
+      subst (IfRefused (λ m. Calls.nextMessage (s .runner) (s .bytes) buffer .buffer ≡ buffer)) e
+      (message-buffer (isGood (s .runner) (bytesDo (s .runner .limits) (s .bytes))) s buffer refl);
+  call-number = λ s c n e. refused s c n e .known;
+  entry-kept = λ s e n h a. kept s e n a .same h;
+  buffer-kept = λ s channel buffer n e.
+      subst (IfRefused (λ m. Channel.writeRecord (s .runner) channel (s .bytes) buffer .buffer ≡ buffer)) e
+      (record-buffer (isGood (s .runner) (bytesDo (s .runner .limits) (s .bytes))) s channel buffer refl);
+  entry-number = λ s e n a. kept s e n a .known;
+}
