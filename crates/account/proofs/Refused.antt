@@ -220,7 +220,7 @@ late-safe s t false = tt
 -- one that is charged is not refused
 paid-receipt : (l : Limits) (i : Input) (n : ℕ) → Input.isPaid l i n ≡ true → isReceipt (Input.receiveAnswer l i n) ≡ true
 paid-receipt l i n h =
-    Input.asked-of isReceipt (λ x. refl) l i n true (either (λ x. isReceipt x ≡ true) (i .closed) _ _ refl refl) ∙ rw h refl
+    Input.asked-of isReceipt (λ x. refl) (λ closed. true) refl refl l i n ∙ rw h refl
 
 abbrev received : State → List ℕ → Admission → State
 received s b a = record {
