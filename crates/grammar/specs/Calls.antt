@@ -6,7 +6,7 @@ use mathlib.Core.List.{List, [], _∷_, _++_, append-assoc, append-nil}
 use mathlib.Core.Option.{Option, none, some}
 use Prim.Native.Nat.{ℕ, _+_}
 use native.Mathlib.Omega.{arith}
-use lib.Dec.{eqb, leb}
+use lib.Dec.{eqb}
 use lib.ListN.{length}
 use Rattle.account.specs.Call as Call
 use Rattle.account.specs.Call.{Call, Answer, Done}
@@ -14,7 +14,7 @@ use Rattle.account.specs.Step.{State, next, answer, after, run}
 use Rattle.account.specs.Refused.{among}
 use Rattle.grammar.specs.Lines.{lineCall}
 use Rattle.grammar.specs.Answers.{lineText}
-use Rattle.grammar.specs.Feed.{Stage, First, Running, Over, Session, Step, Answered, isBack, isRefused, timeOf, remembered, later, answered, tooLong, answerOf, lineEnds, hold, eat, feeds, ends}
+use Rattle.grammar.specs.Feed.{Stage, First, Running, Over, Session, Step, Answered, isBack, isRefused, timeOf, remembered, later, answered, tooLong, isShort, answerOf, lineEnds, hold, eat, feeds, ends}
 
 -- ---- the calls
 
@@ -26,7 +26,7 @@ madeOf (some c) last = cond (isBack (timeOf c) last) [] (c ∷ [])
 -- of a line, once a runner is open
 abbrev pub lineCalls : Stage → (line : List ℕ) → List Call
 lineCalls First line = []
-lineCalls (Running s last) line = cond (leb (length line) 65535) (madeOf (lineCall line) last) []
+lineCalls (Running s last) line = cond (isShort line) (madeOf (lineCall line) last) []
 lineCalls Over line = []
 
 -- of a byte, and of bytes
@@ -55,7 +55,7 @@ later-runs (some c) s last = by (isBack (timeOf c) last)
 
 line-runs : (s : State) (last : ℕ) (line : List ℕ) → IsRunning (answerOf (Running s last) line .stage) (after s (lineCalls (Running s last) line))
 unfolding answerOf answered tooLong
-line-runs s last line = by (leb (length line) 65535)
+line-runs s last line = by (isShort line)
   where
     by : (b : Bool) → IsRunning (cond {A = Answered} b (later (lineCall line) s last) (tooLong (Running s last)) .stage) (after s (cond b (madeOf (lineCall line) last) []))
     by true = later-runs (lineCall line) s last
@@ -154,7 +154,7 @@ later-answers (some c) s last = by (isBack (timeOf c) last)
 
 line-answers : (s : State) (last : ℕ) (line : List ℕ) → Answers s (lineOf (Running s last) line)
 unfolding answerOf answered tooLong
-line-answers s last line = by (leb (length line) 65535)
+line-answers s last line = by (isShort line)
   where
     by : (b : Bool) → Answers s (record {
       calls = cond b (madeOf (lineCall line) last) [];

@@ -130,14 +130,18 @@ answered First line = first (lineOpen line)
 answered (Running s last) line = later (lineCall line) s last
 answered Over line = bad Over
 
--- a line of more than 65,535 bytes is refused whole; it is the first line where it stands first
+-- a line that is too long is refused whole; it is the first line where it stands first
 unfoldable pub tooLong : Stage → Answered
 tooLong First = bad Over
 tooLong (Running s last) = bad (Running s last)
 tooLong Over = bad Over
 
+-- a line has at most 65,535 bytes
+abbrev pub isShort : (line : List ℕ) → Bool
+isShort line = leb (length line) 65535
+
 unfoldable pub answerOf : Stage → (line : List ℕ) → Answered
-answerOf x line = cond (leb (length line) 65535) (answered x line) (tooLong x)
+answerOf x line = cond (isShort line) (answered x line) (tooLong x)
 
 -- the line that is held, answered
 unfoldable pub lineEnds : Session → Step
