@@ -123,17 +123,23 @@ placed-on s bs p = placed-twice (s .stage) (feeds s bs .session .stage) p (feeds
 
 -- ---- a line
 
--- 30: the stage, or the end of it
-pub bad-made : (r : Answered) (x : Stages.Stage) (runner : Runner) (last : ℕ) (b l w : List ℕ)
-    → (r .standing ≡ record { stage = x; runner = runner; last = last }) × (r .answer ≡ Answers.Refused 30)
-    → (y : Stages.Stage) → To.Answers (record { stage = stageIs x runner last b l; answer = Account.Refused 30 }) (place y (stateOf runner b l) last) r b l w
+-- a refusal that leaves all but the stage
+pub refused-made : (r : Answered) (x : Stages.Stage) (runner : Runner) (last : ℕ) (a : Answer) (z : Account.Answer) (b l w : List ℕ)
+    → (r .standing ≡ record { stage = x; runner = runner; last = last }) × (r .answer ≡ a) → answerIs a w ≡ z
+    → (y : Stages.Stage) → To.Answers (record { stage = stageIs x runner last b l; answer = z }) (place y (stateOf runner b l) last) r b l w
 unfolding placed
-bad-made r x runner last b l w h y = (ap (λ (s : Standing). placeOf s b l) (h .0) ∙ by x, ap (λ (a : Answer). answerIs a w) (h .1))
+refused-made r x runner last a z b l w h e y = (ap (λ (s : Standing). placeOf s b l) (h .0) ∙ by x, ap (λ (t : Answer). answerIs t w) (h .1) ∙ e)
   where
     by : (x : Stages.Stage) → place x (stateOf runner b l) last ≡ placed (stageIs x runner last b l) (place y (stateOf runner b l) last)
     by Stage.First = refl
     by Stage.Running = refl
     by Stage.Over = refl
+
+-- 30
+pub bad-made : (r : Answered) (x : Stages.Stage) (runner : Runner) (last : ℕ) (b l w : List ℕ)
+    → (r .standing ≡ record { stage = x; runner = runner; last = last }) × (r .answer ≡ Answers.Refused 30)
+    → (y : Stages.Stage) → To.Answers (record { stage = stageIs x runner last b l; answer = Account.Refused 30 }) (place y (stateOf runner b l) last) r b l w
+bad-made r x runner last b l w h y = refused-made r x runner last (Answers.Refused 30) (Account.Refused 30) b l w h refl y
 
 -- a call that is not refused by 31
 pub made-by : (m : Making) (s : State) (c : Call) (was : Place) (b l w : List ℕ) (last last′ : ℕ) (refused : Bool) (time : MaybeTime) → Made s c m b l w

@@ -116,8 +116,9 @@ fn clear_lengths(lengths: &mut [u32])
 }
 
 impl Standing {
-    fn bad(self, stage: Stage) -> Answered
-        ensures { λ r. ⌜ (r .standing ≡ record { stage = stage; runner = self .runner; last = self .last }) × (r .answer ≡ Answer.Refused 30) ⌝ }
+    // Nothing changes but the stage.
+    fn refused(self, stage: Stage, answer: Answer) -> Answered
+        ensures { λ r. ⌜ (r .standing ≡ record { stage = stage; runner = self .runner; last = self .last }) × (r .answer ≡ answer) ⌝ }
     {
         let runner = self.runner;
         Answered {
@@ -126,13 +127,19 @@ impl Standing {
                 runner,
                 last: self.last,
             },
-            answer: Answer::Refused(30),
+            answer,
         }
+    }
+
+    fn bad(self, stage: Stage) -> Answered
+        ensures { λ r. ⌜ (r .standing ≡ record { stage = stage; runner = self .runner; last = self .last }) × (r .answer ≡ Answer.Refused 30) ⌝ }
+    {
+        self.refused(stage, Answer::Refused(30))
     }
 
     // ---- the first line
 
-    // The stores are cleared for a runner that opened; else nothing changes but the stage.
+    // The stores are cleared for a runner that opened.
     fn opened_by(
         self,
         runner: Runner,
@@ -158,18 +165,10 @@ impl Standing {
                     answer: Answer::Ok,
                 }
             }
-            Reply::Refused(refusal) => {
-                let kept = self.runner;
-                let standing = Standing {
-                    stage: Stage::Over,
-                    runner: kept,
-                    last: self.last,
-                };
-                Answered {
-                    standing,
-                    answer: answers::replied(Reply::Refused(refusal)),
-                }
-            }
+            Reply::Refused(refusal) => self.refused(
+                Stage::Over,
+                answers::replied(Reply::Refused(refusal)),
+            ),
         }
     }
 

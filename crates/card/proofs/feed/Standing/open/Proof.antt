@@ -1,4 +1,5 @@
 use Rattle.card.proofs.Standings.{opened-first}
+use Rattle.card.specs.Standing.{placeOf}
 use borrow.Author.Needs.{needs}
 use Rattle.card.proofs.feed.Standing.open.Statement.{statement}
 use Rattle.card.proofs.feed.Standing.open.Tie as tie
@@ -18,7 +19,7 @@ same-length-2 c = search needs
 returns : tie.Need-returns
 returns c =
     let s = c .before .before .before .before .before .before .before .before .before .before .before .before .before .before .before .before in
-    opened-first (s .args .opening) _ (c .before .before .before .before .opened-by .result) (c .before .before .before .before .before .before .before .before .«open» .result) (s .args .store .now) (s .args .lengths .now) _ _ (c .before .before .before .before .before .before .before .before .«open» .ensures) (s .pre .0) (s .pre .1) (c .before .before .before .before .opened-by .ensures)
+    opened-first (s .args .opening) (placeOf (s .args .self) (s .args .store .now) (s .args .lengths .now)) (c .before .before .before .before .opened-by .result) (c .before .before .before .before .before .before .before .before .«open» .result) (s .args .store .now) (s .args .lengths .now) _ _ (c .before .before .before .before .before .before .before .before .«open» .ensures) (s .pre .0) (s .pre .1) (c .before .before .before .before .opened-by .ensures)
 
 pub open-spec : {M : Type 1} → statement M
 open-spec =

@@ -1,3 +1,4 @@
+use Rattle.card.proofs.Standings.{refused-made}
 use Rattle.card.specs.Standing.{placed}
 use Rattle.card.specs.Zeros.{zeros-all}
 use Rattle.grammar.specs.Lines.{zeros}
@@ -21,6 +22,9 @@ enum-known-reply c = search needs
 replied-requires : tie.Need-replied-requires
 replied-requires c κs = search needs
 
+refused-requires : tie.Need-refused-requires
+refused-requires c κs = search needs
+
 same-length : tie.Need-same-length
 same-length c = search needs
 
@@ -36,8 +40,8 @@ returns c w =
     rw (c .before .before .before .before .before .before .before .before .enum-told .given .1, zs, zl) (refl, refl)
 
 returns-2 : tie.Need-returns-2
-unfolding placed
-returns-2 c w = rw (c .before .before .before .reply .given .1) (refl, c .replied .ensures w)
+returns-2 c w =
+    rw (c .before .before .before .reply .given .1) (refused-made (c .refused .result) _ _ _ _ _ _ _ w (c .refused .ensures) (c .before .replied .ensures w) _)
 
 pub opened-by-spec : {M : Type 1} → statement M
 opened-by-spec =
@@ -48,6 +52,7 @@ opened-by-spec =
     clear-lengths-requires
     enum-known-reply
     replied-requires
+    refused-requires
     same-length
     same-length-2
     returns
