@@ -7,6 +7,7 @@ use native.Mathlib.Decide.{decLt}
 use lib.ListN.{length, take, drop, length-take, length-drop}
 use lib.Seq.{take-all, take-at, take-append-add, length-take-le, length-paste-head}
 use Rattle.ring.specs.Runs.{copied}
+use Rattle.ring.specs.Lent.{copied-all}
 use Rattle.card.specs.declared.feed.Answered.{Answered}
 use Rattle.card.specs.declared.feed.Card.{Card}
 use Rattle.card.specs.declared.feed.Printed.{Printed}
@@ -15,7 +16,9 @@ use Rattle.grammar.specs.Feed as Feed
 use Rattle.grammar.specs.Feed.{Session, answerOf, lineEnds}
 use Rattle.card.specs.Answering.{answerIs}
 use Rattle.card.specs.Written.{Wrote, same-text}
-use Rattle.card.specs.Standing.{standingIs, sessionOf, Answers, EndsLine}
+use Rattle.card.specs.Standing.{standingIs, sessionOf, placeOf, Answers, EndsLine}
+use Rattle.card.specs.Laying.{put}
+use Rattle.card.proofs.Standings.{placed-is}
 
 take-less : (k m : ℕ) (s : List ℕ) → k ≤ m → take k (take m s) ≡ take k s
 take-less zero m s h = refl
@@ -45,16 +48,32 @@ hold-copy line piece held from to n h l f t e =
     take-at (a ++ take n d) (drop (held + n) line) (held + n) head
     ∙ sym (ap (λ (k : ℕ). take k (a ++ take (to - from) d)) all ∙ take-append-add a (take (to - from) d) (65536 - held) ∙ ap (λ (x : List ℕ). a ++ x) rest)
 
+-- and the area then
+pub hold-area : (line piece : List ℕ) (held from to n : ℕ) → from ≤ to → to ≤ length piece → n ≡ min (to - from) (65536 - held)
+    → copied line held piece from n ≡ put line held (take (65536 - held) (take (to - from) (drop from piece)))
+unfolding copied
+hold-area line piece held from to n f t e =
+    let d = drop from piece in
+    let ld : length d ≡ length piece - from = length-drop from piece in
+    let size : length (take n d) ≡ n = length-take-le n d (omega arith) in
+    let rest : take (65536 - held) (take (to - from) d) ≡ take n d = take-both (65536 - held) (to - from) n d (omega arith) e in
+    sym (ap (λ (x : List ℕ). put line held x) rest ∙ ap (copied line held (take n d) 0) size ∙ copied-all line held (take n d) n size)
+
 pub ends-line : (c : Card) (r : Answered) (line bytes lengths bytes′ lengths′ work out then : List ℕ) (at to : ℕ)
-    → Answers (answerOf (standingIs (c .standing) bytes lengths) (take (c .held - 0) line)) r bytes′ lengths′ work
+    → Answers (answerOf (standingIs (c .standing) bytes lengths) (take (c .held - 0) line)) (placeOf (c .standing) bytes lengths) r bytes′ lengths′ work
     → Wrote 131200 out then at to (lineText (c .lines + 1) (answerIs (r .answer) work))
-    → EndsLine (sessionOf c line bytes lengths) (record { card = record { standing = r .standing; lines = c .lines + 1; held = 0 }; at = to }) line bytes′ lengths′ out then at
+    → EndsLine (sessionOf c line bytes lengths) (placeOf (c .standing) bytes lengths) (record { card = record { standing = r .standing; lines = c .lines + 1; held = 0 }; at = to }) line bytes′ lengths′ out then at
 unfolding lineEnds
 ends-line c r line bytes lengths bytes′ lengths′ work out then at to h w =
     let z : c .held - 0 ≡ c .held = omega arith in
     let k = rw z at h in
+    let stage = placed-is (r .standing) bytes′ lengths′ _ _ (k .0) in
     record {
-      session = ap (λ (s : Feed.Stage). record { stage = s; lines = c .lines + 1; held = [] }) (k .0);
+      stands = record {
+        session = ap (λ (s : Feed.Stage). record { stage = s; lines = c .lines + 1; held = [] }) stage;
+        place = k .0;
+        held = refl;
+        most = omega arith;
+      };
       printed = same-text (ap (lineText (c .lines + 1)) (k .1)) w;
-      held = omega arith;
     }

@@ -1,13 +1,20 @@
 -- How a session's standing changes, by the way of a line.
-use mathlib.Core.Bool.{Bool}
+use mathlib.Core.Bool.{Bool, true, false, cond, true≢false}
 use mathlib.Core.Path.{_≡_, refl, sym, ap, _∙_}
-use mathlib.Core.List.{List}
+use mathlib.Core.List.{List, [], _∷_}
+use mathlib.Core.Option.{Option, none, some}
+use lib.Dec.{eqb, leb}
+use lib.ListN.{length}
 use Prim.Native.Nat.{ℕ}
+use Rattle.exec.specs.declared.Key.{Key}
+use Rattle.exec.specs.declared.Limits.{Limits}
+use Rattle.exec.specs.declared.Timers.{Timers}
 use Rattle.exec.specs.declared.Reply.{Reply}
 use Rattle.exec.specs.declared.Reply.the-variants as Reply
 use Rattle.runner.specs.declared.answer.Noting.{Noting}
 use Rattle.runner.specs.declared.runner.Runner.{Runner}
 use Rattle.runner.specs.Calls as Calls
+use Rattle.runner.specs.Range.{opens}
 use Rattle.account.specs.Call as Account
 use Rattle.account.specs.Call.{Call}
 use Rattle.account.specs.Step.{State, next, answer}
@@ -21,36 +28,140 @@ use Rattle.card.specs.declared.feed.Stage.the-variants as Stage
 use Rattle.card.specs.declared.feed.Standing.{Standing}
 use Rattle.card.specs.declared.opening.MaybeOpening.the-variants as MaybeOpening
 use Rattle.card.specs.declared.opening.Opening as Openings
-use Rattle.grammar.specs.Lines.{zeros}
+use Rattle.grammar.specs.Lines.{zeros, lineCall}
 use Rattle.grammar.specs.Feed as Feed
-use Rattle.grammar.specs.Feed.{isRefused, timeOf, remembered, openedBy, first}
+use Rattle.grammar.specs.Feed.{Session, isRefused, isBack, timeOf, remembered, openedBy, first, later, answered, tooLong, answerOf, lineEnds, hold, eat, feeds}
 use Rattle.card.specs.Meaning.{openingIs}
 use Rattle.card.specs.Answering.{answerIs}
-use Rattle.card.specs.Making.{timeIs, Made}
+use Rattle.card.specs.Making.{timeIs, stateOf, Made}
+use Rattle.card.specs.Zeros.{zeros-length}
 use Rattle.card.specs.Standing as To
-use Rattle.card.specs.Standing.{stageIs, standingIs, AnswersAll, openedAs, firstOf, madeBy}
+use Rattle.card.specs.Standing.{stageIs, standingIs, Place, placeOf, placed, AnswersAny, openedAs, firstOf, madeBy}
+
+abbrev place : Stages.Stage → State → (last : ℕ) → Place
+place x s last = record { stage = x; state = s; last = last }
+
+-- the place that a standing has
+pub placed-own : (s : Standing) (b l : List ℕ) → placeOf s b l ≡ placed (standingIs s b l) (placeOf s b l)
+unfolding placed
+placed-own s b l = by (s .stage)
+  where
+    by : (x : Stages.Stage) → place x (stateOf (s .runner) b l) (s .last) ≡ placed (stageIs x (s .runner) (s .last) b l) (place x (stateOf (s .runner) b l) (s .last))
+    by Stage.First = refl
+    by Stage.Running = refl
+    by Stage.Over = refl
+
+-- and what it stands for
+abbrev stageAt : Place → Feed.Stage
+stageAt p = stageIs (p .stage) (p .state .runner) (p .last) (p .state .bytes) (p .state .lengths)
+
+stage-placed : (x : Feed.Stage) (p : Place) → stageAt (placed x p) ≡ x
+unfolding placed
+stage-placed Feed.First p = refl
+stage-placed (Feed.Running s last) p = refl
+stage-placed Feed.Over p = refl
+
+pub placed-is : (s : Standing) (b l : List ℕ) (x : Feed.Stage) (p : Place) → placeOf s b l ≡ placed x p → standingIs s b l ≡ x
+placed-is s b l x p h = ap stageAt h ∙ stage-placed x p
+
+-- ---- a runner that is open stays open
+
+abbrev isOpen : Feed.Stage → Bool
+isOpen Feed.First = false
+isOpen (Feed.Running s last) = true
+isOpen Feed.Over = false
+
+abbrev chosen : Bool → (x y : Feed.Answered) → Feed.Answered
+chosen b x y = cond b x y
+
+either : (b : Bool) (x y : Feed.Answered) → isOpen (x .stage) ≡ true → isOpen (y .stage) ≡ true → isOpen (chosen b x y .stage) ≡ true
+either true x y h k = h
+either false x y h k = k
+
+later-open : (c : Option Call) (s : State) (last : ℕ) → isOpen (later c s last .stage) ≡ true
+unfolding later
+later-open none s last = refl
+later-open (some c) s last = either (isBack (timeOf c) last) _ _ refl refl
+
+answer-open : (x : Feed.Stage) (line : List ℕ) → isOpen x ≡ true → isOpen (answerOf x line .stage) ≡ true
+unfolding answerOf answered tooLong
+answer-open Feed.First line h = absurd (true≢false (sym h))
+answer-open (Feed.Running s last) line h = either (leb (length line) 65535) _ _ (later-open (lineCall line) s last) refl
+answer-open Feed.Over line h = absurd (true≢false (sym h))
+
+abbrev stepIf : Bool → (x y : Feed.Step) → Feed.Step
+stepIf e x y = cond e x y
+
+eat-open : (s : Session) (b : ℕ) → isOpen (s .stage) ≡ true → isOpen (eat s b .session .stage) ≡ true
+unfolding eat lineEnds
+eat-open s b h = by (eqb b 10)
+  where
+    by : (e : Bool) → isOpen (stepIf e (lineEnds s) (record { session = record { stage = s .stage; lines = s .lines; held = hold b (s .held) }; printed = [] }) .session .stage) ≡ true
+    by true = answer-open (s .stage) (s .held) h
+    by false = h
+
+feeds-open : (s : Session) (bs : List ℕ) → isOpen (s .stage) ≡ true → isOpen (feeds s bs .session .stage) ≡ true
+unfolding feeds
+feeds-open s [] h = h
+feeds-open s (b ∷ bs) h = feeds-open (eat s b .session) bs (eat-open s b h)
+
+-- so that places one after the other are the last
+placed-twice : (x y : Feed.Stage) (p : Place) → (isOpen x ≡ true → isOpen y ≡ true) → placed y (placed x p) ≡ placed y p
+unfolding placed
+placed-twice Feed.First Feed.First p h = refl
+placed-twice Feed.First (Feed.Running s last) p h = refl
+placed-twice Feed.First Feed.Over p h = refl
+placed-twice (Feed.Running s last) Feed.First p h = absurd (true≢false (sym (h refl)))
+placed-twice (Feed.Running s last) (Feed.Running t last′) p h = refl
+placed-twice (Feed.Running s last) Feed.Over p h = absurd (true≢false (sym (h refl)))
+placed-twice Feed.Over Feed.First p h = refl
+placed-twice Feed.Over (Feed.Running s last) p h = refl
+placed-twice Feed.Over Feed.Over p h = refl
+
+pub placed-on : (s : Session) (bs : List ℕ) (p : Place) → placed (feeds s bs .session .stage) (placed (s .stage) p) ≡ placed (feeds s bs .session .stage) p
+placed-on s bs p = placed-twice (s .stage) (feeds s bs .session .stage) p (feeds-open s bs)
+
+-- ---- a line
+
+-- a refusal that leaves all but the stage
+pub refused-made : (r : Answered) (x : Stages.Stage) (runner : Runner) (last : ℕ) (a : Answer) (z : Account.Answer) (b l w : List ℕ)
+    → (r .standing ≡ record { stage = x; runner = runner; last = last }) × (r .answer ≡ a) → answerIs a w ≡ z
+    → (y : Stages.Stage) → To.Answers (record { stage = stageIs x runner last b l; answer = z }) (place y (stateOf runner b l) last) r b l w
+unfolding placed
+refused-made r x runner last a z b l w h e y = (ap (λ (s : Standing). placeOf s b l) (h .0) ∙ by x, ap (λ (t : Answer). answerIs t w) (h .1) ∙ e)
+  where
+    by : (x : Stages.Stage) → place x (stateOf runner b l) last ≡ placed (stageIs x runner last b l) (place y (stateOf runner b l) last)
+    by Stage.First = refl
+    by Stage.Running = refl
+    by Stage.Over = refl
 
 -- 30
 pub bad-made : (r : Answered) (x : Stages.Stage) (runner : Runner) (last : ℕ) (b l w : List ℕ)
     → (r .standing ≡ record { stage = x; runner = runner; last = last }) × (r .answer ≡ Answers.Refused 30)
-    → To.Answers (record { stage = stageIs x runner last b l; answer = Account.Refused 30 }) r b l w
-bad-made r x runner last b l w h = (ap (λ (s : Standing). standingIs s b l) (h .0), ap (λ (a : Answer). answerIs a w) (h .1))
+    → (y : Stages.Stage) → To.Answers (record { stage = stageIs x runner last b l; answer = Account.Refused 30 }) (place y (stateOf runner b l) last) r b l w
+bad-made r x runner last b l w h y = refused-made r x runner last (Answers.Refused 30) (Account.Refused 30) b l w h refl y
 
 -- a call that is not refused by 31
-pub made-by : (m : Making) (s : State) (c : Call) (b l w : List ℕ) (last last′ : ℕ) (refused : Bool) (time : MaybeTime) → Made s c m b l w
+pub made-by : (m : Making) (s : State) (c : Call) (was : Place) (b l w : List ℕ) (last last′ : ℕ) (refused : Bool) (time : MaybeTime) → Made s c m b l w
     → refused ≡ isRefused (answerIs (m .answer) w) → timeIs time ≡ timeOf c → last′ ≡ remembered refused (timeIs time) last
-    → To.Answers (madeBy c s last) (record { standing = record { stage = Stage.Running; runner = m .runner; last = last′ }; answer = m .answer }) b l w
-made-by m s c b l w last last′ refused time h r t e =
+    → To.Answers (madeBy c s last) was (record { standing = record { stage = Stage.Running; runner = m .runner; last = last′ }; answer = m .answer }) b l w
+unfolding placed
+made-by m s c was b l w last last′ refused time h r t e =
     let k : last′ ≡ remembered (isRefused (answer s c)) (timeOf c) last = e ∙ ap (λ (x : Bool). remembered x (timeIs time) last) (r ∙ ap isRefused (h .1)) ∙ rw t refl in
-    (ap (λ (x : State). Feed.Running x last′) (h .0) ∙ ap (λ (x : ℕ). Feed.Running (next s c) x) k, h .1)
+    (ap (λ (x : State). place Stage.Running x last′) (h .0) ∙ ap (place Stage.Running (next s c)) k, h .1)
 
--- the first line
-pub opened-first : (o : Openings.Opening) (r : Answered) (n : Noting) → n ≡ Calls.«open» (o .key) (o .limits) (o .timers) (o .now) (zeros 65536) (zeros 1024)
-    → AnswersAll (openedAs (n .reply) (n .runner) (o .now)) r → (w : List ℕ) → To.Answers (firstOf o) r (zeros 65536) (zeros 1024) w
+-- the first line: whether it opens a runner is decided by how long the stores are
+same-opening : (k : Key) (m : Limits) (t : Timers) (now : ℕ) (b l : List ℕ) → length b ≡ 65536 → length l ≡ 1024
+    → Calls.«open» k m t now b l ≡ Calls.«open» k m t now (zeros 65536) (zeros 1024)
+unfolding Calls.«open» opens
+same-opening k m t now b l hb hl = rw (hb, hl, zeros-length 65536, zeros-length 1024) refl
+
+pub opened-first : (o : Openings.Opening) (was : Place) (r : Answered) (n : Noting) (b l b′ l′ : List ℕ) → n ≡ Calls.«open» (o .key) (o .limits) (o .timers) (o .now) b l
+    → length b ≡ 65536 → length l ≡ 1024 → AnswersAny (openedAs (n .reply) (n .runner) (o .now)) was r b′ l′ → AnswersAny (firstOf o) was r b′ l′
 unfolding first
-opened-first o r n e h w = by (Calls.«open» (o .key) (o .limits) (o .timers) (o .now) (zeros 65536) (zeros 1024) .reply) (rw e at (h (zeros 65536) (zeros 1024) w))
+opened-first o was r n b l b′ l′ e hb hl h w = by (Calls.«open» (o .key) (o .limits) (o .timers) (o .now) (zeros 65536) (zeros 1024) .reply) (rw (e ∙ same-opening (o .key) (o .limits) (o .timers) (o .now) b l hb hl) at (h w))
   where
-    by : (x : Reply) → To.Answers (openedAs x (Calls.«open» (o .key) (o .limits) (o .timers) (o .now) (zeros 65536) (zeros 1024) .runner) (o .now) (zeros 65536) (zeros 1024)) r (zeros 65536) (zeros 1024) w
-        → To.Answers (openedBy x (record { conf = record { key = o .key; limits = o .limits; timers = o .timers }; now = o .now })) r (zeros 65536) (zeros 1024) w
+    by : (x : Reply) → To.Answers (openedAs x (Calls.«open» (o .key) (o .limits) (o .timers) (o .now) (zeros 65536) (zeros 1024) .runner) (o .now)) was r b′ l′ w
+        → To.Answers (openedBy x (record { conf = record { key = o .key; limits = o .limits; timers = o .timers }; now = o .now })) was r b′ l′ w
     by Reply.Ok h = h
     by (Reply.Refused y) h = h

@@ -48,7 +48,7 @@ line-most (b ∷ s) = by (eqb b 10) (line-most s)
     by false l = omega arith
 
 -- a byte that is held
-abbrev holding : Session → List ℕ → Session
+abbrev pub holding : Session → List ℕ → Session
 holding s l = record { stage = s .stage; lines = s .lines; held = l }
 
 hold-most : (b : ℕ) (l : List ℕ) → length l ≤ 65536 → length (hold b l) ≤ 65536

@@ -7,5 +7,6 @@ pub mod Written
 pub mod Zeros
 pub mod Making
 pub mod Feeding
+pub mod Laying
 pub mod Standing
 pub mod Turning

@@ -5,14 +5,13 @@ ghost use mathlib.Core.Option.{some};
 ghost use Prim.Native.Nat.{_+_, _-_, _≤_, _<_};
 ghost use lib.ListN.{length, take, drop};
 ghost use Rattle.grammar.specs.Lines.{zeros, lineOpen, lineCall};
-ghost use Rattle.grammar.specs.Feed.{isBack, remembered, first, later, answered, tooLong, answerOf, lineEnds, ends};
+ghost use Rattle.grammar.specs.Feed.{isBack, remembered, first, later, answered, tooLong, answerOf, lineEnds};
 ghost use Rattle.card.specs.Meaning.{callIs, openingIs};
 ghost use Rattle.card.specs.Making.{timeIs, TimeIs, stateOf};
-ghost use Rattle.card.specs.Written.{Wrote};
 ghost use Rattle.card.specs.Feeding.{lineLength, goesOn};
-ghost use Rattle.card.specs.Turning.{Passes, Goes, Starts, isReady, Fed, Eats, canFinish, Finishes};
+ghost use Rattle.card.specs.Turning.{newCard, Passes, Goes, isReady, Fed, Eats, Ended, canFinish, Finishes};
 ghost use Rattle.card.specs.declared.answers.Answer.the-variants as Answer;
-ghost use Rattle.card.specs.Standing.{standingIs, Answers, AnswersAny, AnswersAll, openedAs, firstOf, madeBy, tooLongAt, sessionOf, Areas, Holds, EndsLine};
+ghost use Rattle.card.specs.Standing.{standingIs, placeOf, Answers, AnswersAny, AnswersAll, openedAs, firstOf, madeBy, tooLongAt, sessionOf, Areas, Holds, EndsLine};
 use crate::answers;
 use crate::answers::Answer;
 use crate::calls::MaybeTime;
@@ -117,8 +116,9 @@ fn clear_lengths(lengths: &mut [u32])
 }
 
 impl Standing {
-    fn bad(self, stage: Stage) -> Answered
-        ensures { λ r. ⌜ (r .standing ≡ record { stage = stage; runner = self .runner; last = self .last }) × (r .answer ≡ Answer.Refused 30) ⌝ }
+    // Nothing changes but the stage.
+    fn refused(self, stage: Stage, answer: Answer) -> Answered
+        ensures { λ r. ⌜ (r .standing ≡ record { stage = stage; runner = self .runner; last = self .last }) × (r .answer ≡ answer) ⌝ }
     {
         let runner = self.runner;
         Answered {
@@ -127,59 +127,67 @@ impl Standing {
                 runner,
                 last: self.last,
             },
-            answer: Answer::Refused(30),
+            answer,
         }
+    }
+
+    fn bad(self, stage: Stage) -> Answered
+        ensures { λ r. ⌜ (r .standing ≡ record { stage = stage; runner = self .runner; last = self .last }) × (r .answer ≡ Answer.Refused 30) ⌝ }
+    {
+        self.refused(stage, Answer::Refused(30))
     }
 
     // ---- the first line
 
-    fn opened_by(self, runner: Runner, reply: Reply, now: u64) -> Answered
-        ensures { λ r. ⌜ AnswersAll (openedAs reply runner now) r ⌝ }
+    // The stores are cleared for a runner that opened.
+    fn opened_by(
+        self,
+        runner: Runner,
+        reply: Reply,
+        time: u64,
+        store: &mut [u8],
+        lengths: &mut [u32],
+    ) -> Answered
+        requires { ⌜ (length (now store) ≡ 65536) × (length (now lengths) ≡ 1024) ⌝ }
+        ensures { λ r. ⌜ AnswersAny (openedAs reply runner time) (placeOf self (now (store .entry)) (now (lengths .entry))) r (now (store .exit)) (now (lengths .exit)) ⌝ }
     {
         match reply {
             Reply::Ok => {
+                clear(store, 65536);
+                clear_lengths(lengths);
                 let standing = Standing {
                     stage: Stage::Running,
                     runner,
-                    last: now,
+                    last: time,
                 };
                 Answered {
                     standing,
                     answer: Answer::Ok,
                 }
             }
-            Reply::Refused(refusal) => {
-                let standing = Standing {
-                    stage: Stage::Over,
-                    runner,
-                    last: now,
-                };
-                Answered {
-                    standing,
-                    answer: answers::replied(Reply::Refused(refusal)),
-                }
-            }
+            Reply::Refused(refusal) => self.refused(
+                Stage::Over,
+                answers::replied(Reply::Refused(refusal)),
+            ),
         }
     }
 
     fn open(self, opening: Opening, store: &mut [u8], lengths: &mut [u32]) -> Answered
         requires { ⌜ (length (now store) ≡ 65536) × (length (now lengths) ≡ 1024) ⌝ }
-        ensures { λ r. ⌜ AnswersAny (firstOf opening) r (now (store .exit)) (now (lengths .exit)) ⌝ }
+        ensures { λ r. ⌜ AnswersAny (firstOf opening) (placeOf self (now (store .entry)) (now (lengths .entry))) r (now (store .exit)) (now (lengths .exit)) ⌝ }
     {
-        clear(store, 65536);
-        clear_lengths(lengths);
         let key = opening.key;
         let limits = opening.limits;
         let timers = opening.timers;
         let noting = Runner::open(key, limits, timers, opening.now, store, lengths);
         let runner = noting.runner;
         let reply = noting.reply;
-        self.opened_by(runner, reply, opening.now)
+        self.opened_by(runner, reply, opening.now, store, lengths)
     }
 
     fn first(self, line: &[u8], store: &mut [u8], lengths: &mut [u32]) -> Answered
         requires { ⌜ (length (now line) ≤ 65535) × (length (now store) ≡ 65536) × (length (now lengths) ≡ 1024) ⌝ }
-        ensures { λ r. ⌜ AnswersAny (first (lineOpen (now (line .entry)))) r (now (store .exit)) (now (lengths .exit)) ⌝ }
+        ensures { λ r. ⌜ AnswersAny (first (lineOpen (now (line .entry)))) (placeOf self (now (store .entry)) (now (lengths .entry))) r (now (store .exit)) (now (lengths .exit)) ⌝ }
     {
         let MaybeOpening::Some(opening) = open_of(line) else {
             return self.bad(Stage::Over);
@@ -198,7 +206,7 @@ impl Standing {
         work: &mut [u8],
     ) -> Answered
         requires { ⌜ (length (now store) ≡ 65536) × (length (now work) ≡ 65536) × TimeIs time call ⌝ }
-        ensures { λ r. ⌜ Answers (madeBy (callIs call (now (work .entry))) (stateOf (self .runner) (now (store .entry)) (now (lengths .entry))) (self .last)) r (now (store .exit)) (now (lengths .exit)) (now (work .exit)) ⌝ }
+        ensures { λ r. ⌜ Answers (madeBy (callIs call (now (work .entry))) (stateOf (self .runner) (now (store .entry)) (now (lengths .entry))) (self .last)) (placeOf self (now (store .entry)) (now (lengths .entry))) r (now (store .exit)) (now (lengths .exit)) (now (work .exit)) ⌝ }
     {
         let runner = self.runner;
         let making = make(runner, call, store, lengths, work);
@@ -215,7 +223,7 @@ impl Standing {
 
     fn call(self, call: Call, store: &mut [u8], lengths: &mut [u32], work: &mut [u8]) -> Answered
         requires { ⌜ (length (now store) ≡ 65536) × (length (now work) ≡ 65536) ⌝ }
-        ensures { λ r. ⌜ Answers (later (some (callIs call (now (work .entry)))) (stateOf (self .runner) (now (store .entry)) (now (lengths .entry))) (self .last)) r (now (store .exit)) (now (lengths .exit)) (now (work .exit)) ⌝ }
+        ensures { λ r. ⌜ Answers (later (some (callIs call (now (work .entry)))) (stateOf (self .runner) (now (store .entry)) (now (lengths .entry))) (self .last)) (placeOf self (now (store .entry)) (now (lengths .entry))) r (now (store .exit)) (now (lengths .exit)) (now (work .exit)) ⌝ }
     {
         let time = time_of(call);
         if is_back(time, self.last) {
@@ -235,7 +243,7 @@ impl Standing {
 
     fn later(self, line: &[u8], store: &mut [u8], lengths: &mut [u32], work: &mut [u8]) -> Answered
         requires { ⌜ (length (now line) ≤ 65535) × (length (now store) ≡ 65536) × (length (now work) ≡ 65536) ⌝ }
-        ensures { λ r. ⌜ Answers (later (lineCall (now (line .entry))) (stateOf (self .runner) (now (store .entry)) (now (lengths .entry))) (self .last)) r (now (store .exit)) (now (lengths .exit)) (now (work .exit)) ⌝ }
+        ensures { λ r. ⌜ Answers (later (lineCall (now (line .entry))) (stateOf (self .runner) (now (store .entry)) (now (lengths .entry))) (self .last)) (placeOf self (now (store .entry)) (now (lengths .entry))) r (now (store .exit)) (now (lengths .exit)) (now (work .exit)) ⌝ }
     {
         let Line::Call(call) = call_of(line, work) else {
             return self.bad(Stage::Running);
@@ -253,7 +261,7 @@ impl Standing {
         work: &mut [u8],
     ) -> Answered
         requires { ⌜ (length (now line) ≤ 65535) × (length (now store) ≡ 65536) × (length (now lengths) ≡ 1024) × (length (now work) ≡ 65536) ⌝ }
-        ensures { λ r. ⌜ Answers (answered (standingIs self (now (store .entry)) (now (lengths .entry))) (now (line .entry))) r (now (store .exit)) (now (lengths .exit)) (now (work .exit)) ⌝ }
+        ensures { λ r. ⌜ Answers (answered (standingIs self (now (store .entry)) (now (lengths .entry))) (now (line .entry))) (placeOf self (now (store .entry)) (now (lengths .entry))) r (now (store .exit)) (now (lengths .exit)) (now (work .exit)) ⌝ }
     {
         let stage = self.stage;
         match stage {
@@ -265,7 +273,7 @@ impl Standing {
 
     // A line of more than 65,535 bytes is refused whole; it is the first line where it stands first.
     fn too_long(self) -> Answered
-        ensures { λ r. ⌜ AnswersAll (tooLongAt self) r ⌝ }
+        ensures { λ r. ⌜ AnswersAll (tooLongAt self) self r ⌝ }
     {
         let stage = self.stage;
         match stage {
@@ -277,7 +285,7 @@ impl Standing {
 
     fn answer(self, line: &[u8], store: &mut [u8], lengths: &mut [u32], work: &mut [u8]) -> Answered
         requires { ⌜ (length (now store) ≡ 65536) × (length (now lengths) ≡ 1024) × (length (now work) ≡ 65536) ⌝ }
-        ensures { λ r. ⌜ Answers (answerOf (standingIs self (now (store .entry)) (now (lengths .entry))) (now (line .entry))) r (now (store .exit)) (now (lengths .exit)) (now (work .exit)) ⌝ }
+        ensures { λ r. ⌜ Answers (answerOf (standingIs self (now (store .entry)) (now (lengths .entry))) (now (line .entry))) (placeOf self (now (store .entry)) (now (lengths .entry))) r (now (store .exit)) (now (lengths .exit)) (now (work .exit)) ⌝ }
     {
         if line.len() <= 65535 {
             return self.answered(line, store, lengths, work);
@@ -332,7 +340,7 @@ impl Card {
         at: usize,
     ) -> Printed
         requires { ⌜ Areas (now line) (now store) (now lengths) (now work) × (self .held ≤ 65536) × (self .lines < 18446744073709551615) × (at + 131200 ≤ length (now out)) ⌝ }
-        ensures { λ r. ⌜ EndsLine (sessionOf self (now (line .entry)) (now (store .entry)) (now (lengths .entry))) r (now (line .entry)) (now (store .exit)) (now (lengths .exit)) (now (out .entry)) (now (out .exit)) at ⌝ }
+        ensures { λ r. ⌜ EndsLine (sessionOf self (now (line .entry)) (now (store .entry)) (now (lengths .entry))) (placeOf (self .standing) (now (store .entry)) (now (lengths .entry))) r (now (line .entry)) (now (store .exit)) (now (lengths .exit)) (now (out .entry)) (now (out .exit)) at ⌝ }
     {
         let held = self.held;
         let number = self.lines + 1;
@@ -375,7 +383,7 @@ impl Card {
         at: usize,
     ) -> Turn
         requires { ⌜ Areas (now line) (now store) (now lengths) (now work) × (self .held ≤ 65536) × (at ≤ length (now out)) × (end < 18446744073709551615) ⌝ }
-        ensures { λ r. ⌜ Passes (goesOn (sessionOf self (now (line .entry)) (now (store .entry)) (now (lengths .entry))) (length (now (out .entry)) - at)) (sessionOf self (now (line .entry)) (now (store .entry)) (now (lengths .entry))) r (sessionOf (r .card) (now (line .entry)) (now (store .exit)) (now (lengths .exit))) (now (out .entry)) (now (out .exit)) at end ⌝ }
+        ensures { λ r. ⌜ Passes (goesOn (sessionOf self (now (line .entry)) (now (store .entry)) (now (lengths .entry))) (length (now (out .entry)) - at)) (sessionOf self (now (line .entry)) (now (store .entry)) (now (lengths .entry))) (placeOf (self .standing) (now (store .entry)) (now (lengths .entry))) r (now (line .entry)) (now (store .exit)) (now (lengths .exit)) (now (out .entry)) (now (out .exit)) at end ⌝ }
     {
         if (131200 <= out.len() - at) & (self.lines < 18446744073709551615) {
             let printed = self.end_line(line, store, lengths, work, out, at);
@@ -407,7 +415,7 @@ fn go_on(
     out: &mut [u8],
 ) -> Turn
     requires { ⌜ Areas (now line) (now store) (now lengths) (now work) × (t .card .held ≤ 65536) × (t .at ≤ length (now out)) × (t .used ≤ length (now piece)) ⌝ }
-    ensures { λ r. ⌜ Goes (sessionOf (t .card) (now (line .entry)) (now (store .entry)) (now (lengths .entry))) t r (sessionOf (r .card) (now (line .exit)) (now (store .exit)) (now (lengths .exit))) (now (piece .entry)) (now (out .entry)) (now (out .exit)) ⌝ }
+    ensures { λ r. ⌜ Goes (sessionOf (t .card) (now (line .entry)) (now (store .entry)) (now (lengths .entry))) (placeOf (t .card .standing) (now (store .entry)) (now (lengths .entry))) t r (now (line .entry)) (now (line .exit)) (now (store .exit)) (now (lengths .exit)) (now (piece .entry)) (now (out .entry)) (now (out .exit)) ⌝ }
 {
     let from = t.used;
     let at = t.at;
@@ -428,7 +436,7 @@ fn go_on(
 impl Card {
     // A session before its first line.
     pub fn new() -> Card
-        ensures { λ r. ⌜ Starts r ⌝ }
+        ensures { λ r. ⌜ r ≡ newCard ⌝ }
     {
         let none = Limits {
             chunk: 0,
@@ -466,7 +474,7 @@ impl Card {
         out: &mut [u8],
     ) -> Eaten
         requires { ⌜ Areas (now line) (now store) (now lengths) (now work) × (self .held ≤ 65536) ⌝ }
-        ensures { λ r. ⌜ Fed (sessionOf self (now (line .entry)) (now (store .entry)) (now (lengths .entry))) r (sessionOf (r .card) (now (line .exit)) (now (store .exit)) (now (lengths .exit))) (now (piece .entry)) (now (out .entry)) (now (out .exit)) ⌝ }
+        ensures { λ r. ⌜ Fed (sessionOf self (now (line .entry)) (now (store .entry)) (now (lengths .entry))) (placeOf (self .standing) (now (store .entry)) (now (lengths .entry))) r (now (line .entry)) (now (line .exit)) (now (store .exit)) (now (lengths .exit)) (now (piece .entry)) (now (out .entry)) (now (out .exit)) ⌝ }
     {
         let mut t = Turn {
             card: self,
@@ -487,7 +495,7 @@ impl Card {
 
     // Eats a piece of input and writes the answers at the start of `out`. It stops before the end of a line where less than
     // 131,200 bytes of `out` are free, which is more than any answer has, and says how much of the piece it has eaten. With areas
-    // that are not a session's it eats nothing. What stands in the line area behind the bytes that are held is of no meaning.
+    // that are not a session's it eats nothing. The stores are left as they are while no runner is open.
     pub fn eat(
         self,
         line: &mut [u8],
@@ -511,14 +519,14 @@ impl Card {
 
     fn end_held(
         self,
-        line: &mut [u8],
+        line: &[u8],
         store: &mut [u8],
         lengths: &mut [u32],
         work: &mut [u8],
         out: &mut [u8],
     ) -> Eaten
         requires { ⌜ Areas (now line) (now store) (now lengths) (now work) × (self .held ≤ 65536) × (self .lines < 18446744073709551615) × (131200 ≤ length (now out)) ⌝ }
-        ensures { λ r. ⌜ Wrote (length (now (out .entry))) (now (out .entry)) (now (out .exit)) 0 (r .printed) (ends (sessionOf self (now (line .entry)) (now (store .entry)) (now (lengths .entry)))) ⌝ }
+        ensures { λ r. ⌜ Ended (sessionOf self (now (line .entry)) (now (store .entry)) (now (lengths .entry))) (placeOf (self .standing) (now (store .entry)) (now (lengths .entry))) r (now (line .entry)) (now (store .exit)) (now (lengths .exit)) (now (out .entry)) (now (out .exit)) ⌝ }
     {
         if 0 < self.held {
             let last = self.end_line(line, store, lengths, work, out, 0);
@@ -536,15 +544,9 @@ impl Card {
         }
     }
 
-    // The end of the input ends a line that has begun. Where there is no room for its answer nothing is written.
-    pub fn finish(
-        self,
-        line: &mut [u8],
-        store: &mut [u8],
-        lengths: &mut [u32],
-        out: &mut [u8],
-    ) -> Eaten
-        ensures { λ r. ⌜ Finishes (canFinish self (length (now (line .entry))) (length (now (store .entry))) (length (now (lengths .entry))) (length (now (out .entry)))) (sessionOf self (now (line .entry)) (now (store .entry)) (now (lengths .entry))) r (now (out .entry)) (now (out .exit)) ⌝ }
+    // The end of the input ends a line that has begun. Where there is no room for its answer nothing changes.
+    pub fn finish(self, line: &[u8], store: &mut [u8], lengths: &mut [u32], out: &mut [u8]) -> Eaten
+        ensures { λ r. ⌜ Finishes (canFinish self (length (now (line .entry))) (length (now (store .entry))) (length (now (lengths .entry))) (length (now (out .entry)))) self r (now (line .entry)) (now (store .entry)) (now (store .exit)) (now (lengths .entry)) (now (lengths .exit)) (now (out .entry)) (now (out .exit)) ⌝ }
     {
         let ready = self.is_ready(line.len(), store.len(), lengths.len());
         if ready & (self.lines < 18446744073709551615) & (131200 <= out.len()) {

@@ -71,13 +71,7 @@ pub fn feed(
 }
 
 // The end of the input, which ends a line that has begun.
-pub fn end(
-    card: Card,
-    line: &mut [u8],
-    store: &mut [u8],
-    lengths: &mut [u32],
-    out: &mut [u8],
-) -> bool {
+pub fn end(card: Card, line: &[u8], store: &mut [u8], lengths: &mut [u32], out: &mut [u8]) -> bool {
     let last = card.finish(line, store, lengths, out);
     let printed = last.printed;
     emit(out, printed)

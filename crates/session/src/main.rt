@@ -53,5 +53,5 @@ fn main() {
         card = fed.card;
         turns = left(turns, fed.more);
     }
-    feeder::end(card, &mut line, &mut store, &mut lengths, &mut out);
+    feeder::end(card, &line, &mut store, &mut lengths, &mut out);
 }

@@ -1,8 +1,11 @@
-use Rattle.card.proofs.Turns.{held-session, held-most, go-passed, go-held}
-use Rattle.card.specs.Standing.{sessionOf}
-use lib.ListN.{length}
+use Rattle.card.proofs.Turns.{own, held-session, held-area, held-most, go-passed, go-held}
+use Rattle.card.specs.Standing.{sessionOf, placeOf}
+use Rattle.card.specs.Feeding.{lineLength}
+use Rattle.card.specs.declared.feed.Standing.{Standing}
+use Prim.Native.Nat.{_-_}
+use lib.ListN.{length, take, drop}
 use native.Mathlib.Omega.{arith}
-use mathlib.Core.Path.{_≡_, refl, _∙_}
+use mathlib.Core.Path.{_≡_, refl, ap, _∙_}
 use borrow.Author.Needs.{needs}
 use Rattle.card.proofs.feed.go_on.Statement.{statement}
 use Rattle.card.proofs.feed.go_on.Tie as tie
@@ -38,9 +41,16 @@ returns : tie.Need-returns
 returns c =
     let s = c .before .before .before .before .before .before .before .before .before .before .before .before .before .before .before .before .before .before .before .before .before .before .before .before .before .before .before in
     let a = s .args in
-    let e = c .before .before .before .before .before .before .before .before .before .before .before .before .before .before .before .before .before .hold .ensures in
-    let held = held-session (a .t .card) (c .before .before .before .before .before .before .before .before .before .before .before .before .before .before .before .before .before .hold .result) (a .line .now) (c .before .before .before .before .before .before .before .before .before .before .before .before .before .before .before .before .before .hold .last .1 .0) (a .store .now) (a .lengths .now) _ e in
-    go-passed (sessionOf (a .t .card) (a .line .now) (a .store .now) (a .lengths .now)) (a .t) (c .before .before .before .before .before .before .before .before .pass-line .result) _ (a .piece .now) (a .out .now) _ (c .before .before .before .before .before .before .before .before .before .before .before .before .before .before .before .before .before .before .before .before .line-end .result) (held-most (a .t .card .held) (a .line .now) (s .pre .1)) (c .before .before .before .before .before .before .before .before .before .before .before .before .before .before .before .before .before .before .before .before .line-end .ensures .0) (s .pre .3) (s .pre .2) _ held (c .before .before .before .before .before .before .before .before .before .before .before .before .before .before .if1 .taken) (c .before .before .before .before .before .before .before .before .pass-line .ensures)
+    let kept = c .before .before .before .before .before .before .before .before .before .before .before .before .before .before .before .before .before .hold in
+    let at = c .before .before .before .before .before .before .before .before .before .before .before .before .before .before .before .before .before .before .before .before .line-end in
+    let e = kept .ensures in
+    let bs = drop (a .t .used) (a .piece .now) in
+    let end = at .result in
+    let to : end - a .t .used ≡ lineLength bs = omega (arith, at .ensures .0) in
+    let held = held-session (a .t .card) (kept .result) (a .line .now) (kept .last .1 .0) (a .store .now) (a .lengths .now) (take (end - a .t .used) bs) e in
+    let area = held-area (a .t .card) (kept .result) (a .line .now) (kept .last .1 .0) (a .store .now) (a .lengths .now) bs (end - a .t .used) e to (s .pre .1) (s .pre .0 .0) in
+    let place = ap (λ (x : Standing). placeOf x (a .store .now) (a .lengths .now)) (e .standing) in
+    go-passed (sessionOf (a .t .card) (a .line .now) (a .store .now) (a .lengths .now)) (placeOf (a .t .card .standing) (a .store .now) (a .lengths .now)) (a .t) (c .before .before .before .before .before .before .before .before .pass-line .result) (a .line .now) _ _ _ (a .piece .now) (a .out .now) _ (at .result) (held-most (a .t .card .held) (a .line .now) (s .pre .1)) (at .ensures .0) (s .pre .3) (s .pre .2) area _ _ held place (c .before .before .before .before .before .before .before .before .before .before .before .before .before .before .if1 .taken) (c .before .before .before .before .before .before .before .before .pass-line .ensures)
 
 same-length-6 : tie.Need-same-length-6
 same-length-6 c = search needs
@@ -49,9 +59,17 @@ returns-2 : tie.Need-returns-2
 returns-2 c =
     let s = c .before .before .before .before .before .before .before .before .before .before .before .before .before in
     let a = s .args in
-    let e = c .before .before .before .hold .ensures in
-    let held = held-session (a .t .card) (c .before .before .before .hold .result) (a .line .now) (c .before .before .before .hold .last .1 .0) (a .store .now) (a .lengths .now) _ e in
-    go-held (sessionOf (a .t .card) (a .line .now) (a .store .now) (a .lengths .now)) (a .t) _ _ (a .piece .now) (a .out .now) (a .out .now) (c .before .before .before .before .before .before .line-end .result) (held-most (a .t .card .held) (a .line .now) (s .pre .1)) (c .before .before .before .before .before .before .line-end .ensures .0) (s .pre .3) (s .pre .2) _ held (omega (arith, c .before .before .before .before .before .before .line-end .ensures .1, c .if1 .left)) refl refl refl refl refl (e .most)
+    let kept = c .before .before .before .hold in
+    let at = c .before .before .before .before .before .before .line-end in
+    let e = kept .ensures in
+    let bs = drop (a .t .used) (a .piece .now) in
+    let end = at .result in
+    let to : end - a .t .used ≡ lineLength bs = omega (arith, at .ensures .0) in
+    let held = held-session (a .t .card) (kept .result) (a .line .now) (kept .last .1 .0) (a .store .now) (a .lengths .now) (take (end - a .t .used) bs) e in
+    let area = held-area (a .t .card) (kept .result) (a .line .now) (kept .last .1 .0) (a .store .now) (a .lengths .now) bs (end - a .t .used) e to (s .pre .1) (s .pre .0 .0) in
+    let place = ap (λ (x : Standing). placeOf x (a .store .now) (a .lengths .now)) (e .standing) in
+    let size : length (kept .last .1 .0) ≡ 65536 = (search needs) ∙ s .pre .0 .0 in
+    go-held (sessionOf (a .t .card) (a .line .now) (a .store .now) (a .lengths .now)) (placeOf (a .t .card .standing) (a .store .now) (a .lengths .now)) (a .t) _ (a .line .now) _ _ _ (a .piece .now) (a .out .now) _ (at .result) (held-most (a .t .card .held) (a .line .now) (s .pre .1)) (at .ensures .0) (s .pre .3) (s .pre .2) area _ _ held place (omega (arith, at .ensures .1, c .if1 .left)) (own (kept .result) (kept .last .1 .0) (a .store .now) (a .lengths .now) (e .most) size) refl refl refl refl
 
 pub go-on-spec : {M : Type 1} → statement M
 go-on-spec =

@@ -1,5 +1,7 @@
-use Rattle.card.proofs.Turns.{bound, wrote-none, ends-some, ends-none}
+use Rattle.card.proofs.Turns.{bound, wrote-none, own, stands-as, ends-some, ends-none, ended-some, ended-none}
+use Rattle.card.specs.Standing.{sessionOf}
 use Rattle.card.specs.Written.{same-text}
+use Prim.Native.Nat.{_<_}
 use lib.Seq.{length-take-le}
 use lib.ListN.{length, take}
 use native.Mathlib.Omega.{arith}
@@ -23,20 +25,28 @@ same-length-3 c = search needs
 same-length-4 : tie.Need-same-length-4
 same-length-4 c = search needs
 
-same-length-5 : tie.Need-same-length-5
-same-length-5 c = search needs
-
 returns : tie.Need-returns
 returns c =
-    let s = c .before .before .before .before .before .before .before .before .before .before .before .before .before .before .before .before .before .before .before .before .before .before in
-    let size : length (take (s .args .self .held) (s .args .line .now)) ≡ s .args .self .held = length-take-le _ _ (omega (arith, s .pre .0 .0, s .pre .1)) in
-    same-text (sym (ends-some _ (omega (arith, size, c .before .before .before .before .before .before .before .before .before .before .before .before .before .before .before .if1 .taken)))) (bound (c .before .before .before .before .before .before .before .before .before .end-line .ensures .printed))
+    let s = c .before .before .before .before .before .before .before .before .before .before .before .before .before .before .before .before .before .before .before .before .before in
+    let a = s .args in
+    let size : length (take (a .self .held) (a .line .now)) ≡ a .self .held = length-take-le _ _ (omega (arith, s .pre .0 .0, s .pre .1)) in
+    let some : 0 < length (take (a .self .held) (a .line .now)) = omega (arith, size, c .before .before .before .before .before .before .before .before .before .before .before .before .before .before .if1 .taken) in
+    let session = sessionOf (a .self) (a .line .now) (a .store .now) (a .lengths .now) in
+    let e = c .before .before .before .before .before .before .before .before .before .end-line .ensures in
+    record { used = refl; stands = stands-as (ended-some session some) (e .stands); printed = same-text (sym (ends-some session some)) (bound (e .printed)) }
 
 returns-2 : tie.Need-returns-2
 returns-2 c =
     let s = c .before .before .before .before .before .before .before in
-    let none : s .args .self .held ≡ 0 = omega (arith, c .if1 .left) in
-    same-text (sym (ends-none _ (rw none refl))) (wrote-none _ _ 0 0 refl refl (omega arith))
+    let a = s .args in
+    let none : a .self .held ≡ 0 = omega (arith, c .if1 .left) in
+    let session = sessionOf (a .self) (a .line .now) (a .store .now) (a .lengths .now) in
+    let short : length (take (a .self .held) (a .line .now)) ≡ 0 = rw none refl in
+    record {
+      used = refl;
+      stands = stands-as (ended-none session short) (own (a .self) (a .line .now) (a .store .now) (a .lengths .now) (s .pre .1) (s .pre .0 .0));
+      printed = same-text (sym (ends-none session short)) (wrote-none _ _ 0 0 refl refl (omega arith));
+    }
 
 pub end-held-spec : {M : Type 1} → statement M
 end-held-spec =
@@ -47,6 +57,5 @@ end-held-spec =
     same-length-2
     same-length-3
     same-length-4
-    same-length-5
     returns
     returns-2)

@@ -18,9 +18,9 @@ slice-aggregate-end-held c = search needs
 
 end-held-requires : tie.Need-end-held-requires
 end-held-requires c κs =
-    let s = c .before .before .before .before .before .before .before .before .before .before .before .before in
+    let s = c .before .before .before .before .before .before .before .before .before .before .before in
     let a = s .args in
-    let h = both (isReady (a .self) (length (a .line .now)) (length (a .store .now)) (length (a .lengths .now)) && ltb (a .self .lines) 18446744073709551615) (leb 131200 (length (a .out .now))) (rw (c .before .before .before .before .before .before .before .is-ready .ensures) at (c .before .before .before .before .before .if1 .taken)) in
+    let h = both (isReady (a .self) (length (a .line .now)) (length (a .store .now)) (length (a .lengths .now)) && ltb (a .self .lines) 18446744073709551615) (leb 131200 (length (a .out .now))) (rw (c .before .before .before .before .before .before .is-ready .ensures) at (c .before .before .before .before .if1 .taken)) in
     let g = both (isReady (a .self) (length (a .line .now)) (length (a .store .now)) (length (a .lengths .now))) (ltb (a .self .lines) 18446744073709551615) (h .0) in
     let k = ready (a .self) _ _ _ (g .0) in
     ((k .line-size, k .bytes-size, k .lengths-size, search needs), k .few, ltb-true _ _ (g .1), leb-true _ _ (h .1))
@@ -34,14 +34,11 @@ same-length-2 c = search needs
 same-length-3 : tie.Need-same-length-3
 same-length-3 c = search needs
 
-same-length-4 : tie.Need-same-length-4
-same-length-4 c = search needs
-
 returns : tie.Need-returns
-returns c = rw (rw (c .before .before .before .before .before .before .before .before .before .before .before .before .before .before .before .before .before .is-ready .ensures) at (c .before .before .before .before .before .before .before .before .before .before .before .before .before .before .before .if1 .taken)) (c .before .before .before .before .before .before .before .before .before .end-held .ensures)
+returns c = rw (rw (c .before .before .before .before .before .before .before .before .before .before .before .before .before .before .is-ready .ensures) at (c .before .before .before .before .before .before .before .before .before .before .before .before .if1 .taken)) (c .before .before .before .before .before .before .before .end-held .ensures)
 
 returns-2 : tie.Need-returns-2
-returns-2 c = rw (rw (c .before .before .is-ready .ensures) at (c .if1 .left)) (refl, refl)
+returns-2 c = rw (rw (c .before .before .is-ready .ensures) at (c .if1 .left)) (record { result = refl; same-line = refl; same-bytes = refl; same-lengths = refl; same-out = refl })
 
 pub finish-spec : {M : Type 1} → statement M
 finish-spec =
@@ -53,6 +50,5 @@ finish-spec =
     same-length
     same-length-2
     same-length-3
-    same-length-4
     returns
     returns-2)

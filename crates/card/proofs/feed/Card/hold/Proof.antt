@@ -1,4 +1,4 @@
-use Rattle.card.proofs.Held.{hold-copy}
+use Rattle.card.proofs.Held.{hold-copy, hold-area}
 use native.Mathlib.Omega.{arith}
 use mathlib.Core.Path.{refl}
 use borrow.Author.Needs.{needs}
@@ -32,6 +32,7 @@ returns c =
       lines = refl;
       held = rw (c .before .before .before .copy-in .ensures) (hold-copy (a .line .now) (a .piece .now) (a .self .held) (a .from) (a .to) _ (s .pre .2) (s .pre .3) (s .pre .0) (s .pre .1) (c .before .before .before .before .before .smaller .ensures));
       most = omega (arith, c .before .before .before .before .before .smaller .ensures);
+      area = rw (c .before .before .before .copy-in .ensures) (hold-area (a .line .now) (a .piece .now) (a .self .held) (a .from) (a .to) _ (s .pre .0) (s .pre .1) (c .before .before .before .before .before .smaller .ensures));
     }
 
 pub hold-spec : {M : Type 1} → statement M

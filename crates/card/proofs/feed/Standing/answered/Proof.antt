@@ -30,7 +30,9 @@ same-length-2 c = search needs
 
 returns : tie.Need-returns
 unfolding answered
-returns c = rw (c .before .before .before .before .before .before .before .enum-told .given .1) (c .before .before .before .before .first .ensures (c .before .before .before .before .before .before .before .before .before .before .before .before .before .args .work .now))
+returns c =
+    let e = c .before .before .before .before .before .before .before .enum-told .given .1 in
+    rw e (rw e at (c .before .before .before .before .first .ensures (c .before .before .before .before .before .before .before .before .before .before .before .before .before .args .work .now)))
 
 same-length-3 : tie.Need-same-length-3
 same-length-3 c = search needs
@@ -43,11 +45,13 @@ same-length-5 c = search needs
 
 returns-2 : tie.Need-returns-2
 unfolding answered
-returns-2 c = rw (c .before .before .before .before .before .before .before .before .before .before .enum-told2 .given .1) (c .before .before .before .before .before .before .later .ensures)
+returns-2 c =
+    let e = c .before .before .before .before .before .before .before .before .before .before .enum-told2 .given .1 in
+    rw e (rw e at (c .before .before .before .before .before .before .later .ensures))
 
 returns-3 : tie.Need-returns-3
 unfolding answered
-returns-3 c = rw (c .before .enum-told3 .given .1) (bad-made (c .bad .result) _ _ _ _ _ _ (c .bad .ensures))
+returns-3 c = rw (c .before .enum-told3 .given .1) (bad-made (c .bad .result) _ _ _ _ _ _ (c .bad .ensures) _)
 
 pub answered-spec : {M : Type 1} → statement M
 answered-spec =

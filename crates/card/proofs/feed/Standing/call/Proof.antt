@@ -1,3 +1,4 @@
+use Rattle.card.specs.Standing.{placed}
 use Rattle.grammar.specs.Feed.{isBack, later}
 use Prim.Native.Nat.{ℕ}
 use mathlib.Core.Option.{Option}
@@ -13,7 +14,7 @@ is-back-requires : tie.Need-is-back-requires
 is-back-requires c κs = search needs
 
 returns : tie.Need-returns
-unfolding later
+unfolding later placed
 returns c =
     let a = c .before .before .before .before .before .before .before .args in
     let e = sym (ap (λ (t : Option ℕ). isBack t (a .self .last)) (c .before .before .before .time-of .ensures (a .work .now))) ∙ sym (c .before .before .is-back .ensures) ∙ c .before .if1 .taken in

@@ -22,7 +22,7 @@ returns : tie.Need-returns
 unfolding first
 returns c w =
     let e = sym (c .before .before .before .open-of .ensures) ∙ ap openingIs (c .before .enum-told .given .1) in
-    rw e (bad-made (c .bad .result) _ _ _ _ _ w (c .bad .ensures))
+    rw e (bad-made (c .bad .result) _ _ _ _ _ w (c .bad .ensures) _)
 
 open-requires : tie.Need-open-requires
 open-requires c κs = search needs

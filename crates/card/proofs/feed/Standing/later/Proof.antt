@@ -26,7 +26,7 @@ returns : tie.Need-returns
 unfolding later
 returns c =
     let e = sym (c .before .before .before .before .before .call-of .ensures) ∙ ap (λ (x : Line). lineIs x (c .before .before .before .before .before .call-of .last .1 .0)) (c .before .enum-told .given .1) in
-    rw e (bad-made (c .bad .result) _ _ _ _ _ _ (c .bad .ensures))
+    rw e (bad-made (c .bad .result) _ _ _ _ _ _ (c .bad .ensures) _)
 
 call-requires : tie.Need-call-requires
 call-requires c κs = search needs

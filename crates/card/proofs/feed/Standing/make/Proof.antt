@@ -22,7 +22,7 @@ same-length-3 : tie.Need-same-length-3
 same-length-3 c = search needs
 
 returns : tie.Need-returns
-returns c = made-by (c .before .before .before .before .before .before .before .before .before .make .result) _ _ _ _ _ _ _ _ (c .before .before .before .before .before .before .before .before .before .before .before .before .before .before .before .before .before .args .time) (c .before .before .before .before .before .before .before .before .before .make .ensures) (c .before .is-refused .ensures _) (c .before .before .before .before .before .before .before .before .before .before .before .before .before .before .before .before .before .pre .2 _) (c .remember .ensures)
+returns c = made-by (c .before .before .before .before .before .before .before .before .before .make .result) _ _ _ _ _ _ _ _ _ (c .before .before .before .before .before .before .before .before .before .before .before .before .before .before .before .before .before .args .time) (c .before .before .before .before .before .before .before .before .before .make .ensures) (c .before .is-refused .ensures _) (c .before .before .before .before .before .before .before .before .before .before .before .before .before .before .before .before .before .pre .2 _) (c .remember .ensures)
 
 pub make-spec : {M : Type 1} → statement M
 make-spec =

@@ -1,4 +1,8 @@
-use mathlib.Core.Path.{refl}
+use Rattle.card.proofs.Standings.{refused-made}
+use Rattle.card.specs.Standing.{placed}
+use Rattle.card.specs.Zeros.{zeros-all}
+use Rattle.grammar.specs.Lines.{zeros}
+use mathlib.Core.Path.{_≡_, refl, sym, ap, _∙_}
 use borrow.Author.Needs.{needs}
 use Rattle.card.proofs.feed.Standing.opened_by.Statement.{statement}
 use Rattle.card.proofs.feed.Standing.opened_by.Tie as tie
@@ -6,17 +10,50 @@ use Rattle.card.proofs.feed.Standing.opened_by.Tie as tie
 enum-told : tie.Need-enum-told
 enum-told c = search needs
 
+clear-requires : tie.Need-clear-requires
+clear-requires c κs = search needs
+
+clear-lengths-requires : tie.Need-clear-lengths-requires
+clear-lengths-requires c κs = search needs
+
 enum-known-reply : tie.Need-enum-known-reply
 enum-known-reply c = search needs
 
 replied-requires : tie.Need-replied-requires
 replied-requires c κs = search needs
 
+refused-requires : tie.Need-refused-requires
+refused-requires c κs = search needs
+
+same-length : tie.Need-same-length
+same-length c = search needs
+
+same-length-2 : tie.Need-same-length-2
+same-length-2 c = search needs
+
 returns : tie.Need-returns
-returns c b l w = rw (c .enum-told .given .1) (refl, refl)
+unfolding placed
+returns c w =
+    let s = c .before .before .before .before .before .before .before .before .before .before .before .before in
+    let zs : c .before .before .before .before .before .before .clear .last .0 ≡ zeros 65536 = c .before .before .before .before .before .before .clear .ensures ∙ zeros-all 65536 (s .args .store .now) (sym (s .pre .0)) in
+    let zl : c .before .before .clear-lengths .last .0 ≡ zeros 1024 = c .before .before .clear-lengths .ensures ∙ ap zeros (s .pre .1) in
+    rw (c .before .before .before .before .before .before .before .before .enum-told .given .1, zs, zl) (refl, refl)
 
 returns-2 : tie.Need-returns-2
-returns-2 c b l w = rw (c .before .before .reply .given .1) (refl, c .replied .ensures w)
+returns-2 c w =
+    rw (c .before .before .before .reply .given .1) (refused-made (c .refused .result) _ _ _ _ _ _ _ w (c .refused .ensures) (c .before .replied .ensures w) _)
 
 pub opened-by-spec : {M : Type 1} → statement M
-opened-by-spec = tie.close (tie.spec enum-told enum-known-reply replied-requires returns returns-2)
+opened-by-spec =
+    tie.close
+    (tie.spec
+    enum-told
+    clear-requires
+    clear-lengths-requires
+    enum-known-reply
+    replied-requires
+    refused-requires
+    same-length
+    same-length-2
+    returns
+    returns-2)
