@@ -44,130 +44,44 @@ impl Room {
 
 type Loop = fn(&mut Room, u64, u64) -> u64;
 
+/// A line of the table: its word, its name, the bytes of a message, the turns of a loop, what a turn's time is divided by, and
+/// the loop on both sides.
 struct Line {
     word: &'static str,
     name: &'static str,
-    /// The bytes of a message.
     length: usize,
-    /// The turns of a loop, and what a turn's time is divided by.
     turns: u64,
     parts: u64,
     rust: Loop,
     ours: Loop,
 }
 
-const fn line(
-    word: &'static str,
-    name: &'static str,
-    length: usize,
-    turns: u64,
-    parts: u64,
-    rust: Loop,
-    ours: Loop,
-) -> Line {
-    Line {
-        word,
-        name,
-        length,
-        turns,
-        parts,
-        rust,
-        ours,
-    }
+macro_rules! lines {
+    ($($word:literal $name:literal $length:literal $turns:literal $parts:literal $run:ident;)*) => {
+        [$(Line {
+            word: $word,
+            name: $name,
+            length: $length,
+            turns: $turns,
+            parts: $parts,
+            rust: rust::$run,
+            ours: ours::$run,
+        }),*]
+    };
 }
 
-const LINES: [Line; 10] = [
-    line(
-        "output64",
-        "output + next_message, 64 B",
-        64,
-        100_000,
-        1,
-        rust::output,
-        ours::output,
-    ),
-    line(
-        "output1k",
-        "output + next_message, 1 KiB",
-        1024,
-        60_000,
-        1,
-        rust::output,
-        ours::output,
-    ),
-    line(
-        "output16k",
-        "output + next_message, 16 KiB",
-        16384,
-        10_000,
-        1,
-        rust::output,
-        ours::output,
-    ),
-    line(
-        "input64",
-        "input + pending_input + input_written + Credit, 64 B",
-        64,
-        60_000,
-        1,
-        rust::input,
-        ours::input,
-    ),
-    line(
-        "input16k",
-        "input + pending_input + input_written + Credit, 16 KiB",
-        16384,
-        10_000,
-        1,
-        rust::input,
-        ours::input,
-    ),
-    line(
-        "tick",
-        "tick, nothing due",
-        0,
-        200_000,
-        1,
-        rust::tick,
-        ours::tick,
-    ),
-    line(
-        "deadline",
-        "deadline",
-        0,
-        200_000,
-        1,
-        rust::deadline,
-        ours::deadline,
-    ),
-    line(
-        "credit",
-        "credit",
-        0,
-        200_000,
-        1,
-        rust::credit,
-        ours::credit,
-    ),
-    line(
-        "idle",
-        "next_message, nothing waiting",
-        0,
-        200_000,
-        1,
-        rust::idle,
-        ours::idle,
-    ),
-    line(
-        "frames",
-        "1,024 one-byte frames in and popped, a frame",
-        1,
-        100,
-        1024,
-        rust::frames,
-        ours::frames,
-    ),
-];
+const LINES: [Line; 10] = lines! {
+    "output64" "output + next_message, 64 B" 64 100_000 1 output;
+    "output1k" "output + next_message, 1 KiB" 1024 60_000 1 output;
+    "output16k" "output + next_message, 16 KiB" 16384 10_000 1 output;
+    "input64" "input + pending_input + input_written + Credit, 64 B" 64 60_000 1 input;
+    "input16k" "input + pending_input + input_written + Credit, 16 KiB" 16384 10_000 1 input;
+    "tick" "tick, nothing due" 0 200_000 1 tick;
+    "deadline" "deadline" 0 200_000 1 deadline;
+    "credit" "credit" 0 200_000 1 credit;
+    "idle" "next_message, nothing waiting" 0 200_000 1 idle;
+    "frames" "1,024 one-byte frames in and popped, a frame" 1 100 1024 frames;
+};
 
 /// The steps of work between two turns.
 const STEPS: u64 = 20;
