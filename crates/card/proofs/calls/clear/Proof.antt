@@ -19,15 +19,6 @@ abbrev μ-loop : tie.MeasureT-loop
 loop-holds : tie.Need-loop-holds Inv-loop μ-loop
 loop-holds c = (omega arith, zeros-start _, refl)
 
-slice-write-work : tie.Need-slice-write-work Inv-loop μ-loop
-slice-write-work c = search needs
-
-add-i : tie.Need-add-i Inv-loop μ-loop
-add-i c = search needs
-
-loop-less : tie.Need-loop-less Inv-loop μ-loop
-loop-less c = search needs
-
 loop-again : tie.Need-loop-again Inv-loop μ-loop
 loop-again c =
     let l = c .before .loop in
@@ -47,9 +38,9 @@ clear-spec =
     Inv-loop
     μ-loop
     loop-holds
-    slice-write-work
-    add-i
-    loop-less
+    (search needs)
+    (search needs)
+    (search needs)
     loop-again
     same-length
     returns)

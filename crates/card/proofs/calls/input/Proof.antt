@@ -10,30 +10,6 @@ use borrow.Author.Needs.{needs}
 use Rattle.card.proofs.calls.input.Statement.{statement}
 use Rattle.card.proofs.calls.input.Tie as tie
 
-smaller-requires : tie.Need-smaller-requires
-smaller-requires c κs = search needs
-
-sub-input : tie.Need-sub-input
-sub-input c = search needs
-
-part-input-start : tie.Need-part-input-start
-part-input-start c = search needs
-
-part-input-end : tie.Need-part-input-end
-part-input-end c = search needs
-
-input-requires : tie.Need-input-requires
-input-requires c κs = search needs
-
-heard-requires : tie.Need-heard-requires
-heard-requires c κs = search needs
-
-same-length : tie.Need-same-length
-same-length c = search needs
-
-same-length-2 : tie.Need-same-length-2
-same-length-2 c = search needs
-
 returns : tie.Need-returns
 returns c =
     let a = c .before .before .before .before .before .before .before .before .before .before .before .before .before .args in
@@ -49,12 +25,12 @@ pub input-spec : {M : Type 1} → statement M
 input-spec =
     tie.close
     (tie.spec
-    smaller-requires
-    sub-input
-    part-input-start
-    part-input-end
-    input-requires
-    heard-requires
-    same-length
-    same-length-2
+    (search needs)
+    (search needs)
+    (search needs)
+    (search needs)
+    (search needs)
+    (search needs)
+    (search needs)
+    (search needs)
     returns)

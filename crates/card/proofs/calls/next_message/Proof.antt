@@ -9,27 +9,6 @@ use borrow.Author.Needs.{needs}
 use Rattle.card.proofs.calls.next_message.Statement.{statement}
 use Rattle.card.proofs.calls.next_message.Tie as tie
 
-clear-requires : tie.Need-clear-requires
-clear-requires c κs = search needs
-
-sub-next-message : tie.Need-sub-next-message
-sub-next-message c = search needs
-
-part-next-message-start : tie.Need-part-next-message-start
-part-next-message-start c = search needs
-
-part-next-message-end : tie.Need-part-next-message-end
-part-next-message-end c = search needs
-
-next-message-requires : tie.Need-next-message-requires
-next-message-requires c κs = search needs
-
-said-requires : tie.Need-said-requires
-said-requires c κs = search needs
-
-same-length : tie.Need-same-length
-same-length c = search needs
-
 returns : tie.Need-returns
 returns c =
     let a = c .before .before .before .before .before .before .before .before .before .before .before .before .args in
@@ -43,11 +22,11 @@ pub next-message-spec : {M : Type 1} → statement M
 next-message-spec =
     tie.close
     (tie.spec
-    clear-requires
-    sub-next-message
-    part-next-message-start
-    part-next-message-end
-    next-message-requires
-    said-requires
-    same-length
+    (search needs)
+    (search needs)
+    (search needs)
+    (search needs)
+    (search needs)
+    (search needs)
+    (search needs)
     returns)

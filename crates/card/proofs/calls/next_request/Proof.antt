@@ -5,14 +5,8 @@ use borrow.Author.Needs.{needs}
 use Rattle.card.proofs.calls.next_request.Statement.{statement}
 use Rattle.card.proofs.calls.next_request.Tie as tie
 
-next-request-requires : tie.Need-next-request-requires
-next-request-requires c κs = search needs
-
-asked-requires : tie.Need-asked-requires
-asked-requires c κs = search needs
-
 returns : tie.Need-returns
 returns c = (ap (λ (x : Asking). x .runner) (c .before .before .next-request .ensures), λ w. c .asked .ensures w ∙ ap (λ (x : Asking). asks (x .asked)) (c .before .before .next-request .ensures))
 
 pub next-request-spec : {M : Type 1} → statement M
-next-request-spec = tie.close (tie.spec next-request-requires asked-requires returns)
+next-request-spec = tie.close (tie.spec (search needs) (search needs) returns)

@@ -10,27 +10,6 @@ use borrow.Author.Needs.{needs}
 use Rattle.card.proofs.calls.output.Statement.{statement}
 use Rattle.card.proofs.calls.output.Tie as tie
 
-smaller-requires : tie.Need-smaller-requires
-smaller-requires c κs = search needs
-
-sub-output : tie.Need-sub-output
-sub-output c = search needs
-
-part-output-start : tie.Need-part-output-start
-part-output-start c = search needs
-
-part-output-end : tie.Need-part-output-end
-part-output-end c = search needs
-
-output-requires : tie.Need-output-requires
-output-requires c κs = search needs
-
-took-requires : tie.Need-took-requires
-took-requires c κs = search needs
-
-same-length : tie.Need-same-length
-same-length c = search needs
-
 returns : tie.Need-returns
 returns c =
     let a = c .before .before .before .before .before .before .before .before .before .before .args in
@@ -45,11 +24,11 @@ pub output-spec : {M : Type 1} → statement M
 output-spec =
     tie.close
     (tie.spec
-    smaller-requires
-    sub-output
-    part-output-start
-    part-output-end
-    output-requires
-    took-requires
-    same-length
+    (search needs)
+    (search needs)
+    (search needs)
+    (search needs)
+    (search needs)
+    (search needs)
+    (search needs)
     returns)

@@ -8,17 +8,11 @@ use borrow.Author.Needs.{needs}
 use Rattle.card.proofs.calls.pending_input.Statement.{statement}
 use Rattle.card.proofs.calls.pending_input.Tie as tie
 
-pending-input-requires : tie.Need-pending-input-requires
-pending-input-requires c κs = search needs
-
 waits-requires : tie.Need-waits-requires
 waits-requires c κs =
     let e = ap (λ (x : PendingAfter). length (x .pending)) (c .before .pending-input .ensures) in
     let m = pending-most (c .before .before .before .before .before .args .runner) (c .before .before .before .before .before .args .store .now) in
     omega (arith, e, m)
-
-same-length : tie.Need-same-length
-same-length c = search needs
 
 returns : tie.Need-returns
 unfolding answer
@@ -26,4 +20,4 @@ returns c =
     c .before .before .waits .ensures ∙ ap (λ (x : PendingAfter). waits (x .refusal) (x .pending)) (c .before .before .before .before .pending-input .ensures)
 
 pub pending-input-spec : {M : Type 1} → statement M
-pending-input-spec = tie.close (tie.spec pending-input-requires waits-requires same-length returns)
+pending-input-spec = tie.close (tie.spec (search needs) waits-requires (search needs) returns)

@@ -3,93 +3,6 @@ use borrow.Author.Needs.{needs}
 use Rattle.card.proofs.calls.time_of.Statement.{statement}
 use Rattle.card.proofs.calls.time_of.Tie as tie
 
-enum-known-call : tie.Need-enum-known-call
-enum-known-call c = search needs
-
-enum-known-call-2 : tie.Need-enum-known-call-2
-enum-known-call-2 c = search needs
-
-enum-known-call-3 : tie.Need-enum-known-call-3
-enum-known-call-3 c = search needs
-
-enum-known-call-4 : tie.Need-enum-known-call-4
-enum-known-call-4 c = search needs
-
-enum-known-call-5 : tie.Need-enum-known-call-5
-enum-known-call-5 c = search needs
-
-enum-known-call-6 : tie.Need-enum-known-call-6
-enum-known-call-6 c = search needs
-
-enum-known-call-7 : tie.Need-enum-known-call-7
-enum-known-call-7 c = search needs
-
-enum-known-call-8 : tie.Need-enum-known-call-8
-enum-known-call-8 c = search needs
-
-enum-known-call-9 : tie.Need-enum-known-call-9
-enum-known-call-9 c = search needs
-
-enum-known-call-10 : tie.Need-enum-known-call-10
-enum-known-call-10 c = search needs
-
-enum-known-call-11 : tie.Need-enum-known-call-11
-enum-known-call-11 c = search needs
-
-enum-told : tie.Need-enum-told
-enum-told c = search needs
-
-enum-known-call-12 : tie.Need-enum-known-call-12
-enum-known-call-12 c = search needs
-
-enum-told-2 : tie.Need-enum-told-2
-enum-told-2 c = search needs
-
-enum-known-call-13 : tie.Need-enum-known-call-13
-enum-known-call-13 c = search needs
-
-enum-known-call-14 : tie.Need-enum-known-call-14
-enum-known-call-14 c = search needs
-
-enum-known-call-15 : tie.Need-enum-known-call-15
-enum-known-call-15 c = search needs
-
-enum-known-call-16 : tie.Need-enum-known-call-16
-enum-known-call-16 c = search needs
-
-enum-known-call-17 : tie.Need-enum-known-call-17
-enum-known-call-17 c = search needs
-
-enum-known-call-18 : tie.Need-enum-known-call-18
-enum-known-call-18 c = search needs
-
-enum-told-3 : tie.Need-enum-told-3
-enum-told-3 c = search needs
-
-enum-told-4 : tie.Need-enum-told-4
-enum-told-4 c = search needs
-
-enum-known-call-19 : tie.Need-enum-known-call-19
-enum-known-call-19 c = search needs
-
-enum-told-5 : tie.Need-enum-told-5
-enum-told-5 c = search needs
-
-enum-told-6 : tie.Need-enum-told-6
-enum-told-6 c = search needs
-
-enum-told-7 : tie.Need-enum-told-7
-enum-told-7 c = search needs
-
-enum-told-8 : tie.Need-enum-told-8
-enum-told-8 c = search needs
-
-enum-told-9 : tie.Need-enum-told-9
-enum-told-9 c = search needs
-
-enum-told-10 : tie.Need-enum-told-10
-enum-told-10 c = search needs
-
 returns : tie.Need-returns
 returns c w = rw (c .before .call .given .1) refl
 
@@ -181,35 +94,35 @@ pub time-of-spec : {M : Type 1} → statement M
 time-of-spec =
     tie.close
     (tie.spec
-    enum-known-call
-    enum-known-call-2
-    enum-known-call-3
-    enum-known-call-4
-    enum-known-call-5
-    enum-known-call-6
-    enum-known-call-7
-    enum-known-call-8
-    enum-known-call-9
-    enum-known-call-10
-    enum-known-call-11
-    enum-told
-    enum-known-call-12
-    enum-told-2
-    enum-known-call-13
-    enum-known-call-14
-    enum-known-call-15
-    enum-known-call-16
-    enum-known-call-17
-    enum-known-call-18
-    enum-told-3
-    enum-told-4
-    enum-known-call-19
-    enum-told-5
-    enum-told-6
-    enum-told-7
-    enum-told-8
-    enum-told-9
-    enum-told-10
+    (search needs)
+    (search needs)
+    (search needs)
+    (search needs)
+    (search needs)
+    (search needs)
+    (search needs)
+    (search needs)
+    (search needs)
+    (search needs)
+    (search needs)
+    (search needs)
+    (search needs)
+    (search needs)
+    (search needs)
+    (search needs)
+    (search needs)
+    (search needs)
+    (search needs)
+    (search needs)
+    (search needs)
+    (search needs)
+    (search needs)
+    (search needs)
+    (search needs)
+    (search needs)
+    (search needs)
+    (search needs)
+    (search needs)
     returns
     returns-2
     returns-3

@@ -5,12 +5,6 @@ use borrow.Author.Needs.{needs}
 use Rattle.card.proofs.calls.waits.Statement.{statement}
 use Rattle.card.proofs.calls.waits.Tie as tie
 
-copy-in-requires : tie.Need-copy-in-requires
-copy-in-requires c κs = search needs
-
-same-length : tie.Need-same-length
-same-length c = search needs
-
 returns : tie.Need-returns
 returns c =
     let a = c .before .before .before .before .before .before .before .args in
@@ -22,4 +16,4 @@ returns-2 : tie.Need-returns-2
 returns-2 c = waits-some (c .before .before .before .args .refusal) _ (c .if1 .left)
 
 pub waits-spec : {M : Type 1} → statement M
-waits-spec = tie.close (tie.spec copy-in-requires same-length returns returns-2)
+waits-spec = tie.close (tie.spec (search needs) (search needs) returns returns-2)

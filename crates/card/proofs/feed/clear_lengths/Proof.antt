@@ -19,18 +19,6 @@ abbrev μ-loop : tie.MeasureT-loop
 loop-holds : tie.Need-loop-holds Inv-loop μ-loop
 loop-holds c = (omega arith, refl, zeros-start _, refl)
 
-mul-lengths : tie.Need-mul-lengths Inv-loop μ-loop
-mul-lengths c = search needs
-
-slice-write-lengths : tie.Need-slice-write-lengths Inv-loop μ-loop
-slice-write-lengths c = search needs
-
-add-i : tie.Need-add-i Inv-loop μ-loop
-add-i c = search needs
-
-loop-less : tie.Need-loop-less Inv-loop μ-loop
-loop-less c = search needs
-
 loop-again : tie.Need-loop-again Inv-loop μ-loop
 loop-again c =
     let l = c .before .loop in
@@ -52,10 +40,10 @@ clear-lengths-spec =
     Inv-loop
     μ-loop
     loop-holds
-    mul-lengths
-    slice-write-lengths
-    add-i
-    loop-less
+    (search needs)
+    (search needs)
+    (search needs)
+    (search needs)
     loop-again
     same-length
     returns)

@@ -10,32 +10,11 @@ use borrow.Author.Needs.{needs}
 use Rattle.card.proofs.feed.go_on.Statement.{statement}
 use Rattle.card.proofs.feed.go_on.Tie as tie
 
-line-end-requires : tie.Need-line-end-requires
-line-end-requires c κs = search needs
-
-hold-requires : tie.Need-hold-requires
-hold-requires c κs = search needs
-
 pass-line-requires : tie.Need-pass-line-requires
 pass-line-requires c κs =
     let s = c .before .before .before .before .before .before .before .before .before .before .before .before .before .before .before .before .before .before in
     let l : length (c .before .before .before .before .before .before .before .before .hold .last .1 .0) ≡ 65536 = (search needs) ∙ s .pre .0 .0 in
     ((l, s .pre .0 .1, s .pre .0 .2, s .pre .0 .3), c .before .before .before .before .before .before .before .before .hold .ensures .most, s .pre .2, omega arith)
-
-same-length : tie.Need-same-length
-same-length c = search needs
-
-same-length-2 : tie.Need-same-length-2
-same-length-2 c = search needs
-
-same-length-3 : tie.Need-same-length-3
-same-length-3 c = search needs
-
-same-length-4 : tie.Need-same-length-4
-same-length-4 c = search needs
-
-same-length-5 : tie.Need-same-length-5
-same-length-5 c = search needs
 
 returns : tie.Need-returns
 returns c =
@@ -51,9 +30,6 @@ returns c =
     let area = held-area (a .t .card) (kept .result) (a .line .now) (kept .last .1 .0) (a .store .now) (a .lengths .now) bs (end - a .t .used) e to (s .pre .1) (s .pre .0 .0) in
     let place = ap (λ (x : Standing). placeOf x (a .store .now) (a .lengths .now)) (e .standing) in
     go-passed (sessionOf (a .t .card) (a .line .now) (a .store .now) (a .lengths .now)) (placeOf (a .t .card .standing) (a .store .now) (a .lengths .now)) (a .t) (c .before .before .before .before .before .before .before .before .pass-line .result) (a .line .now) _ _ _ (a .piece .now) (a .out .now) _ (at .result) (held-most (a .t .card .held) (a .line .now) (s .pre .1)) (at .ensures .0) (s .pre .3) (s .pre .2) area _ _ held place (c .before .before .before .before .before .before .before .before .before .before .before .before .before .before .if1 .taken) (c .before .before .before .before .before .before .before .before .pass-line .ensures)
-
-same-length-6 : tie.Need-same-length-6
-same-length-6 c = search needs
 
 returns-2 : tie.Need-returns-2
 returns-2 c =
@@ -75,14 +51,14 @@ pub go-on-spec : {M : Type 1} → statement M
 go-on-spec =
     tie.close
     (tie.spec
-    line-end-requires
-    hold-requires
+    (search needs)
+    (search needs)
     pass-line-requires
-    same-length
-    same-length-2
-    same-length-3
-    same-length-4
-    same-length-5
+    (search needs)
+    (search needs)
+    (search needs)
+    (search needs)
+    (search needs)
     returns
-    same-length-6
+    (search needs)
     returns-2)

@@ -7,15 +7,6 @@ use borrow.Author.Needs.{needs}
 use Rattle.card.proofs.fields.exited_with.Statement.{statement}
 use Rattle.card.proofs.fields.exited_with.Tie as tie
 
-integer-requires : tie.Need-integer-requires
-integer-requires c κs = search needs
-
-enum-known-n : tie.Need-enum-known-n
-enum-known-n c = search needs
-
-enum-told : tie.Need-enum-told
-enum-told c = search needs
-
 returns : tie.Need-returns
 returns c =
     simp
@@ -30,4 +21,4 @@ returns-2 c =
     )
 
 pub exited-with-spec : {M : Type 1} → statement M
-exited-with-spec = tie.close (tie.spec integer-requires enum-known-n enum-told returns returns-2)
+exited-with-spec = tie.close (tie.spec (search needs) (search needs) (search needs) returns returns-2)

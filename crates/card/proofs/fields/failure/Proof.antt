@@ -7,28 +7,10 @@ use borrow.Author.Needs.{needs}
 use Rattle.card.proofs.fields.failure.Statement.{statement}
 use Rattle.card.proofs.fields.failure.Tie as tie
 
-narrow-requires : tie.Need-narrow-requires
-narrow-requires c κs = search needs
-
-enum-known-n : tie.Need-enum-known-n
-enum-known-n c = search needs
-
-enum-told : tie.Need-enum-told
-enum-told c = search needs
-
 returns : tie.Need-returns
 returns c =
     simp
     (sym (c .before .before .narrow .ensures) ∙ ap narrowIs (c .enum-told .given .1))
-
-integer-requires : tie.Need-integer-requires
-integer-requires c κs = search needs
-
-enum-known-e : tie.Need-enum-known-e
-enum-known-e c = search needs
-
-enum-told-2 : tie.Need-enum-told-2
-enum-told-2 c = search needs
 
 returns-2 : tie.Need-returns-2
 returns-2 c =
@@ -50,12 +32,12 @@ pub failure-spec : {M : Type 1} → statement M
 failure-spec =
     tie.close
     (tie.spec
-    narrow-requires
-    enum-known-n
-    enum-told
+    (search needs)
+    (search needs)
+    (search needs)
     returns
-    integer-requires
-    enum-known-e
-    enum-told-2
+    (search needs)
+    (search needs)
+    (search needs)
     returns-2
     returns-3)

@@ -5,11 +5,8 @@ use borrow.Author.Needs.{needs}
 use Rattle.card.proofs.fields.integer.Statement.{statement}
 use Rattle.card.proofs.fields.integer.Tie as tie
 
-read-signed-requires : tie.Need-read-signed-requires
-read-signed-requires c κs = search needs
-
 returns : tie.Need-returns
 returns c = ap signedIs (c .read-signed .ensures) ∙ signed-is _
 
 pub integer-spec : {M : Type 1} → statement M
-integer-spec = tie.close (tie.spec read-signed-requires returns)
+integer-spec = tie.close (tie.spec (search needs) returns)

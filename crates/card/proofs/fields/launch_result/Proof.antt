@@ -5,23 +5,11 @@ use borrow.Author.Needs.{needs}
 use Rattle.card.proofs.fields.launch_result.Statement.{statement}
 use Rattle.card.proofs.fields.launch_result.Tie as tie
 
-flag-requires : tie.Need-flag-requires
-flag-requires c κs = search needs
-
-enum-known-failed : tie.Need-enum-known-failed
-enum-known-failed c = search needs
-
-enum-told : tie.Need-enum-told
-enum-told c = search needs
-
 returns : tie.Need-returns
 unfolding launchResult
 returns c =
     simp
     (sym (c .before .before .flag .ensures) ∙ ap flagIs (c .enum-told .given .1))
-
-failure-requires : tie.Need-failure-requires
-failure-requires c κs = search needs
 
 returns-2 : tie.Need-returns-2
 unfolding launchResult
@@ -31,9 +19,6 @@ returns-2 c =
       c .before .if1 .taken,
       c .failure .ensures,
     )
-
-started-requires : tie.Need-started-requires
-started-requires c κs = search needs
 
 returns-3 : tie.Need-returns-3
 unfolding launchResult
@@ -48,11 +33,11 @@ pub launch-result-spec : {M : Type 1} → statement M
 launch-result-spec =
     tie.close
     (tie.spec
-    flag-requires
-    enum-known-failed
-    enum-told
+    (search needs)
+    (search needs)
+    (search needs)
     returns
-    failure-requires
+    (search needs)
     returns-2
-    started-requires
+    (search needs)
     returns-3)

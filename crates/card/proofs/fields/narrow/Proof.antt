@@ -6,9 +6,6 @@ use borrow.Author.Needs.{needs}
 use Rattle.card.proofs.fields.narrow.Statement.{statement}
 use Rattle.card.proofs.fields.narrow.Tie as tie
 
-read-requires : tie.Need-read-requires
-read-requires c κs = search needs
-
 narrowed-requires : tie.Need-narrowed-requires
 narrowed-requires c κs = rw (c .read .ensures) (number-most 4294967295 _)
 
@@ -16,4 +13,4 @@ returns : tie.Need-returns
 returns c = c .narrowed .ensures ∙ ap numberIs (c .before .read .ensures) ∙ number-is _
 
 pub narrow-spec : {M : Type 1} → statement M
-narrow-spec = tie.close (tie.spec read-requires narrowed-requires returns)
+narrow-spec = tie.close (tie.spec (search needs) narrowed-requires returns)

@@ -3,12 +3,6 @@ use borrow.Author.Needs.{needs}
 use Rattle.card.proofs.fields.started.Statement.{statement}
 use Rattle.card.proofs.fields.started.Tie as tie
 
-missing-requires : tie.Need-missing-requires
-missing-requires c κs = search needs
-
-missing-requires-2 : tie.Need-missing-requires-2
-missing-requires-2 c κs = search needs
-
 returns : tie.Need-returns
 returns c = simp (rw (c .before .before .missing .ensures, c .before .missing2 .ensures) at (c .if1 .taken))
 
@@ -16,4 +10,4 @@ returns-2 : tie.Need-returns-2
 returns-2 c = simp (rw (c .before .before .missing .ensures, c .before .missing2 .ensures) at (c .if1 .left))
 
 pub started-spec : {M : Type 1} → statement M
-started-spec = tie.close (tie.spec missing-requires missing-requires-2 returns returns-2)
+started-spec = tie.close (tie.spec (search needs) (search needs) returns returns-2)

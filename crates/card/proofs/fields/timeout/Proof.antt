@@ -5,23 +5,11 @@ use borrow.Author.Needs.{needs}
 use Rattle.card.proofs.fields.timeout.Statement.{statement}
 use Rattle.card.proofs.fields.timeout.Tie as tie
 
-missing-requires : tie.Need-missing-requires
-missing-requires c κs = search needs
-
 returns : tie.Need-returns
 unfolding timeout
 returns c =
     simp
     (sym (c .before .missing .ensures) ∙ c .if1 .taken)
-
-wide-requires : tie.Need-wide-requires
-wide-requires c κs = search needs
-
-enum-known-n : tie.Need-enum-known-n
-enum-known-n c = search needs
-
-enum-told : tie.Need-enum-told
-enum-told c = search needs
 
 returns-2 : tie.Need-returns-2
 unfolding timeout
@@ -42,4 +30,4 @@ returns-3 c =
 pub timeout-spec : {M : Type 1} → statement M
 timeout-spec =
     tie.close
-    (tie.spec missing-requires returns wide-requires enum-known-n enum-told returns-2 returns-3)
+    (tie.spec (search needs) returns (search needs) (search needs) (search needs) returns-2 returns-3)

@@ -5,11 +5,8 @@ use borrow.Author.Needs.{needs}
 use Rattle.card.proofs.fields.wide.Statement.{statement}
 use Rattle.card.proofs.fields.wide.Tie as tie
 
-read-requires : tie.Need-read-requires
-read-requires c κs = search needs
-
 returns : tie.Need-returns
 returns c = ap numberIs (c .read .ensures) ∙ number-is _
 
 pub wide-spec : {M : Type 1} → statement M
-wide-spec = tie.close (tie.spec read-requires returns)
+wide-spec = tie.close (tie.spec (search needs) returns)

@@ -7,12 +7,6 @@ use borrow.Author.Needs.{needs}
 use Rattle.card.proofs.lines.after4.Statement.{statement}
 use Rattle.card.proofs.lines.after4.Tie as tie
 
-comma-requires : tie.Need-comma-requires
-comma-requires c κs = search needs
-
-call4-requires : tie.Need-call4-requires
-call4-requires c κs = search needs
-
 returns : tie.Need-returns
 returns c w =
     let a = c .before .before .before .before .before .before .before .before .args in
@@ -25,4 +19,4 @@ returns-2 c w =
     sym (ap (λ (fs : List (List ℕ)). callOf (a .name .now ∷ a .a .now ∷ a .b .now ∷ a .c .now ∷ fs)) (fields-at (a .rest .now) _ _ (c .before .comma .ensures .0) (c .before .comma .ensures .1) refl (c .if1 .left)) ∙ five-none _ _ _ _ _ _)
 
 pub after4-spec : {M : Type 1} → statement M
-after4-spec = tie.close (tie.spec comma-requires call4-requires returns returns-2)
+after4-spec = tie.close (tie.spec (search needs) (search needs) returns returns-2)

@@ -5,78 +5,6 @@ use borrow.Author.Needs.{needs}
 use Rattle.card.proofs.lines.call1.Statement.{statement}
 use Rattle.card.proofs.lines.call1.Tie as tie
 
-verb-of-1-requires : tie.Need-verb-of-1-requires
-verb-of-1-requires c κs = search needs
-
-enum-told : tie.Need-enum-told
-enum-told c = search needs
-
-enum-told-2 : tie.Need-enum-told-2
-enum-told-2 c = search needs
-
-read-allowance-requires : tie.Need-read-allowance-requires
-read-allowance-requires c κs = search needs
-
-enum-told-3 : tie.Need-enum-told-3
-enum-told-3 c = search needs
-
-output-closed-requires : tie.Need-output-closed-requires
-output-closed-requires c κs = search needs
-
-enum-told-4 : tie.Need-enum-told-4
-enum-told-4 c = search needs
-
-output-failed-requires : tie.Need-output-failed-requires
-output-failed-requires c κs = search needs
-
-enum-told-5 : tie.Need-enum-told-5
-enum-told-5 c = search needs
-
-output-hung-up-requires : tie.Need-output-hung-up-requires
-output-hung-up-requires c κs = search needs
-
-enum-told-6 : tie.Need-enum-told-6
-enum-told-6 c = search needs
-
-input-written-requires : tie.Need-input-written-requires
-input-written-requires c κs = search needs
-
-enum-told-7 : tie.Need-enum-told-7
-enum-told-7 c = search needs
-
-settled-requires : tie.Need-settled-requires
-settled-requires c κs = search needs
-
-enum-told-8 : tie.Need-enum-told-8
-enum-told-8 c = search needs
-
-dropped-requires : tie.Need-dropped-requires
-dropped-requires c κs = search needs
-
-enum-told-9 : tie.Need-enum-told-9
-enum-told-9 c = search needs
-
-reset-requires : tie.Need-reset-requires
-reset-requires c κs = search needs
-
-enum-told-10 : tie.Need-enum-told-10
-enum-told-10 c = search needs
-
-disconnect-requires : tie.Need-disconnect-requires
-disconnect-requires c κs = search needs
-
-enum-told-11 : tie.Need-enum-told-11
-enum-told-11 c = search needs
-
-tick-requires : tie.Need-tick-requires
-tick-requires c κs = search needs
-
-enum-told-12 : tie.Need-enum-told-12
-enum-told-12 c = search needs
-
-message-requires : tie.Need-message-requires
-message-requires c κs = search needs
-
 returns : tie.Need-returns
 unfolding callOf
 returns c w =
@@ -175,30 +103,30 @@ pub call1-spec : {M : Type 1} → statement M
 call1-spec =
     tie.close
     (tie.spec
-    verb-of-1-requires
-    enum-told
-    enum-told-2
-    read-allowance-requires
-    enum-told-3
-    output-closed-requires
-    enum-told-4
-    output-failed-requires
-    enum-told-5
-    output-hung-up-requires
-    enum-told-6
-    input-written-requires
-    enum-told-7
-    settled-requires
-    enum-told-8
-    dropped-requires
-    enum-told-9
-    reset-requires
-    enum-told-10
-    disconnect-requires
-    enum-told-11
-    tick-requires
-    enum-told-12
-    message-requires
+    (search needs)
+    (search needs)
+    (search needs)
+    (search needs)
+    (search needs)
+    (search needs)
+    (search needs)
+    (search needs)
+    (search needs)
+    (search needs)
+    (search needs)
+    (search needs)
+    (search needs)
+    (search needs)
+    (search needs)
+    (search needs)
+    (search needs)
+    (search needs)
+    (search needs)
+    (search needs)
+    (search needs)
+    (search needs)
+    (search needs)
+    (search needs)
     returns
     returns-2
     returns-3

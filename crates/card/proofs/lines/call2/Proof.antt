@@ -5,36 +5,6 @@ use borrow.Author.Needs.{needs}
 use Rattle.card.proofs.lines.call2.Statement.{statement}
 use Rattle.card.proofs.lines.call2.Tie as tie
 
-verb-of-2-requires : tie.Need-verb-of-2-requires
-verb-of-2-requires c κs = search needs
-
-enum-told : tie.Need-enum-told
-enum-told c = search needs
-
-enum-told-2 : tie.Need-enum-told-2
-enum-told-2 c = search needs
-
-end-input-requires : tie.Need-end-input-requires
-end-input-requires c κs = search needs
-
-enum-told-3 : tie.Need-enum-told-3
-enum-told-3 c = search needs
-
-output-requires : tie.Need-output-requires
-output-requires c κs = search needs
-
-enum-told-4 : tie.Need-enum-told-4
-enum-told-4 c = search needs
-
-discarded-requires : tie.Need-discarded-requires
-discarded-requires c κs = search needs
-
-enum-told-5 : tie.Need-enum-told-5
-enum-told-5 c = search needs
-
-exited-requires : tie.Need-exited-requires
-exited-requires c κs = search needs
-
 returns : tie.Need-returns
 unfolding callOf
 returns c =
@@ -48,9 +18,6 @@ returns-2 c =
       sym (c .before .before .before .verb-of-2 .ensures) ∙ ap verb2Is (c .before .enum-told2 .given .1),
       c .end-input .ensures (c .before .before .before .before .before .before .before .before .args .work .now),
     )
-
-same-length : tie.Need-same-length
-same-length c = search needs
 
 returns-3 : tie.Need-returns-3
 unfolding callOf
@@ -80,19 +47,19 @@ pub call2-spec : {M : Type 1} → statement M
 call2-spec =
     tie.close
     (tie.spec
-    verb-of-2-requires
-    enum-told
-    enum-told-2
-    end-input-requires
-    enum-told-3
-    output-requires
-    enum-told-4
-    discarded-requires
-    enum-told-5
-    exited-requires
+    (search needs)
+    (search needs)
+    (search needs)
+    (search needs)
+    (search needs)
+    (search needs)
+    (search needs)
+    (search needs)
+    (search needs)
+    (search needs)
     returns
     returns-2
-    same-length
+    (search needs)
     returns-3
     returns-4
     returns-5)

@@ -5,24 +5,6 @@ use borrow.Author.Needs.{needs}
 use Rattle.card.proofs.lines.call3.Statement.{statement}
 use Rattle.card.proofs.lines.call3.Tie as tie
 
-verb-of-3-requires : tie.Need-verb-of-3-requires
-verb-of-3-requires c κs = search needs
-
-enum-told : tie.Need-enum-told
-enum-told c = search needs
-
-enum-told-2 : tie.Need-enum-told-2
-enum-told-2 c = search needs
-
-launched-requires : tie.Need-launched-requires
-launched-requires c κs = search needs
-
-enum-told-3 : tie.Need-enum-told-3
-enum-told-3 c = search needs
-
-input-requires : tie.Need-input-requires
-input-requires c κs = search needs
-
 returns : tie.Need-returns
 unfolding callOf
 returns c =
@@ -37,9 +19,6 @@ returns-2 c =
       c .launched .ensures (c .before .before .before .before .before .before .before .before .before .args .work .now),
     )
 
-same-length : tie.Need-same-length
-same-length c = search needs
-
 returns-3 : tie.Need-returns-3
 unfolding callOf
 returns-3 c =
@@ -52,13 +31,13 @@ pub call3-spec : {M : Type 1} → statement M
 call3-spec =
     tie.close
     (tie.spec
-    verb-of-3-requires
-    enum-told
-    enum-told-2
-    launched-requires
-    enum-told-3
-    input-requires
+    (search needs)
+    (search needs)
+    (search needs)
+    (search needs)
+    (search needs)
+    (search needs)
     returns
     returns-2
-    same-length
+    (search needs)
     returns-3)

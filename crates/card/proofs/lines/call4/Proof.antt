@@ -5,24 +5,6 @@ use borrow.Author.Needs.{needs}
 use Rattle.card.proofs.lines.call4.Statement.{statement}
 use Rattle.card.proofs.lines.call4.Tie as tie
 
-verb-of-4-requires : tie.Need-verb-of-4-requires
-verb-of-4-requires c κs = search needs
-
-enum-told : tie.Need-enum-told
-enum-told c = search needs
-
-enum-told-2 : tie.Need-enum-told-2
-enum-told-2 c = search needs
-
-credit-requires : tie.Need-credit-requires
-credit-requires c κs = search needs
-
-enum-told-3 : tie.Need-enum-told-3
-enum-told-3 c = search needs
-
-cancel-requires : tie.Need-cancel-requires
-cancel-requires c κs = search needs
-
 returns : tie.Need-returns
 unfolding callOf
 returns c w =
@@ -49,12 +31,12 @@ pub call4-spec : {M : Type 1} → statement M
 call4-spec =
     tie.close
     (tie.spec
-    verb-of-4-requires
-    enum-told
-    enum-told-2
-    credit-requires
-    enum-told-3
-    cancel-requires
+    (search needs)
+    (search needs)
+    (search needs)
+    (search needs)
+    (search needs)
+    (search needs)
     returns
     returns-2
     returns-3)

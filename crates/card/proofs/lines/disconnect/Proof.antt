@@ -4,15 +4,6 @@ use borrow.Author.Needs.{needs}
 use Rattle.card.proofs.lines.disconnect.Statement.{statement}
 use Rattle.card.proofs.lines.disconnect.Tie as tie
 
-wide-requires : tie.Need-wide-requires
-wide-requires c κs = search needs
-
-enum-known-now : tie.Need-enum-known-now
-enum-known-now c = search needs
-
-enum-told : tie.Need-enum-told
-enum-told c = search needs
-
 returns : tie.Need-returns
 returns c w =
     simp
@@ -24,4 +15,4 @@ returns-2 c w =
     (sym (c .before .before .before .wide .ensures) ∙ ap numberIs (c .before .now .given .1))
 
 pub disconnect-spec : {M : Type 1} → statement M
-disconnect-spec = tie.close (tie.spec wide-requires enum-known-now enum-told returns returns-2)
+disconnect-spec = tie.close (tie.spec (search needs) (search needs) (search needs) returns returns-2)

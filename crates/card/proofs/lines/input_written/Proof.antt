@@ -4,15 +4,6 @@ use borrow.Author.Needs.{needs}
 use Rattle.card.proofs.lines.input_written.Statement.{statement}
 use Rattle.card.proofs.lines.input_written.Tie as tie
 
-wide-requires : tie.Need-wide-requires
-wide-requires c κs = search needs
-
-enum-known-n : tie.Need-enum-known-n
-enum-known-n c = search needs
-
-enum-told : tie.Need-enum-told
-enum-told c = search needs
-
 returns : tie.Need-returns
 returns c w =
     simp
@@ -24,4 +15,4 @@ returns-2 c w =
     (sym (c .before .before .before .wide .ensures) ∙ ap numberIs (c .before .n .given .1))
 
 pub input-written-spec : {M : Type 1} → statement M
-input-written-spec = tie.close (tie.spec wide-requires enum-known-n enum-told returns returns-2)
+input-written-spec = tie.close (tie.spec (search needs) (search needs) (search needs) returns returns-2)

@@ -4,15 +4,6 @@ use borrow.Author.Needs.{needs}
 use Rattle.card.proofs.lines.launched.Statement.{statement}
 use Rattle.card.proofs.lines.launched.Tie as tie
 
-launch-result-requires : tie.Need-launch-result-requires
-launch-result-requires c κs = search needs
-
-enum-known-x : tie.Need-enum-known-x
-enum-known-x c = search needs
-
-enum-told : tie.Need-enum-told
-enum-told c = search needs
-
 returns : tie.Need-returns
 returns c w =
     simp
@@ -25,4 +16,4 @@ returns-2 c w =
 
 pub launched-spec : {M : Type 1} → statement M
 launched-spec =
-    tie.close (tie.spec launch-result-requires enum-known-x enum-told returns returns-2)
+    tie.close (tie.spec (search needs) (search needs) (search needs) returns returns-2)

@@ -8,15 +8,6 @@ use borrow.Author.Needs.{needs}
 use Rattle.card.proofs.lines.message.Statement.{statement}
 use Rattle.card.proofs.lines.message.Tie as tie
 
-message-length-requires : tie.Need-message-length-requires
-message-length-requires c κs = search needs
-
-enum-known-n : tie.Need-enum-known-n
-enum-known-n c = search needs
-
-enum-told : tie.Need-enum-told
-enum-told c = search needs
-
 returns : tie.Need-returns
 returns c w = simp (sym (c .before .before .message-length .ensures .0) ∙ ap numberIs (c .enum-told .given .1))
 
@@ -31,4 +22,4 @@ returns-2 c w = simp (sym (c .before .before .before .message-length .ensures .0
 
 pub message-spec : {M : Type 1} → statement M
 message-spec =
-    tie.close (tie.spec message-length-requires enum-known-n enum-told returns cast-t4 returns-2)
+    tie.close (tie.spec (search needs) (search needs) (search needs) returns cast-t4 returns-2)

@@ -4,15 +4,6 @@ use borrow.Author.Needs.{needs}
 use Rattle.card.proofs.lines.output_failed.Statement.{statement}
 use Rattle.card.proofs.lines.output_failed.Tie as tie
 
-stream-requires : tie.Need-stream-requires
-stream-requires c κs = search needs
-
-enum-known-x : tie.Need-enum-known-x
-enum-known-x c = search needs
-
-enum-told : tie.Need-enum-told
-enum-told c = search needs
-
 returns : tie.Need-returns
 returns c w =
     simp
@@ -24,4 +15,4 @@ returns-2 c w =
     (sym (c .before .before .before .stream .ensures) ∙ ap streamIs (c .before .x .given .1))
 
 pub output-failed-spec : {M : Type 1} → statement M
-output-failed-spec = tie.close (tie.spec stream-requires enum-known-x enum-told returns returns-2)
+output-failed-spec = tie.close (tie.spec (search needs) (search needs) (search needs) returns returns-2)

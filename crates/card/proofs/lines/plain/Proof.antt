@@ -5,23 +5,11 @@ use borrow.Author.Needs.{needs}
 use Rattle.card.proofs.lines.plain.Statement.{statement}
 use Rattle.card.proofs.lines.plain.Tie as tie
 
-slice-aggregate-is : tie.Need-slice-aggregate-is
-slice-aggregate-is c = search needs
-
-is-requires : tie.Need-is-requires
-is-requires c κs = search needs
-
 returns : tie.Need-returns
 unfolding find bytes
 returns c w =
     simp
     (sym (c .before .is .ensures) ∙ c .if1 .taken)
-
-slice-aggregate-is-2 : tie.Need-slice-aggregate-is-2
-slice-aggregate-is-2 c = search needs
-
-is-requires-2 : tie.Need-is-requires-2
-is-requires-2 c κs = search needs
 
 returns-2 : tie.Need-returns-2
 unfolding find bytes
@@ -31,12 +19,6 @@ returns-2 c w =
       sym (c .before .before .before .before .is .ensures) ∙ c .before .before .before .if1 .left,
     )
 
-slice-aggregate-is-3 : tie.Need-slice-aggregate-is-3
-slice-aggregate-is-3 c = search needs
-
-is-requires-3 : tie.Need-is-requires-3
-is-requires-3 c κs = search needs
-
 returns-3 : tie.Need-returns-3
 unfolding find bytes
 returns-3 c w =
@@ -45,12 +27,6 @@ returns-3 c w =
       sym (c .before .before .before .before .is2 .ensures) ∙ c .before .before .before .if2 .left,
       sym (c .before .before .before .before .before .before .before .is .ensures) ∙ c .before .before .before .before .before .before .if1 .left,
     )
-
-slice-aggregate-is-4 : tie.Need-slice-aggregate-is-4
-slice-aggregate-is-4 c = search needs
-
-is-requires-4 : tie.Need-is-requires-4
-is-requires-4 c κs = search needs
 
 returns-4 : tie.Need-returns-4
 unfolding find bytes
@@ -62,12 +38,6 @@ returns-4 c w =
       sym (c .before .before .before .before .before .before .before .before .before .before .is .ensures) ∙ c .before .before .before .before .before .before .before .before .before .if1 .left,
     )
 
-slice-aggregate-is-5 : tie.Need-slice-aggregate-is-5
-slice-aggregate-is-5 c = search needs
-
-is-requires-5 : tie.Need-is-requires-5
-is-requires-5 c κs = search needs
-
 returns-5 : tie.Need-returns-5
 unfolding find bytes
 returns-5 c w =
@@ -78,12 +48,6 @@ returns-5 c w =
       sym (c .before .before .before .before .before .before .before .before .before .before .is2 .ensures) ∙ c .before .before .before .before .before .before .before .before .before .if2 .left,
       sym (c .before .before .before .before .before .before .before .before .before .before .before .before .before .is .ensures) ∙ c .before .before .before .before .before .before .before .before .before .before .before .before .if1 .left,
     )
-
-slice-aggregate-is-6 : tie.Need-slice-aggregate-is-6
-slice-aggregate-is-6 c = search needs
-
-is-requires-6 : tie.Need-is-requires-6
-is-requires-6 c κs = search needs
 
 returns-6 : tie.Need-returns-6
 unfolding find bytes
@@ -97,12 +61,6 @@ returns-6 c w =
       sym (c .before .before .before .before .before .before .before .before .before .before .before .before .before .before .before .before .is .ensures) ∙ c .before .before .before .before .before .before .before .before .before .before .before .before .before .before .before .if1 .left,
     )
 
-slice-aggregate-is-7 : tie.Need-slice-aggregate-is-7
-slice-aggregate-is-7 c = search needs
-
-is-requires-7 : tie.Need-is-requires-7
-is-requires-7 c κs = search needs
-
 returns-7 : tie.Need-returns-7
 unfolding find bytes
 returns-7 c w =
@@ -115,12 +73,6 @@ returns-7 c w =
       sym (c .before .before .before .before .before .before .before .before .before .before .before .before .before .before .before .before .is2 .ensures) ∙ c .before .before .before .before .before .before .before .before .before .before .before .before .before .before .before .if2 .left,
       sym (c .before .before .before .before .before .before .before .before .before .before .before .before .before .before .before .before .before .before .before .is .ensures) ∙ c .before .before .before .before .before .before .before .before .before .before .before .before .before .before .before .before .before .before .if1 .left,
     )
-
-slice-aggregate-is-8 : tie.Need-slice-aggregate-is-8
-slice-aggregate-is-8 c = search needs
-
-is-requires-8 : tie.Need-is-requires-8
-is-requires-8 c κs = search needs
 
 returns-8 : tie.Need-returns-8
 unfolding find bytes
@@ -136,12 +88,6 @@ returns-8 c w =
       sym (c .before .before .before .before .before .before .before .before .before .before .before .before .before .before .before .before .before .before .before .before .before .before .is .ensures) ∙ c .before .before .before .before .before .before .before .before .before .before .before .before .before .before .before .before .before .before .before .before .before .if1 .left,
     )
 
-slice-aggregate-is-9 : tie.Need-slice-aggregate-is-9
-slice-aggregate-is-9 c = search needs
-
-is-requires-9 : tie.Need-is-requires-9
-is-requires-9 c κs = search needs
-
 returns-9 : tie.Need-returns-9
 unfolding find bytes
 returns-9 c w =
@@ -156,12 +102,6 @@ returns-9 c w =
       sym (c .before .before .before .before .before .before .before .before .before .before .before .before .before .before .before .before .before .before .before .before .before .before .is2 .ensures) ∙ c .before .before .before .before .before .before .before .before .before .before .before .before .before .before .before .before .before .before .before .before .before .if2 .left,
       sym (c .before .before .before .before .before .before .before .before .before .before .before .before .before .before .before .before .before .before .before .before .before .before .before .before .before .is .ensures) ∙ c .before .before .before .before .before .before .before .before .before .before .before .before .before .before .before .before .before .before .before .before .before .before .before .before .if1 .left,
     )
-
-slice-aggregate-is-10 : tie.Need-slice-aggregate-is-10
-slice-aggregate-is-10 c = search needs
-
-is-requires-10 : tie.Need-is-requires-10
-is-requires-10 c κs = search needs
 
 returns-10 : tie.Need-returns-10
 unfolding find bytes
@@ -199,34 +139,34 @@ pub plain-spec : {M : Type 1} → statement M
 plain-spec =
     tie.close
     (tie.spec
-    slice-aggregate-is
-    is-requires
+    (search needs)
+    (search needs)
     returns
-    slice-aggregate-is-2
-    is-requires-2
+    (search needs)
+    (search needs)
     returns-2
-    slice-aggregate-is-3
-    is-requires-3
+    (search needs)
+    (search needs)
     returns-3
-    slice-aggregate-is-4
-    is-requires-4
+    (search needs)
+    (search needs)
     returns-4
-    slice-aggregate-is-5
-    is-requires-5
+    (search needs)
+    (search needs)
     returns-5
-    slice-aggregate-is-6
-    is-requires-6
+    (search needs)
+    (search needs)
     returns-6
-    slice-aggregate-is-7
-    is-requires-7
+    (search needs)
+    (search needs)
     returns-7
-    slice-aggregate-is-8
-    is-requires-8
+    (search needs)
+    (search needs)
     returns-8
-    slice-aggregate-is-9
-    is-requires-9
+    (search needs)
+    (search needs)
     returns-9
-    slice-aggregate-is-10
-    is-requires-10
+    (search needs)
+    (search needs)
     returns-10
     returns-11)

@@ -5,23 +5,11 @@ use borrow.Author.Needs.{needs}
 use Rattle.card.proofs.lines.verb_of_1.Statement.{statement}
 use Rattle.card.proofs.lines.verb_of_1.Tie as tie
 
-slice-aggregate-is : tie.Need-slice-aggregate-is
-slice-aggregate-is c = search needs
-
-is-requires : tie.Need-is-requires
-is-requires c κs = search needs
-
 returns : tie.Need-returns
 unfolding find bytes
 returns c =
     simp
     (sym (c .before .is .ensures) ∙ c .if1 .taken)
-
-slice-aggregate-is-2 : tie.Need-slice-aggregate-is-2
-slice-aggregate-is-2 c = search needs
-
-is-requires-2 : tie.Need-is-requires-2
-is-requires-2 c κs = search needs
 
 returns-2 : tie.Need-returns-2
 unfolding find bytes
@@ -30,12 +18,6 @@ returns-2 c =
       sym (c .before .is2 .ensures) ∙ c .if2 .taken,
       sym (c .before .before .before .before .is .ensures) ∙ c .before .before .before .if1 .left,
     )
-
-slice-aggregate-is-3 : tie.Need-slice-aggregate-is-3
-slice-aggregate-is-3 c = search needs
-
-is-requires-3 : tie.Need-is-requires-3
-is-requires-3 c κs = search needs
 
 returns-3 : tie.Need-returns-3
 unfolding find bytes
@@ -46,12 +28,6 @@ returns-3 c =
       sym (c .before .before .before .before .before .before .before .is .ensures) ∙ c .before .before .before .before .before .before .if1 .left,
     )
 
-slice-aggregate-is-4 : tie.Need-slice-aggregate-is-4
-slice-aggregate-is-4 c = search needs
-
-is-requires-4 : tie.Need-is-requires-4
-is-requires-4 c κs = search needs
-
 returns-4 : tie.Need-returns-4
 unfolding find bytes
 returns-4 c =
@@ -61,12 +37,6 @@ returns-4 c =
       sym (c .before .before .before .before .before .before .before .is2 .ensures) ∙ c .before .before .before .before .before .before .if2 .left,
       sym (c .before .before .before .before .before .before .before .before .before .before .is .ensures) ∙ c .before .before .before .before .before .before .before .before .before .if1 .left,
     )
-
-slice-aggregate-is-5 : tie.Need-slice-aggregate-is-5
-slice-aggregate-is-5 c = search needs
-
-is-requires-5 : tie.Need-is-requires-5
-is-requires-5 c κs = search needs
 
 returns-5 : tie.Need-returns-5
 unfolding find bytes
@@ -79,12 +49,6 @@ returns-5 c =
       sym (c .before .before .before .before .before .before .before .before .before .before .before .before .before .is .ensures) ∙ c .before .before .before .before .before .before .before .before .before .before .before .before .if1 .left,
     )
 
-slice-aggregate-is-6 : tie.Need-slice-aggregate-is-6
-slice-aggregate-is-6 c = search needs
-
-is-requires-6 : tie.Need-is-requires-6
-is-requires-6 c κs = search needs
-
 returns-6 : tie.Need-returns-6
 unfolding find bytes
 returns-6 c =
@@ -96,12 +60,6 @@ returns-6 c =
       sym (c .before .before .before .before .before .before .before .before .before .before .before .before .before .is2 .ensures) ∙ c .before .before .before .before .before .before .before .before .before .before .before .before .if2 .left,
       sym (c .before .before .before .before .before .before .before .before .before .before .before .before .before .before .before .before .is .ensures) ∙ c .before .before .before .before .before .before .before .before .before .before .before .before .before .before .before .if1 .left,
     )
-
-slice-aggregate-is-7 : tie.Need-slice-aggregate-is-7
-slice-aggregate-is-7 c = search needs
-
-is-requires-7 : tie.Need-is-requires-7
-is-requires-7 c κs = search needs
 
 returns-7 : tie.Need-returns-7
 unfolding find bytes
@@ -116,12 +74,6 @@ returns-7 c =
       sym (c .before .before .before .before .before .before .before .before .before .before .before .before .before .before .before .before .before .before .before .is .ensures) ∙ c .before .before .before .before .before .before .before .before .before .before .before .before .before .before .before .before .before .before .if1 .left,
     )
 
-slice-aggregate-is-8 : tie.Need-slice-aggregate-is-8
-slice-aggregate-is-8 c = search needs
-
-is-requires-8 : tie.Need-is-requires-8
-is-requires-8 c κs = search needs
-
 returns-8 : tie.Need-returns-8
 unfolding find bytes
 returns-8 c =
@@ -135,12 +87,6 @@ returns-8 c =
       sym (c .before .before .before .before .before .before .before .before .before .before .before .before .before .before .before .before .before .before .before .is2 .ensures) ∙ c .before .before .before .before .before .before .before .before .before .before .before .before .before .before .before .before .before .before .if2 .left,
       sym (c .before .before .before .before .before .before .before .before .before .before .before .before .before .before .before .before .before .before .before .before .before .before .is .ensures) ∙ c .before .before .before .before .before .before .before .before .before .before .before .before .before .before .before .before .before .before .before .before .before .if1 .left,
     )
-
-slice-aggregate-is-9 : tie.Need-slice-aggregate-is-9
-slice-aggregate-is-9 c = search needs
-
-is-requires-9 : tie.Need-is-requires-9
-is-requires-9 c κs = search needs
 
 returns-9 : tie.Need-returns-9
 unfolding find bytes
@@ -157,12 +103,6 @@ returns-9 c =
       sym (c .before .before .before .before .before .before .before .before .before .before .before .before .before .before .before .before .before .before .before .before .before .before .before .before .before .is .ensures) ∙ c .before .before .before .before .before .before .before .before .before .before .before .before .before .before .before .before .before .before .before .before .before .before .before .before .if1 .left,
     )
 
-slice-aggregate-is-10 : tie.Need-slice-aggregate-is-10
-slice-aggregate-is-10 c = search needs
-
-is-requires-10 : tie.Need-is-requires-10
-is-requires-10 c κs = search needs
-
 returns-10 : tie.Need-returns-10
 unfolding find bytes
 returns-10 c =
@@ -178,12 +118,6 @@ returns-10 c =
       sym (c .before .before .before .before .before .before .before .before .before .before .before .before .before .before .before .before .before .before .before .before .before .before .before .before .before .is2 .ensures) ∙ c .before .before .before .before .before .before .before .before .before .before .before .before .before .before .before .before .before .before .before .before .before .before .before .before .if2 .left,
       sym (c .before .before .before .before .before .before .before .before .before .before .before .before .before .before .before .before .before .before .before .before .before .before .before .before .before .before .before .before .is .ensures) ∙ c .before .before .before .before .before .before .before .before .before .before .before .before .before .before .before .before .before .before .before .before .before .before .before .before .before .before .before .if1 .left,
     )
-
-slice-aggregate-is-11 : tie.Need-slice-aggregate-is-11
-slice-aggregate-is-11 c = search needs
-
-is-requires-11 : tie.Need-is-requires-11
-is-requires-11 c κs = search needs
 
 returns-11 : tie.Need-returns-11
 unfolding find bytes
@@ -223,37 +157,37 @@ pub verb-of-1-spec : {M : Type 1} → statement M
 verb-of-1-spec =
     tie.close
     (tie.spec
-    slice-aggregate-is
-    is-requires
+    (search needs)
+    (search needs)
     returns
-    slice-aggregate-is-2
-    is-requires-2
+    (search needs)
+    (search needs)
     returns-2
-    slice-aggregate-is-3
-    is-requires-3
+    (search needs)
+    (search needs)
     returns-3
-    slice-aggregate-is-4
-    is-requires-4
+    (search needs)
+    (search needs)
     returns-4
-    slice-aggregate-is-5
-    is-requires-5
+    (search needs)
+    (search needs)
     returns-5
-    slice-aggregate-is-6
-    is-requires-6
+    (search needs)
+    (search needs)
     returns-6
-    slice-aggregate-is-7
-    is-requires-7
+    (search needs)
+    (search needs)
     returns-7
-    slice-aggregate-is-8
-    is-requires-8
+    (search needs)
+    (search needs)
     returns-8
-    slice-aggregate-is-9
-    is-requires-9
+    (search needs)
+    (search needs)
     returns-9
-    slice-aggregate-is-10
-    is-requires-10
+    (search needs)
+    (search needs)
     returns-10
-    slice-aggregate-is-11
-    is-requires-11
+    (search needs)
+    (search needs)
     returns-11
     returns-12)

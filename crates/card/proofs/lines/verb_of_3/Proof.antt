@@ -5,23 +5,11 @@ use borrow.Author.Needs.{needs}
 use Rattle.card.proofs.lines.verb_of_3.Statement.{statement}
 use Rattle.card.proofs.lines.verb_of_3.Tie as tie
 
-slice-aggregate-is : tie.Need-slice-aggregate-is
-slice-aggregate-is c = search needs
-
-is-requires : tie.Need-is-requires
-is-requires c κs = search needs
-
 returns : tie.Need-returns
 unfolding find bytes
 returns c =
     simp
     (sym (c .before .is .ensures) ∙ c .if1 .taken)
-
-slice-aggregate-is-2 : tie.Need-slice-aggregate-is-2
-slice-aggregate-is-2 c = search needs
-
-is-requires-2 : tie.Need-is-requires-2
-is-requires-2 c κs = search needs
 
 returns-2 : tie.Need-returns-2
 unfolding find bytes
@@ -43,10 +31,10 @@ pub verb-of-3-spec : {M : Type 1} → statement M
 verb-of-3-spec =
     tie.close
     (tie.spec
-    slice-aggregate-is
-    is-requires
+    (search needs)
+    (search needs)
     returns
-    slice-aggregate-is-2
-    is-requires-2
+    (search needs)
+    (search needs)
     returns-2
     returns-3)

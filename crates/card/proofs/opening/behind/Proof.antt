@@ -7,17 +7,11 @@ use borrow.Author.Needs.{needs}
 use Rattle.card.proofs.opening.behind.Statement.{statement}
 use Rattle.card.proofs.opening.behind.Tie as tie
 
-comma-requires : tie.Need-comma-requires
-comma-requires c κs = search needs
-
 returns : tie.Need-returns
 unfolding behindOf
 returns c =
     let e = sym (c .before .comma .ensures .0) ∙ c .if1 .taken in
     (simp (eq-eqb _ _ e), omega arith)
-
-add-result : tie.Need-add-result
-add-result c = search needs
 
 returns-2 : tie.Need-returns-2
 unfolding behindOf
@@ -27,4 +21,4 @@ returns-2 c =
     (simp (ne-eqb _ _ ne, c .before .comma .ensures .0), omega (arith, c .before .comma .ensures .1))
 
 pub behind-spec : {M : Type 1} → statement M
-behind-spec = tie.close (tie.spec comma-requires returns add-result returns-2)
+behind-spec = tie.close (tie.spec (search needs) returns (search needs) returns-2)

@@ -18,20 +18,8 @@ abbrev μ-loop : tie.MeasureT-loop
 loop-holds : tie.Need-loop-holds Inv-loop μ-loop
 loop-holds c = (omega arith, refl, omega arith, omega arith)
 
-shared-slice-read-is-comma : tie.Need-shared-slice-read-is-comma Inv-loop μ-loop
-shared-slice-read-is-comma c = search needs
-
-is-comma-requires : tie.Need-is-comma-requires Inv-loop μ-loop
-is-comma-requires c κs = search needs
-
 add-k : tie.Need-add-k Inv-loop μ-loop
 add-k c = let m = c .is-comma .ensures .1 in omega (arith, m)
-
-add-i : tie.Need-add-i Inv-loop μ-loop
-add-i c = search needs
-
-loop-less : tie.Need-loop-less Inv-loop μ-loop
-loop-less c = search needs
 
 loop-again : tie.Need-loop-again Inv-loop μ-loop
 loop-again c =
@@ -57,10 +45,10 @@ count-spec =
     Inv-loop
     μ-loop
     loop-holds
-    shared-slice-read-is-comma
-    is-comma-requires
+    (search needs)
+    (search needs)
     add-k
-    add-i
-    loop-less
+    (search needs)
+    (search needs)
     loop-again
     returns)

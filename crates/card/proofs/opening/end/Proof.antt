@@ -7,21 +7,6 @@ use borrow.Author.Needs.{needs}
 use Rattle.card.proofs.opening.end.Statement.{statement}
 use Rattle.card.proofs.opening.end.Tie as tie
 
-sub-comma : tie.Need-sub-comma
-sub-comma c = search needs
-
-part-comma-start : tie.Need-part-comma-start
-part-comma-start c = search needs
-
-part-comma-end : tie.Need-part-comma-end
-part-comma-end c = search needs
-
-comma-requires : tie.Need-comma-requires
-comma-requires c κs = search needs
-
-add-result : tie.Need-add-result
-add-result c = search needs
-
 returns : tie.Need-returns
 returns c =
     let s = c .before .before .before .args .line .now in
@@ -34,4 +19,4 @@ returns c =
 pub end-spec : {M : Type 1} → statement M
 end-spec =
     tie.close
-    (tie.spec sub-comma part-comma-start part-comma-end comma-requires add-result returns)
+    (tie.spec (search needs) (search needs) (search needs) (search needs) (search needs) returns)

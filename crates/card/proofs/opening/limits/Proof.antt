@@ -5,29 +5,11 @@ use borrow.Author.Needs.{needs}
 use Rattle.card.proofs.opening.limits.Statement.{statement}
 use Rattle.card.proofs.opening.limits.Tie as tie
 
-narrow-at-requires : tie.Need-narrow-at-requires
-narrow-at-requires c κs = search needs
-
-enum-known-chunk : tie.Need-enum-known-chunk
-enum-known-chunk c = search needs
-
-enum-told : tie.Need-enum-told
-enum-told c = search needs
-
 returns : tie.Need-returns
 unfolding limitsOf
 returns c =
     simp
     (sym (c .before .before .narrow-at .ensures) ∙ ap narrowIs (c .enum-told .given .1))
-
-window-at-requires : tie.Need-window-at-requires
-window-at-requires c κs = search needs
-
-enum-known-input : tie.Need-enum-known-input
-enum-known-input c = search needs
-
-enum-told-2 : tie.Need-enum-told-2
-enum-told-2 c = search needs
 
 returns-2 : tie.Need-returns-2
 unfolding limitsOf
@@ -37,15 +19,6 @@ returns-2 c =
       sym (c .before .before .before .before .before .before .narrow-at .ensures) ∙ ap narrowIs (c .before .before .before .before .chunk .given .1),
     )
 
-window-at-requires-2 : tie.Need-window-at-requires-2
-window-at-requires-2 c κs = search needs
-
-enum-known-output : tie.Need-enum-known-output
-enum-known-output c = search needs
-
-enum-told-3 : tie.Need-enum-told-3
-enum-told-3 c = search needs
-
 returns-3 : tie.Need-returns-3
 unfolding limitsOf
 returns-3 c =
@@ -54,15 +27,6 @@ returns-3 c =
       sym (c .before .before .before .before .before .before .window-at .ensures) ∙ ap windowIs (c .before .before .before .before .input .given .1),
       sym (c .before .before .before .before .before .before .before .before .before .before .narrow-at .ensures) ∙ ap narrowIs (c .before .before .before .before .before .before .before .before .chunk .given .1),
     )
-
-flag-at-requires : tie.Need-flag-at-requires
-flag-at-requires c κs = search needs
-
-enum-known-shared : tie.Need-enum-known-shared
-enum-known-shared c = search needs
-
-enum-told-4 : tie.Need-enum-told-4
-enum-told-4 c = search needs
 
 returns-4 : tie.Need-returns-4
 unfolding limitsOf
@@ -88,20 +52,20 @@ pub limits-spec : {M : Type 1} → statement M
 limits-spec =
     tie.close
     (tie.spec
-    narrow-at-requires
-    enum-known-chunk
-    enum-told
+    (search needs)
+    (search needs)
+    (search needs)
     returns
-    window-at-requires
-    enum-known-input
-    enum-told-2
+    (search needs)
+    (search needs)
+    (search needs)
     returns-2
-    window-at-requires-2
-    enum-known-output
-    enum-told-3
+    (search needs)
+    (search needs)
+    (search needs)
     returns-3
-    flag-at-requires
-    enum-known-shared
-    enum-told-4
+    (search needs)
+    (search needs)
+    (search needs)
     returns-4
     returns-5)

@@ -4,12 +4,6 @@ use borrow.Author.Needs.{needs}
 use Rattle.card.proofs.opening.open_of.Statement.{statement}
 use Rattle.card.proofs.opening.open_of.Tie as tie
 
-is-open-requires : tie.Need-is-open-requires
-is-open-requires c κs = search needs
-
-opening-of-requires : tie.Need-opening-of-requires
-opening-of-requires c κs = search needs
-
 returns : tie.Need-returns
 unfolding openOf
 returns c =
@@ -25,4 +19,4 @@ returns-2 c =
     (sym (c .before .is-open .ensures) ∙ c .if1 .left)
 
 pub open-of-spec : {M : Type 1} → statement M
-open-of-spec = tie.close (tie.spec is-open-requires opening-of-requires returns returns-2)
+open-of-spec = tie.close (tie.spec (search needs) (search needs) returns returns-2)

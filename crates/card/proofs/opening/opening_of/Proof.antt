@@ -5,29 +5,11 @@ use borrow.Author.Needs.{needs}
 use Rattle.card.proofs.opening.opening_of.Statement.{statement}
 use Rattle.card.proofs.opening.opening_of.Tie as tie
 
-number-at-requires : tie.Need-number-at-requires
-number-at-requires c κs = search needs
-
-enum-known-now : tie.Need-enum-known-now
-enum-known-now c = search needs
-
-enum-told : tie.Need-enum-told
-enum-told c = search needs
-
 returns : tie.Need-returns
 unfolding openingOf
 returns c =
     simp
     (sym (c .before .before .number-at .ensures) ∙ ap numberIs (c .enum-told .given .1))
-
-number-at-requires-2 : tie.Need-number-at-requires-2
-number-at-requires-2 c κs = search needs
-
-enum-known-id : tie.Need-enum-known-id
-enum-known-id c = search needs
-
-enum-told-2 : tie.Need-enum-told-2
-enum-told-2 c = search needs
 
 returns-2 : tie.Need-returns-2
 unfolding openingOf
@@ -37,15 +19,6 @@ returns-2 c =
       sym (c .before .before .before .before .before .before .number-at .ensures) ∙ ap numberIs (c .before .before .before .before .now .given .1),
     )
 
-number-at-requires-3 : tie.Need-number-at-requires-3
-number-at-requires-3 c κs = search needs
-
-enum-known-generation : tie.Need-enum-known-generation
-enum-known-generation c = search needs
-
-enum-told-3 : tie.Need-enum-told-3
-enum-told-3 c = search needs
-
 returns-3 : tie.Need-returns-3
 unfolding openingOf
 returns-3 c =
@@ -54,15 +27,6 @@ returns-3 c =
       sym (c .before .before .before .before .before .before .number-at2 .ensures) ∙ ap numberIs (c .before .before .before .before .id .given .1),
       sym (c .before .before .before .before .before .before .before .before .before .before .number-at .ensures) ∙ ap numberIs (c .before .before .before .before .before .before .before .before .now .given .1),
     )
-
-limits-requires : tie.Need-limits-requires
-limits-requires c κs = search needs
-
-enum-known-agreed : tie.Need-enum-known-agreed
-enum-known-agreed c = search needs
-
-enum-told-4 : tie.Need-enum-told-4
-enum-told-4 c = search needs
 
 returns-4 : tie.Need-returns-4
 unfolding openingOf
@@ -74,15 +38,6 @@ returns-4 c =
       sym (c .before .before .before .before .before .before .before .before .before .before .before .before .before .before .number-at .ensures) ∙ ap numberIs (c .before .before .before .before .before .before .before .before .before .before .before .before .now .given .1),
     )
 
-timers-requires : tie.Need-timers-requires
-timers-requires c κs = search needs
-
-enum-known-clocks : tie.Need-enum-known-clocks
-enum-known-clocks c = search needs
-
-enum-told-5 : tie.Need-enum-told-5
-enum-told-5 c = search needs
-
 returns-5 : tie.Need-returns-5
 unfolding openingOf
 returns-5 c =
@@ -93,9 +48,6 @@ returns-5 c =
       sym (c .before .before .before .before .before .before .before .before .before .before .before .before .before .before .number-at2 .ensures) ∙ ap numberIs (c .before .before .before .before .before .before .before .before .before .before .before .before .id .given .1),
       sym (c .before .before .before .before .before .before .before .before .before .before .before .before .before .before .before .before .before .before .number-at .ensures) ∙ ap numberIs (c .before .before .before .before .before .before .before .before .before .before .before .before .before .before .before .before .now .given .1),
     )
-
-new-requires : tie.Need-new-requires
-new-requires c κs = search needs
 
 returns-6 : tie.Need-returns-6
 unfolding openingOf
@@ -113,25 +65,25 @@ pub opening-of-spec : {M : Type 1} → statement M
 opening-of-spec =
     tie.close
     (tie.spec
-    number-at-requires
-    enum-known-now
-    enum-told
+    (search needs)
+    (search needs)
+    (search needs)
     returns
-    number-at-requires-2
-    enum-known-id
-    enum-told-2
+    (search needs)
+    (search needs)
+    (search needs)
     returns-2
-    number-at-requires-3
-    enum-known-generation
-    enum-told-3
+    (search needs)
+    (search needs)
+    (search needs)
     returns-3
-    limits-requires
-    enum-known-agreed
-    enum-told-4
+    (search needs)
+    (search needs)
+    (search needs)
     returns-4
-    timers-requires
-    enum-known-clocks
-    enum-told-5
+    (search needs)
+    (search needs)
+    (search needs)
     returns-5
-    new-requires
+    (search needs)
     returns-6)

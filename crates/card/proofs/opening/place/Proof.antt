@@ -19,29 +19,11 @@ abbrev μ-loop : tie.MeasureT-loop
 loop-holds : tie.Need-loop-holds Inv-loop μ-loop
 loop-holds c = (omega arith, omega arith, refl, rw (sub-zero _) refl)
 
-sub-behind : tie.Need-sub-behind Inv-loop μ-loop
-sub-behind c = search needs
-
-part-behind-start : tie.Need-part-behind-start Inv-loop μ-loop
-part-behind-start c = search needs
-
-part-behind-end : tie.Need-part-behind-end Inv-loop μ-loop
-part-behind-end c = search needs
-
-behind-requires : tie.Need-behind-requires Inv-loop μ-loop
-behind-requires c κs = search needs
-
 add-i : tie.Need-add-i Inv-loop μ-loop
 add-i c =
     let l = c .before .before .before .loop in
     let a = c .before .before .before .before .before .args in
     omega (arith, part-behind (a .line .now) (l .i) _ (omega arith) (c .behind .ensures .0) (c .behind .ensures .1) .most)
-
-add-j : tie.Need-add-j Inv-loop μ-loop
-add-j c = search needs
-
-loop-less : tie.Need-loop-less Inv-loop μ-loop
-loop-less c = search needs
 
 loop-again : tie.Need-loop-again Inv-loop μ-loop
 loop-again c =
@@ -64,12 +46,12 @@ place-spec =
     Inv-loop
     μ-loop
     loop-holds
-    sub-behind
-    part-behind-start
-    part-behind-end
-    behind-requires
+    (search needs)
+    (search needs)
+    (search needs)
+    (search needs)
     add-i
-    add-j
-    loop-less
+    (search needs)
+    (search needs)
     loop-again
     returns)

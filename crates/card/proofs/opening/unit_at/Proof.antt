@@ -5,24 +5,6 @@ use borrow.Author.Needs.{needs}
 use Rattle.card.proofs.opening.unit_at.Statement.{statement}
 use Rattle.card.proofs.opening.unit_at.Tie as tie
 
-place-requires : tie.Need-place-requires
-place-requires c κs = search needs
-
-end-requires : tie.Need-end-requires
-end-requires c κs = search needs
-
-sub-unit : tie.Need-sub-unit
-sub-unit c = search needs
-
-part-unit-start : tie.Need-part-unit-start
-part-unit-start c = search needs
-
-part-unit-end : tie.Need-part-unit-end
-part-unit-end c = search needs
-
-unit-requires : tie.Need-unit-requires
-unit-requires c κs = search needs
-
 returns : tie.Need-returns
 returns c =
     let a = c .before .before .before .before .before .args in
@@ -32,10 +14,10 @@ pub unit-at-spec : {M : Type 1} → statement M
 unit-at-spec =
     tie.close
     (tie.spec
-    place-requires
-    end-requires
-    sub-unit
-    part-unit-start
-    part-unit-end
-    unit-requires
+    (search needs)
+    (search needs)
+    (search needs)
+    (search needs)
+    (search needs)
+    (search needs)
     returns)

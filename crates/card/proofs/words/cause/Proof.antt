@@ -4,23 +4,11 @@ use borrow.Author.Needs.{needs}
 use Rattle.card.proofs.words.cause.Statement.{statement}
 use Rattle.card.proofs.words.cause.Tie as tie
 
-slice-aggregate-is : tie.Need-slice-aggregate-is
-slice-aggregate-is c = search needs
-
-is-requires : tie.Need-is-requires
-is-requires c κs = search needs
-
 returns : tie.Need-returns
 unfolding named bytes
 returns c =
     simp
     (sym (c .before .is .ensures) ∙ c .if1 .taken)
-
-slice-aggregate-is-2 : tie.Need-slice-aggregate-is-2
-slice-aggregate-is-2 c = search needs
-
-is-requires-2 : tie.Need-is-requires-2
-is-requires-2 c κs = search needs
 
 returns-2 : tie.Need-returns-2
 unfolding named bytes
@@ -29,12 +17,6 @@ returns-2 c =
       sym (c .before .is2 .ensures) ∙ c .if2 .taken,
       sym (c .before .before .before .before .is .ensures) ∙ c .before .before .before .if1 .left,
     )
-
-slice-aggregate-is-3 : tie.Need-slice-aggregate-is-3
-slice-aggregate-is-3 c = search needs
-
-is-requires-3 : tie.Need-is-requires-3
-is-requires-3 c κs = search needs
 
 returns-3 : tie.Need-returns-3
 unfolding named bytes
@@ -45,12 +27,6 @@ returns-3 c =
       sym (c .before .before .before .before .before .before .before .is .ensures) ∙ c .before .before .before .before .before .before .if1 .left,
     )
 
-slice-aggregate-is-4 : tie.Need-slice-aggregate-is-4
-slice-aggregate-is-4 c = search needs
-
-is-requires-4 : tie.Need-is-requires-4
-is-requires-4 c κs = search needs
-
 returns-4 : tie.Need-returns-4
 unfolding named bytes
 returns-4 c =
@@ -60,12 +36,6 @@ returns-4 c =
       sym (c .before .before .before .before .before .before .before .is2 .ensures) ∙ c .before .before .before .before .before .before .if2 .left,
       sym (c .before .before .before .before .before .before .before .before .before .before .is .ensures) ∙ c .before .before .before .before .before .before .before .before .before .if1 .left,
     )
-
-slice-aggregate-is-5 : tie.Need-slice-aggregate-is-5
-slice-aggregate-is-5 c = search needs
-
-is-requires-5 : tie.Need-is-requires-5
-is-requires-5 c κs = search needs
 
 returns-5 : tie.Need-returns-5
 unfolding named bytes
@@ -93,19 +63,19 @@ pub cause-spec : {M : Type 1} → statement M
 cause-spec =
     tie.close
     (tie.spec
-    slice-aggregate-is
-    is-requires
+    (search needs)
+    (search needs)
     returns
-    slice-aggregate-is-2
-    is-requires-2
+    (search needs)
+    (search needs)
     returns-2
-    slice-aggregate-is-3
-    is-requires-3
+    (search needs)
+    (search needs)
     returns-3
-    slice-aggregate-is-4
-    is-requires-4
+    (search needs)
+    (search needs)
     returns-4
-    slice-aggregate-is-5
-    is-requires-5
+    (search needs)
+    (search needs)
     returns-5
     returns-6)

@@ -10,8 +10,6 @@ use Rattle.grammar.specs.Words.{same}
 use Rattle.card.specs.WordLaws.{same-length, same-turn, same-end}
 use Rattle.card.proofs.words.is.Statement.{statement}
 use Rattle.card.proofs.words.is.Tie as tie
-use Rattle.card.proofs.words.is.Reads as reads
-use Rattle.card.proofs.words.is.Lts as lts
 
 abbrev Inv-loop : tie.InvT-loop
 Inv-loop field word n i₀ i = (i ≤ n) × (n ≡ length field) × (n ≡ length word) × (same (drop i field) (drop i word) ≡ same field word)
@@ -19,23 +17,12 @@ Inv-loop field word n i₀ i = (i ≤ n) × (n ≡ length field) × (n ≡ lengt
 abbrev μ-loop : tie.MeasureT-loop
 μ-loop field word n i₀ i = n - i
 
--- src/words.rt:44:9
 returns : tie.Need-returns Inv-loop μ-loop
 returns c = sym (same-length _ _ (c .if1 .taken))
 
--- src/words.rt:47:5
 loop-holds : tie.Need-loop-holds Inv-loop μ-loop
 loop-holds c = (omega arith, omega arith, refl, refl)
 
--- src/words.rt:48:12
-shared-slice-read-if2 : tie.Need-shared-slice-read-if2 Inv-loop μ-loop
-shared-slice-read-if2 c = search needs
-
--- src/words.rt:48:24
-shared-slice-read-if2-2 : tie.Need-shared-slice-read-if2-2 Inv-loop μ-loop
-shared-slice-read-if2-2 c = search needs
-
--- src/words.rt:49:13
 returns-2 : tie.Need-returns-2 Inv-loop μ-loop
 returns-2 c =
     let l = c .before .before .before .before .loop in
@@ -44,15 +31,6 @@ returns-2 c =
     ∙ sym (same-turn (a .field .now) (a .word .now) (l .i) (omega arith) (omega arith))
     ∙ l .inv .3
 
--- src/words.rt:51:9
-add-i : tie.Need-add-i Inv-loop μ-loop
-add-i c = search needs
-
--- src/words.rt:47:5
-loop-less : tie.Need-loop-less Inv-loop μ-loop
-loop-less c = search needs
-
--- src/words.rt:47:5
 loop-again : tie.Need-loop-again Inv-loop μ-loop
 loop-again c =
     let l = c .before .before .before .before .loop in
@@ -65,7 +43,6 @@ loop-again c =
           ∙ l .inv .3,
     )
 
--- src/words.rt:39:1
 returns-3 : tie.Need-returns-3 Inv-loop μ-loop
 returns-3 c =
     let l = c .before .loop in
@@ -79,10 +56,10 @@ is-spec =
     μ-loop
     returns
     loop-holds
-    shared-slice-read-if2
-    shared-slice-read-if2-2
+    (search needs)
+    (search needs)
     returns-2
-    add-i
-    loop-less
+    (search needs)
+    (search needs)
     loop-again
     returns-3)

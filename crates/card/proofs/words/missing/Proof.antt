@@ -3,12 +3,6 @@ use borrow.Author.Needs.{needs}
 use Rattle.card.proofs.words.missing.Statement.{statement}
 use Rattle.card.proofs.words.missing.Tie as tie
 
-slice-aggregate-is : tie.Need-slice-aggregate-is
-slice-aggregate-is c = search needs
-
-is-requires : tie.Need-is-requires
-is-requires c κs = search needs
-
 returns : tie.Need-returns
 unfolding bytes
 returns c =
@@ -16,4 +10,4 @@ returns c =
     (c .is .ensures)
 
 pub missing-spec : {M : Type 1} → statement M
-missing-spec = tie.close (tie.spec slice-aggregate-is is-requires returns)
+missing-spec = tie.close (tie.spec (search needs) (search needs) returns)

@@ -4,23 +4,11 @@ use borrow.Author.Needs.{needs}
 use Rattle.card.proofs.words.unit.Statement.{statement}
 use Rattle.card.proofs.words.unit.Tie as tie
 
-slice-aggregate-is : tie.Need-slice-aggregate-is
-slice-aggregate-is c = search needs
-
-is-requires : tie.Need-is-requires
-is-requires c κs = search needs
-
 returns : tie.Need-returns
 unfolding named bytes
 returns c =
     simp
     (sym (c .before .is .ensures) ∙ c .if1 .taken)
-
-slice-aggregate-is-2 : tie.Need-slice-aggregate-is-2
-slice-aggregate-is-2 c = search needs
-
-is-requires-2 : tie.Need-is-requires-2
-is-requires-2 c κs = search needs
 
 returns-2 : tie.Need-returns-2
 unfolding named bytes
@@ -42,10 +30,10 @@ pub unit-spec : {M : Type 1} → statement M
 unit-spec =
     tie.close
     (tie.spec
-    slice-aggregate-is
-    is-requires
+    (search needs)
+    (search needs)
     returns
-    slice-aggregate-is-2
-    is-requires-2
+    (search needs)
+    (search needs)
     returns-2
     returns-3)

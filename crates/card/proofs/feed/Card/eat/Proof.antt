@@ -5,29 +5,11 @@ use borrow.Author.Needs.{needs}
 use Rattle.card.proofs.feed.Card.eat.Statement.{statement}
 use Rattle.card.proofs.feed.Card.eat.Tie as tie
 
-is-ready-requires : tie.Need-is-ready-requires
-is-ready-requires c κs = search needs
-
-slice-aggregate-eat-all : tie.Need-slice-aggregate-eat-all
-slice-aggregate-eat-all c = search needs
-
 eat-all-requires : tie.Need-eat-all-requires
 eat-all-requires c κs =
     let a = c .before .before .before .before .before .before .before .before .before .before .before .before .args in
     let k = ready (a .self) (length (a .line .now)) (length (a .store .now)) (length (a .lengths .now)) (sym (c .before .before .before .before .before .before .is-ready .ensures) ∙ c .before .before .before .before .before .if1 .taken) in
     ((k .line-size, k .bytes-size, k .lengths-size, search needs), k .few)
-
-same-length : tie.Need-same-length
-same-length c = search needs
-
-same-length-2 : tie.Need-same-length-2
-same-length-2 c = search needs
-
-same-length-3 : tie.Need-same-length-3
-same-length-3 c = search needs
-
-same-length-4 : tie.Need-same-length-4
-same-length-4 c = search needs
 
 returns : tie.Need-returns
 returns c = rw (sym (c .before .before .before .before .before .before .before .before .before .before .before .before .before .before .before .before .is-ready .ensures) ∙ c .before .before .before .before .before .before .before .before .before .before .before .before .before .before .before .if1 .taken) (c .before .before .before .before .before .before .before .before .before .eat-all .ensures)
@@ -39,12 +21,12 @@ pub eat-spec : {M : Type 1} → statement M
 eat-spec =
     tie.close
     (tie.spec
-    is-ready-requires
-    slice-aggregate-eat-all
+    (search needs)
+    (search needs)
     eat-all-requires
-    same-length
-    same-length-2
-    same-length-3
-    same-length-4
+    (search needs)
+    (search needs)
+    (search needs)
+    (search needs)
     returns
     returns-2)

@@ -10,21 +10,6 @@ use borrow.Author.Needs.{needs}
 use Rattle.card.proofs.feed.Card.end_held.Statement.{statement}
 use Rattle.card.proofs.feed.Card.end_held.Tie as tie
 
-end-line-requires : tie.Need-end-line-requires
-end-line-requires c κs = search needs
-
-same-length : tie.Need-same-length
-same-length c = search needs
-
-same-length-2 : tie.Need-same-length-2
-same-length-2 c = search needs
-
-same-length-3 : tie.Need-same-length-3
-same-length-3 c = search needs
-
-same-length-4 : tie.Need-same-length-4
-same-length-4 c = search needs
-
 returns : tie.Need-returns
 returns c =
     let s = c .before .before .before .before .before .before .before .before .before .before .before .before .before .before .before .before .before .before .before .before .before in
@@ -52,10 +37,10 @@ pub end-held-spec : {M : Type 1} → statement M
 end-held-spec =
     tie.close
     (tie.spec
-    end-line-requires
-    same-length
-    same-length-2
-    same-length-3
-    same-length-4
+    (search needs)
+    (search needs)
+    (search needs)
+    (search needs)
+    (search needs)
     returns
     returns-2)

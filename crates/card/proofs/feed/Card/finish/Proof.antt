@@ -10,12 +10,6 @@ use borrow.Author.Needs.{needs}
 use Rattle.card.proofs.feed.Card.finish.Statement.{statement}
 use Rattle.card.proofs.feed.Card.finish.Tie as tie
 
-is-ready-requires : tie.Need-is-ready-requires
-is-ready-requires c κs = search needs
-
-slice-aggregate-end-held : tie.Need-slice-aggregate-end-held
-slice-aggregate-end-held c = search needs
-
 end-held-requires : tie.Need-end-held-requires
 end-held-requires c κs =
     let s = c .before .before .before .before .before .before .before .before .before .before .before in
@@ -24,15 +18,6 @@ end-held-requires c κs =
     let g = both (isReady (a .self) (length (a .line .now)) (length (a .store .now)) (length (a .lengths .now))) (ltb (a .self .lines) 18446744073709551615) (h .0) in
     let k = ready (a .self) _ _ _ (g .0) in
     ((k .line-size, k .bytes-size, k .lengths-size, search needs), k .few, ltb-true _ _ (g .1), leb-true _ _ (h .1))
-
-same-length : tie.Need-same-length
-same-length c = search needs
-
-same-length-2 : tie.Need-same-length-2
-same-length-2 c = search needs
-
-same-length-3 : tie.Need-same-length-3
-same-length-3 c = search needs
 
 returns : tie.Need-returns
 returns c = rw (rw (c .before .before .before .before .before .before .before .before .before .before .before .before .before .before .is-ready .ensures) at (c .before .before .before .before .before .before .before .before .before .before .before .before .if1 .taken)) (c .before .before .before .before .before .before .before .end-held .ensures)
@@ -44,11 +29,11 @@ pub finish-spec : {M : Type 1} → statement M
 finish-spec =
     tie.close
     (tie.spec
-    is-ready-requires
-    slice-aggregate-end-held
+    (search needs)
+    (search needs)
     end-held-requires
-    same-length
-    same-length-2
-    same-length-3
+    (search needs)
+    (search needs)
+    (search needs)
     returns
     returns-2)

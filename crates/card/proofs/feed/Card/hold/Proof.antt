@@ -5,24 +5,6 @@ use borrow.Author.Needs.{needs}
 use Rattle.card.proofs.feed.Card.hold.Statement.{statement}
 use Rattle.card.proofs.feed.Card.hold.Tie as tie
 
-sub-smaller : tie.Need-sub-smaller
-sub-smaller c = search needs
-
-sub-smaller-2 : tie.Need-sub-smaller-2
-sub-smaller-2 c = search needs
-
-smaller-requires : tie.Need-smaller-requires
-smaller-requires c κs = search needs
-
-copy-in-requires : tie.Need-copy-in-requires
-copy-in-requires c κs = search needs
-
-add-t9 : tie.Need-add-t9
-add-t9 c = search needs
-
-same-length : tie.Need-same-length
-same-length c = search needs
-
 returns : tie.Need-returns
 returns c =
     let s = c .before .before .before .before .before .before .before .before in
@@ -39,10 +21,10 @@ pub hold-spec : {M : Type 1} → statement M
 hold-spec =
     tie.close
     (tie.spec
-    sub-smaller
-    sub-smaller-2
-    smaller-requires
-    copy-in-requires
-    add-t9
-    same-length
+    (search needs)
+    (search needs)
+    (search needs)
+    (search needs)
+    (search needs)
+    (search needs)
     returns)

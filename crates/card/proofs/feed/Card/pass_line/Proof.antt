@@ -10,29 +10,11 @@ use borrow.Author.Needs.{needs}
 use Rattle.card.proofs.feed.Card.pass_line.Statement.{statement}
 use Rattle.card.proofs.feed.Card.pass_line.Tie as tie
 
-sub-if1 : tie.Need-sub-if1
-sub-if1 c = search needs
-
 end-line-requires : tie.Need-end-line-requires
 end-line-requires c κs =
     let s = c .before .before .before .before .before .before .before .before .before .before .before in
     let h = both (leb 131200 (length (s .args .out .now) - s .args .at)) (ltb (s .args .self .lines) 18446744073709551615) (c .before .before .before .before .if1 .taken) in
     (s .pre .0, s .pre .1, ltb-true (s .args .self .lines) 18446744073709551615 (h .1), omega (arith, leb-true 131200 (length (s .args .out .now) - s .args .at) (h .0), s .pre .2))
-
-add-t24 : tie.Need-add-t24
-add-t24 c = search needs
-
-same-length : tie.Need-same-length
-same-length c = search needs
-
-same-length-2 : tie.Need-same-length-2
-same-length-2 c = search needs
-
-same-length-3 : tie.Need-same-length-3
-same-length-3 c = search needs
-
-same-length-4 : tie.Need-same-length-4
-same-length-4 c = search needs
 
 returns : tie.Need-returns
 returns c =
@@ -48,12 +30,12 @@ pub pass-line-spec : {M : Type 1} → statement M
 pass-line-spec =
     tie.close
     (tie.spec
-    sub-if1
+    (search needs)
     end-line-requires
-    add-t24
-    same-length
-    same-length-2
-    same-length-3
-    same-length-4
+    (search needs)
+    (search needs)
+    (search needs)
+    (search needs)
+    (search needs)
     returns
     returns-2)

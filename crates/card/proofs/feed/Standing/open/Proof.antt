@@ -4,18 +4,6 @@ use borrow.Author.Needs.{needs}
 use Rattle.card.proofs.feed.Standing.open.Statement.{statement}
 use Rattle.card.proofs.feed.Standing.open.Tie as tie
 
-open-requires : tie.Need-open-requires
-open-requires c κs = search needs
-
-opened-by-requires : tie.Need-opened-by-requires
-opened-by-requires c κs = search needs
-
-same-length : tie.Need-same-length
-same-length c = search needs
-
-same-length-2 : tie.Need-same-length-2
-same-length-2 c = search needs
-
 returns : tie.Need-returns
 returns c =
     let s = c .before .before .before .before .before .before .before .before .before .before .before .before .before .before .before .before in
@@ -25,8 +13,8 @@ pub open-spec : {M : Type 1} → statement M
 open-spec =
     tie.close
     (tie.spec
-    open-requires
-    opened-by-requires
-    same-length
-    same-length-2
+    (search needs)
+    (search needs)
+    (search needs)
+    (search needs)
     returns)

@@ -7,30 +7,6 @@ use borrow.Author.Needs.{needs}
 use Rattle.card.proofs.feed.Standing.opened_by.Statement.{statement}
 use Rattle.card.proofs.feed.Standing.opened_by.Tie as tie
 
-enum-told : tie.Need-enum-told
-enum-told c = search needs
-
-clear-requires : tie.Need-clear-requires
-clear-requires c κs = search needs
-
-clear-lengths-requires : tie.Need-clear-lengths-requires
-clear-lengths-requires c κs = search needs
-
-enum-known-reply : tie.Need-enum-known-reply
-enum-known-reply c = search needs
-
-replied-requires : tie.Need-replied-requires
-replied-requires c κs = search needs
-
-refused-requires : tie.Need-refused-requires
-refused-requires c κs = search needs
-
-same-length : tie.Need-same-length
-same-length c = search needs
-
-same-length-2 : tie.Need-same-length-2
-same-length-2 c = search needs
-
 returns : tie.Need-returns
 unfolding placed
 returns c w =
@@ -47,13 +23,13 @@ pub opened-by-spec : {M : Type 1} → statement M
 opened-by-spec =
     tie.close
     (tie.spec
-    enum-told
-    clear-requires
-    clear-lengths-requires
-    enum-known-reply
-    replied-requires
-    refused-requires
-    same-length
-    same-length-2
+    (search needs)
+    (search needs)
+    (search needs)
+    (search needs)
+    (search needs)
+    (search needs)
+    (search needs)
+    (search needs)
     returns
     returns-2)

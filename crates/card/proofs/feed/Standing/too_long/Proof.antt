@@ -4,24 +4,6 @@ use borrow.Author.Needs.{needs}
 use Rattle.card.proofs.feed.Standing.too_long.Statement.{statement}
 use Rattle.card.proofs.feed.Standing.too_long.Tie as tie
 
-enum-told : tie.Need-enum-told
-enum-told c = search needs
-
-bad-requires : tie.Need-bad-requires
-bad-requires c κs = search needs
-
-enum-told-2 : tie.Need-enum-told-2
-enum-told-2 c = search needs
-
-bad-requires-2 : tie.Need-bad-requires-2
-bad-requires-2 c κs = search needs
-
-enum-told-3 : tie.Need-enum-told-3
-enum-told-3 c = search needs
-
-bad-requires-3 : tie.Need-bad-requires-3
-bad-requires-3 c κs = search needs
-
 returns : tie.Need-returns
 unfolding tooLong
 returns c b l w = rw (c .before .enum-told .given .1) (bad-made (c .bad .result) _ _ _ b l w (c .bad .ensures) _)
@@ -38,12 +20,12 @@ pub too-long-spec : {M : Type 1} → statement M
 too-long-spec =
     tie.close
     (tie.spec
-    enum-told
-    bad-requires
-    enum-told-2
-    bad-requires-2
-    enum-told-3
-    bad-requires-3
+    (search needs)
+    (search needs)
+    (search needs)
+    (search needs)
+    (search needs)
+    (search needs)
     returns
     returns-2
     returns-3)
