@@ -1,6 +1,6 @@
 -- The calls that are lent a store, from the guard and from what the call's own function ensures.
-use mathlib.Core.Path.{_≡_, sym, ap, _∙_}
-use mathlib.Core.Bool.{Bool, true, false, _&&_}
+use mathlib.Core.Path.{_≡_, refl, sym, ap, _∙_}
+use mathlib.Core.Bool.{Bool, true, false, cond, _&&_}
 use Prim.Native.Nat.{ℕ, _≤_}
 use mathlib.Core.List.{List, []}
 use lib.ListN.{length}
@@ -9,6 +9,7 @@ use Rattle.exec.specs.declared.Admission.{Admission}
 use Rattle.exec.specs.declared.Admission.the-variants as Admission
 use Rattle.exec.specs.declared.Key.{Key}
 use Rattle.exec.specs.declared.Limits.{Limits}
+use Rattle.exec.specs.declared.Pool.{Pool}
 use Rattle.exec.specs.declared.Receipt.the-variants as Receipt
 use Rattle.exec.specs.declared.Received.the-variants as Received
 use Rattle.exec.specs.declared.Refusal.{Refusal}
@@ -17,7 +18,7 @@ use Rattle.exec.specs.declared.Stream.{Stream}
 use Rattle.exec.specs.declared.Timers.{Timers}
 use Rattle.exec.specs.declared.Window.{Window}
 use Rattle.exec.specs.Key.{admits}
-use Rattle.exec.specs.Limits.{isValid, bytesWindow}
+use Rattle.exec.specs.Limits.{isValid, bytesWindow, outputPool}
 use Rattle.exec.specs.Refusal.{number}
 use Rattle.credit.specs.Need.{byteNeed, lengthNeed}
 use Rattle.credit.specs.RangeLaws.{both}
@@ -31,13 +32,17 @@ use Rattle.runner.specs.declared.answer.Taking.{Taking}
 use Rattle.runner.specs.declared.message.Choice.{Choice}
 use Rattle.runner.specs.declared.message.Moved.{Moved}
 use Rattle.runner.specs.declared.runner.Runner.{Runner}
-use Rattle.runner.specs.Calls.{«open», noting, storesDo, input, output, pendingAfter, pendingInput, writtenAfter, inputWritten, nextMessage}
+use Rattle.runner.specs.declared.streams.Accounting.{Accounting}
+use Rattle.runner.specs.declared.streams.Filling.{Filling}
+use Rattle.runner.specs.Calls.{«open», noting, hearing, storesDo, credit, input, output, pendingAfter, pendingInput, writtenAfter, inputWritten, nextMessage}
 use Rattle.runner.specs.Message.{choose, messageAfter, saidFor, MovedAfter, movedAfter, moves}
+use Rattle.runner.specs.Parts.{accountingOf, FillingAfter, fillingAfter, fillingOf}
 use Rattle.runner.specs.Range.{bytesDo, lengthsDo, isGood, stop, opens, openStop, fresh}
 use Rattle.runner.specs.RangeLaws.{InRange, is-good}
+use Rattle.runner.specs.State.{withFlow, withOutputs}
 use Rattle.runner.proofs.Flows.{received-other, received-stale}
 use Rattle.runner.proofs.Says.{withMoved, put-back}
-use Rattle.runner.specs.Streams.{outputAfter, outputTook, inputAfter, received, pendingOf, wroteAfter, WroteAfter, wrote}
+use Rattle.runner.specs.Streams.{creditAnswer, creditNext, outputNext, outputAfter, outputTook, inputAfter, received, pendingOf, wroteAfter, WroteAfter, wrote}
 
 -- what the code tested, as the definition tests it
 pub guard : (r : Runner) (stores found g x : Bool) → found ≡ stores → g ≡ isGood r found → g ≡ x → isGood r stores ≡ x
@@ -92,6 +97,37 @@ module _ (r : Runner) where
         → outputAfter (record { runner = r; taken = Taken.Refused z }) store ≡ output r x bytes store
     unfolding output
     output-stops z g e = rw (g, e)
+
+    -- the parts that it moves, put back
+    pub output-back : (f : Filling) (store′ : List ℕ) → fillingAfter f store′ ≡ fillingOf (output r x bytes store)
+        → outputAfter (record { runner = withFlow (r .credits) (r .turn) (r .flags) (f .«high_water») (withOutputs (f .outputs) r); taken = f .taken }) store′
+        ≡ output r x bytes store
+    unfolding output outputNext
+    output-back f store′ e =
+        rw (ap (λ (a : FillingAfter). a .filling) e, ap (λ (a : FillingAfter). a .bytes) e)
+        (ap (λ (next : Runner). outputAfter (record { runner = next; taken = output r x bytes store .taking .taken }) (output r x bytes store .bytes))
+        (by (isGood r (bytesDo (r .limits) store))))
+      where
+        by : (g : Bool) → _≡_ {A = Runner}
+            (withFlow (r .credits) (r .turn) (r .flags) (cond g (outputNext r x (length bytes)) r .«high_water») (withOutputs (cond g (outputNext r x (length bytes)) r .outputs) r))
+            (cond g (outputNext r x (length bytes)) r)
+        by true = refl
+        by false = refl
+
+  -- credit
+  pub credit-back : (k : Key) (p : Pool) (units : ℕ) (a : Accounting) → a ≡ accountingOf (credit r k p units)
+      → _≡_ {A = Hearing} (record { runner = withFlow (a .credits) (r .turn) (r .flags) (r .«high_water») r; received = a .received }) (credit r k p units)
+  unfolding credit creditNext
+  credit-back k p units a e = rw e (by (isGood r true))
+    where
+      next : Runner
+      next = creditNext (admits (r .key) k) (outputPool (r .limits .shared) p) r units
+
+      by : (g : Bool) → _≡_ {A = Hearing}
+          (record { runner = withFlow (cond g next r .credits) (r .turn) (r .flags) (r .«high_water») r; received = hearing g (creditAnswer (admits (r .key) k) (outputPool (r .limits .shared) p) r units) next r .received })
+          (hearing g (creditAnswer (admits (r .key) k) (outputPool (r .limits .shared) p) r units) next r)
+      by true = refl
+      by false = refl
 
   -- input
   module _ (k : Key) (bytes store lengths : List ℕ) where

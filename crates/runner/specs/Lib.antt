@@ -8,3 +8,4 @@ pub mod Range
 pub mod RangeLaws
 pub mod MessageLaws
 pub mod Calls
+pub mod Parts

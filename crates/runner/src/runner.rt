@@ -50,14 +50,10 @@ use crate::answer::LimitsAnswer;
 use crate::answer::Noting;
 use crate::answer::Said;
 use crate::answer::Saying;
-use crate::answer::Taken;
 use crate::answer::Taking;
 use crate::answer::Truth;
 use crate::answer::When;
 use crate::message::Wish;
-use crate::pairs::output_in;
-use crate::pairs::put_output;
-use crate::pairs::ring_base;
 use crate::range::bytes_do;
 use crate::range::lengths_do;
 use crate::streams::is_dropped;
@@ -211,15 +207,17 @@ impl Runner {
 
     // The peer's credit for an output pool, which the limits must have. A grant of no units, or of more than are in flight, is
     // refused.
-    pub fn credit(self, key: Key, pool: Pool, units: u32) -> Hearing
+    pub fn credit(mut self, key: Key, pool: Pool, units: u32) -> Hearing
         ensures { λ r. ⌜ r ≡ credit self key pool units ⌝ }
     {
-        if self.is_good(true) {
-            let own = self.key;
-            let limits = self.limits;
-            return self.grant_as(own.admits(key), limits.output_pool(pool), units);
+        let accounting = self.account_for(key, pool, units);
+        let credits = accounting.credits;
+        let received = accounting.received;
+        self.credits = credits;
+        Hearing {
+            runner: self,
+            received,
         }
-        self.unheard()
     }
 
     // Bytes of the workload's input from the peer. Once the input is closed they are dropped, and the charge stands. As in
@@ -353,27 +351,14 @@ impl Runner {
     pub fn output(mut self, stream: Stream, store: &mut [u8], bytes: &[u8]) -> Taking
         ensures { λ r. ⌜ outputAfter r (now (store .exit)) ≡ output self stream (now (bytes .entry)) (now (store .entry)) ⌝ }
     {
-        let limits = self.limits;
-        if self.is_good(bytes_do(limits, store.len())) {
-            let none = self.keeps_none(stream);
-            let chunk = limits.chunk;
-            let outputs = self.outputs;
-            let output = output_in(stream, outputs);
-            let base = ring_base(stream, chunk);
-            let intake = output.take_in(self.flags.gave_up, store, base, chunk, bytes);
-            let next = put_output(stream, intake.output, outputs);
-            self.outputs = next;
-            let mark = self.mark(none);
-            self.high_water = mark;
-            return Taking {
-                runner: self,
-                taken: Taken::Bytes(intake.taken),
-            };
-        }
-        let refusal = self.stop();
+        let filling = self.fill(stream, store, bytes);
+        let outputs = filling.outputs;
+        let taken = filling.taken;
+        self.outputs = outputs;
+        self.high_water = filling.high_water;
         Taking {
             runner: self,
-            taken: Taken::Refused(refusal),
+            taken,
         }
     }
 

@@ -4,6 +4,8 @@ ghost use mathlib.Core.Bool.{cond, not};
 ghost use Prim.Native.Nat.{_≤_, _<_, _^_, max};
 ghost use lib.ListN.{length};
 ghost use Rattle.credit.specs.Need.{byteNeed, lengthNeed};
+ghost use Rattle.runner.specs.Calls.{credit, output};
+ghost use Rattle.runner.specs.Parts.{accountingOf, fillingAfter, fillingOf};
 ghost use Rattle.runner.specs.RangeLaws.{InRange};
 ghost use Rattle.runner.specs.State.{buffered};
 ghost use Rattle.runner.specs.Streams.{
@@ -24,17 +26,38 @@ ghost use Rattle.runner.specs.Streams.{
   wrote,
 };
 use crate::answer::Hearing;
+use crate::answer::Taken;
 use crate::pairs::credit_at;
 use crate::pairs::output_in;
 use crate::pairs::put_credit;
 use crate::pairs::put_output;
+use crate::pairs::ring_base;
+use crate::range::bytes_do;
 use crate::runner::Runner;
+use credit::sender::Credit;
 use exec::Admission;
+use exec::Key;
+use exec::Pool;
 use exec::PoolIndex;
 use exec::Receipt;
 use exec::Received;
 use exec::Reply;
 use exec::Stream;
+use stdio::output::Output;
+
+// What output moves of the runner, and its answer. Such parts are handed back, and not the runner, where a call has several ways
+// to end: each way would copy the runner, and the caller could not leave it where it is.
+pub struct Filling {
+    pub outputs: [Output; 2],
+    pub high_water: usize,
+    pub taken: Taken,
+}
+
+// What credit moves, and its answer.
+pub struct Accounting {
+    pub credits: [Credit; 2],
+    pub received: Received,
+}
 
 impl Runner {
     // The bytes held now.
@@ -121,53 +144,100 @@ impl Runner {
         self
     }
 
-    // The peer's credit.
-    pub(crate) fn grant_as(self, admission: Admission, pool: PoolIndex, units: u32) -> Hearing
-        ensures { λ r. ⌜ r ≡ record { runner = creditNext admission pool self units; received = creditAnswer admission pool self units } ⌝ }
+    // Bytes of a stream, read: what becomes of the outputs and of the high-water mark.
+    pub(crate) fn fill(mut self, stream: Stream, store: &mut [u8], bytes: &[u8]) -> Filling
+        ensures { λ r. ⌜ fillingAfter r (now (store .exit)) ≡ fillingOf (output self stream (now (bytes .entry)) (now (store .entry))) ⌝ }
     {
+        let limits = self.limits;
+        if self.is_good(bytes_do(limits, store.len())) {
+            let none = self.keeps_none(stream);
+            let chunk = limits.chunk;
+            let outputs = self.outputs;
+            let output = output_in(stream, outputs);
+            let base = ring_base(stream, chunk);
+            let intake = output.take_in(self.flags.gave_up, store, base, chunk, bytes);
+            let next = put_output(stream, intake.output, outputs);
+            self.outputs = next;
+            let mark = self.mark(none);
+            return Filling {
+                outputs: next,
+                high_water: mark,
+                taken: Taken::Bytes(intake.taken),
+            };
+        }
+        let outputs = self.outputs;
+        let refusal = self.stop();
+        Filling {
+            outputs,
+            high_water: self.high_water,
+            taken: Taken::Refused(refusal),
+        }
+    }
+
+    // The peer's credit: what becomes of the accounts.
+    pub(crate) fn account_for(self, key: Key, pool: Pool, units: u32) -> Accounting
+        ensures { λ r. ⌜ r ≡ accountingOf (credit self key pool units) ⌝ }
+    {
+        if self.is_good(true) {
+            let own = self.key;
+            let limits = self.limits;
+            return self.grant_as(own.admits(key), limits.output_pool(pool), units);
+        }
+        let credits = self.credits;
+        let refusal = self.stop();
+        Accounting {
+            credits,
+            received: Received::Refused(refusal),
+        }
+    }
+
+    fn grant_as(self, admission: Admission, pool: PoolIndex, units: u32) -> Accounting
+        ensures { λ r. ⌜ r ≡ record { credits = creditNext admission pool self units .credits; received = creditAnswer admission pool self units } ⌝ }
+    {
+        let credits = self.credits;
         match admission {
-            Admission::Refused(refusal) => Hearing {
-                runner: self,
+            Admission::Refused(refusal) => Accounting {
+                credits,
                 received: Received::Refused(refusal),
             },
-            Admission::Stale => Hearing {
-                runner: self,
+            Admission::Stale => Accounting {
+                credits,
                 received: Received::Receipt(Receipt::Stale),
             },
             Admission::Own => self.grant_in(pool, units),
         }
     }
 
-    fn grant_in(self, pool: PoolIndex, units: u32) -> Hearing
-        ensures { λ r. ⌜ r ≡ record { runner = creditNext Admission.Own pool self units; received = creditIn pool self units } ⌝ }
+    fn grant_in(self, pool: PoolIndex, units: u32) -> Accounting
+        ensures { λ r. ⌜ r ≡ record { credits = creditNext Admission.Own pool self units .credits; received = creditIn pool self units } ⌝ }
     {
+        let credits = self.credits;
         match pool {
-            PoolIndex::Refused(refusal) => Hearing {
-                runner: self,
+            PoolIndex::Refused(refusal) => Accounting {
+                credits,
                 received: Received::Refused(refusal),
             },
             PoolIndex::At(index) => self.grant_at(index, units),
         }
     }
 
-    fn grant_at(mut self, index: usize, units: u32) -> Hearing
-        ensures { λ r. ⌜ r ≡ record { runner = creditNext Admission.Own (PoolIndex.At index) self units; received = creditIn (PoolIndex.At index) self units } ⌝ }
+    fn grant_at(self, index: usize, units: u32) -> Accounting
+        ensures { λ r. ⌜ r ≡ record { credits = creditNext Admission.Own (PoolIndex.At index) self units .credits; received = creditIn (PoolIndex.At index) self units } ⌝ }
     {
+        let credits = self.credits;
         if self.flags.finished {
-            return Hearing {
-                runner: self,
+            return Accounting {
+                credits,
                 received: Received::Receipt(Receipt::Late),
             };
         }
-        let credits = self.credits;
         let account = credit_at(index, credits);
         let granting = account.grant_in(units);
         let next = put_credit(index, granting.credit, credits);
-        self.credits = next;
         let reply = granting.reply;
         let received = receipt_of(reply);
-        Hearing {
-            runner: self,
+        Accounting {
+            credits: next,
             received,
         }
     }

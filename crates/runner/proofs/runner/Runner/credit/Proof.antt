@@ -1,36 +1,11 @@
 -- `runner::runner::Runner::credit` meets its contract.
-use mathlib.Core.Path.{_∙_, sym}
-use Rattle.runner.specs.Calls.{credit}
+use Rattle.runner.proofs.Guards.{credit-back}
 use borrow.Author.Needs.{needs}
 use Rattle.runner.proofs.runner.Runner.credit.Statement.{statement}
 use Rattle.runner.proofs.runner.Runner.credit.Tie as tie
 
 returns : tie.Need-returns
-unfolding credit
-returns c =
-    simp (
-      sym (c .before .before .before .before .before .before .is-good .ensures) ∙ c .before .before .before .before .before .if1 .taken,
-      c .grant-as .ensures,
-      c .before .output-pool .ensures,
-      c .before .before .admits .ensures,
-    )
-
-returns-2 : tie.Need-returns-2
-unfolding credit
-returns-2 c =
-    simp (
-      sym (c .before .before .is-good .ensures) ∙ c .before .if1 .left,
-      c .unheard .ensures,
-    )
+returns c = credit-back _ _ _ _ _ (c .before .account-for .ensures)
 
 pub credit-spec : {M : Type 1} → statement M
-credit-spec =
-    tie.close
-    (tie.spec
-    (λ c κs. search needs)
-    (λ c κs. search needs)
-    (λ c κs. search needs)
-    (λ c κs. search needs)
-    returns
-    (λ c κs. search needs)
-    returns-2)
+credit-spec = tie.close (tie.spec (λ c κs. search needs) returns)

@@ -1,4 +1,6 @@
 -- `runner::runner::Runner::grant_at` meets its contract.
+use mathlib.Core.Path.{ap}
+use Rattle.runner.specs.Parts.{accountingOf}
 use Rattle.runner.proofs.Flows.{grant-is}
 use Rattle.runner.specs.Streams.{creditIn, creditNext}
 use borrow.Author.Needs.{needs}
@@ -12,7 +14,7 @@ returns c =
     (c .if1 .taken)
 
 returns-2 : tie.Need-returns-2
-returns-2 c = grant-is _ _ _ _ _ _ _ (c .before .before .before .before .before .if1 .left) (c .before .before .before .credit-at .ensures) (c .before .before .grant-in .ensures) (c .before .put-credit .ensures) (c .receipt-of .ensures)
+returns-2 c = ap accountingOf (grant-is _ _ _ _ _ _ _ (c .before .before .before .before .if1 .left) (c .before .before .before .credit-at .ensures) (c .before .before .grant-in .ensures) (c .before .put-credit .ensures) (c .receipt-of .ensures))
 
 pub grant-at-spec : {M : Type 1} → statement M
 grant-at-spec =
