@@ -36,7 +36,7 @@ use Rattle.runner.specs.declared.answer.Taken.the-variants as Taken
 use Rattle.runner.specs.declared.runner.Runner.{Runner}
 use Rattle.runner.specs.RangeLaws.{InRange}
 use Rattle.runner.specs.State.{withInput, withOutputs, withFlow, outOf, putOutput, base, creditAt, putCredit, buffered}
-use Rattle.runner.specs.Streams.{keepsNone, isShut, room, outputFilled, outputNext, outputTaken, outputBytes, outputAfter, outputTook, creditIn, creditNext, receiptOf, isApplied, inputAnswer, inputNext, inputBytes, inputLengths, inputAfter, received, writtenNext, writtenLengths, wroteAfter, wrote}
+use Rattle.runner.specs.Streams.{keepsNone, isShut, room, outputFilled, outputNext, outputTaken, outputBytes, outputAfter, outputTook, creditIn, creditNext, receiptOf, isApplied, inputAnswer, inputNext, inputBytes, inputLengths, inputAfter, received}
 
 -- ---- output
 
@@ -83,20 +83,6 @@ grant-is r i units c g next x h hc hg hn hx =
     rw (hx, hn, hg, hc, receipt-is (grantable (creditAt i (r .credits)) units), h)
 
 -- ---- input
-
-module _ (r : Runner) (bytes store lengths : List ℕ) where
-  pub received-late : r .flags .finished ≡ true
-      → inputAfter (record { runner = r; received = Receipt Late }) store lengths ≡ received Admission.Own r bytes store lengths
-  unfolding received inputNext inputAnswer inputBytes inputLengths
-  received-late h = rw h
-
-  pub received-other : (x : Refusal) → inputAfter (record { runner = r; received = Refused x }) store lengths ≡ received (Admission.Refused x) r bytes store lengths
-  unfolding received inputNext inputAnswer inputBytes inputLengths
-  received-other x = refl
-
-  pub received-stale : inputAfter (record { runner = r; received = Receipt Stale }) store lengths ≡ received Admission.Stale r bytes store lengths
-  unfolding received inputNext inputAnswer inputBytes inputLengths
-  received-stale = refl
 
 -- a message is Applied exactly where it is kept
 applied-kept : (l : Limits) (i : Input) (n : ℕ) → isApplied (In.receiveAnswer l i n) ≡ In.isKept l i n
@@ -156,9 +142,3 @@ pub received-small : (r : Runner) (bytes store lengths : List ℕ) (v : Receivin
     → byteNeed (r .limits) ≤ 2 ^ 64 - 1 → buffered (withInput (v .input) r) < 2 ^ 64
 received-small r bytes store lengths v store′ lengths′ h e need =
     omega (arith, received-fits r bytes store lengths v store′ lengths′ h e)
-
-pub wrote-is : (r : Runner) (count : ℕ) (lengths : List ℕ) (i : Input) (lengths′ : List ℕ)
-    → In.writtenAfter i lengths′ ≡ In.written (r .limits) (r .input) count lengths → wroteAfter (withInput i r) lengths′ ≡ wrote r count lengths
-unfolding wrote writtenNext writtenLengths
-wrote-is r count lengths i lengths′ e =
-    rw (ap (λ (a : In.WrittenAfter). a .input) e, ap (λ (a : In.WrittenAfter). a .lengths) e)

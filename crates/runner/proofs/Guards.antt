@@ -1,18 +1,19 @@
 -- The calls that are lent a store, from the guard and from what the call's own function ensures.
 use mathlib.Core.Path.{_≡_, refl, sym, ap, _∙_}
-use mathlib.Core.Bool.{Bool, true, false, cond, _&&_}
+use mathlib.Core.Bool.{Bool, true, false, cond, not, _&&_}
 use Prim.Native.Nat.{ℕ, _≤_}
 use mathlib.Core.List.{List, []}
 use lib.ListN.{length}
+use native.Mathlib.Omega.{arith}
 use borrow.Author.Tests.{leb-true}
 use Rattle.exec.specs.declared.Admission.{Admission}
 use Rattle.exec.specs.declared.Admission.the-variants as Admission
 use Rattle.exec.specs.declared.Key.{Key}
 use Rattle.exec.specs.declared.Limits.{Limits}
 use Rattle.exec.specs.declared.Pool.{Pool}
-use Rattle.exec.specs.declared.Receipt.the-variants as Receipt
-use Rattle.exec.specs.declared.Received.the-variants as Received
+use Rattle.exec.specs.declared.Received.{Received}
 use Rattle.exec.specs.declared.Refusal.{Refusal}
+use Rattle.exec.specs.declared.Reply.{Reply}
 use Rattle.exec.specs.declared.Reply.the-variants as Reply
 use Rattle.exec.specs.declared.Stream.{Stream}
 use Rattle.exec.specs.declared.Timers.{Timers}
@@ -22,27 +23,23 @@ use Rattle.exec.specs.Limits.{isValid, bytesWindow, outputPool}
 use Rattle.exec.specs.Refusal.{number}
 use Rattle.credit.specs.Need.{byteNeed, lengthNeed}
 use Rattle.credit.specs.RangeLaws.{both}
+use Rattle.stdio.specs.declared.input.Input.{Input}
 use Rattle.stdio.specs.Input as In
 use Rattle.runner.specs.declared.answer.Hearing.{Hearing}
-use Rattle.runner.specs.declared.answer.Noting.{Noting}
 use Rattle.runner.specs.declared.answer.Said.{Said}
 use Rattle.runner.specs.declared.answer.Said.the-variants as Said
 use Rattle.runner.specs.declared.answer.Taken.the-variants as Taken
 use Rattle.runner.specs.declared.answer.Taking.{Taking}
 use Rattle.runner.specs.declared.message.Choice.{Choice}
-use Rattle.runner.specs.declared.message.Moved.{Moved}
 use Rattle.runner.specs.declared.runner.Runner.{Runner}
 use Rattle.runner.specs.declared.streams.Accounting.{Accounting}
-use Rattle.runner.specs.declared.streams.Filling.{Filling}
-use Rattle.runner.specs.Calls.{«open», noting, hearing, storesDo, credit, input, output, pendingAfter, pendingInput, writtenAfter, inputWritten, nextMessage}
-use Rattle.runner.specs.Message.{choose, messageAfter, saidFor, MovedAfter, movedAfter, moves}
-use Rattle.runner.specs.Parts.{accountingOf, FillingAfter, fillingAfter, fillingOf}
+use Rattle.runner.specs.Calls.{«open», hearing, storesDo, credit, accountingOf, input, output, pendingAfter, pendingInput, writtenAfter, inputWritten, nextMessage}
+use Rattle.runner.specs.Message.{choose, choiceOf, answerOf, effect, bufferAfter, messageAfter, saidFor, SayAfter, sayAfter, say}
+use Rattle.runner.specs.MessageLaws.{isSaid, Sayable}
 use Rattle.runner.specs.Range.{bytesDo, lengthsDo, isGood, stop, opens, openStop, fresh}
 use Rattle.runner.specs.RangeLaws.{InRange, is-good}
-use Rattle.runner.specs.State.{withFlow, withOutputs}
-use Rattle.runner.proofs.Flows.{received-other, received-stale}
-use Rattle.runner.proofs.Says.{withMoved, put-back}
-use Rattle.runner.specs.Streams.{creditAnswer, creditNext, outputNext, outputAfter, outputTook, inputAfter, received, pendingOf, wroteAfter, WroteAfter, wrote}
+use Rattle.runner.specs.State.{withFlow, withInput}
+use Rattle.runner.specs.Streams.{creditAnswer, creditNext, outputAfter, outputTook, inputAfter, inputAnswer, inputNext, inputBytes, inputLengths, isTaken, met, received, pendingOf, writtenNext, writtenLengths}
 
 -- what the code tested, as the definition tests it
 pub guard : (r : Runner) (stores found g x : Bool) → found ≡ stores → g ≡ isGood r found → g ≡ x → isGood r stores ≡ x
@@ -50,6 +47,31 @@ guard r stores found g x hf hg hx = ap (isGood r) (sym hf) ∙ sym hg ∙ hx
 
 pub both-do : {a a′ b b′ : Bool} → a ≡ a′ → b ≡ b′ → (a && b) ≡ (a′ && b′)
 both-do ha hb = rw (ha, hb)
+
+un-not : (b : Bool) → not b ≡ false → b ≡ true
+un-not true h = refl
+un-not false h = sym h
+
+is-false : (b : Bool) → not b ≡ true → b ≡ false
+is-false true h = sym h
+is-false false h = refl
+
+-- a message that does something: the call is not refused, the key is the execution's own, and the outcome was not returned
+pub record Heard (r : Runner) (k : Key) (g : Bool) : Type 0 where
+  pub good : g ≡ true
+  pub own : admits (r .key) k ≡ Admission.Own
+  pub goes-on : r .flags .finished ≡ false
+
+pub heard : (r : Runner) (k : Key) (good h : Bool) → h ≡ (good && isTaken (admits (r .key) k) r) → h ≡ true → Heard r k good
+heard r k good h e t =
+    let b = both good (isTaken (admits (r .key) k) r) (sym e ∙ t) in
+    let p = by (admits (r .key) k) (b .1) in
+    record { good = b .0; own = p .0; goes-on = p .1 }
+  where
+    by : (a : Admission) → isTaken a r ≡ true → (a ≡ Admission.Own) × (r .flags .finished ≡ false)
+    by Admission.Own t = (refl, is-false (r .flags .finished) t)
+    by Admission.Stale t = let z : _≡_ {A = ℕ} 0 1 = cc in absurd (omega arith)
+    by (Admission.Refused x) t = let z : _≡_ {A = ℕ} 0 1 = cc in absurd (omega arith)
 
 -- open
 pub opens-is : (l : Limits) (bytes lengths : List ℕ) (v b n x : Bool) → v ≡ isValid l → b ≡ bytesDo l bytes → n ≡ lengthsDo l lengths
@@ -98,22 +120,6 @@ module _ (r : Runner) where
     unfolding output
     output-stops z g e = rw (g, e)
 
-    -- the parts that it moves, put back
-    pub output-back : (f : Filling) (store′ : List ℕ) → fillingAfter f store′ ≡ fillingOf (output r x bytes store)
-        → outputAfter (record { runner = withFlow (r .credits) (r .turn) (r .flags) (f .«high_water») (withOutputs (f .outputs) r); taken = f .taken }) store′
-        ≡ output r x bytes store
-    unfolding output outputNext
-    output-back f store′ e =
-        rw (ap (λ (a : FillingAfter). a .filling) e, ap (λ (a : FillingAfter). a .bytes) e)
-        (ap (λ (next : Runner). outputAfter (record { runner = next; taken = output r x bytes store .taking .taken }) (output r x bytes store .bytes))
-        (by (isGood r (bytesDo (r .limits) store))))
-      where
-        by : (g : Bool) → _≡_ {A = Runner}
-            (withFlow (r .credits) (r .turn) (r .flags) (cond g (outputNext r x (length bytes)) r .«high_water») (withOutputs (cond g (outputNext r x (length bytes)) r .outputs) r))
-            (cond g (outputNext r x (length bytes)) r)
-        by true = refl
-        by false = refl
-
   -- credit
   pub credit-back : (k : Key) (p : Pool) (units : ℕ) (a : Accounting) → a ≡ accountingOf (credit r k p units)
       → _≡_ {A = Hearing} (record { runner = withFlow (a .credits) (r .turn) (r .flags) (r .«high_water») r; received = a .received }) (credit r k p units)
@@ -131,30 +137,26 @@ module _ (r : Runner) where
 
   -- input
   module _ (k : Key) (bytes store lengths : List ℕ) where
-    input-goes : (h : Hearing) (store′ lengths′ : List ℕ) (a : Admission) → isGood r (storesDo r store lengths) ≡ true
-        → admits (r .key) k ≡ a → inputAfter h store′ lengths′ ≡ received a r bytes store lengths
-        → inputAfter h store′ lengths′ ≡ input r k bytes store lengths
-    unfolding input received
-    input-goes h store′ lengths′ a g ha e = rw (g, ha) e
-
-    module _ (g : isGood r (storesDo r store lengths) ≡ true) where
-      pub input-other : (x : Refusal) → admits (r .key) k ≡ Admission.Refused x
-          → inputAfter (record { runner = r; received = Received.Refused x }) store lengths ≡ input r k bytes store lengths
-      input-other x ha = input-goes _ _ _ _ g ha (received-other r bytes store lengths x)
-
-      pub input-stale : admits (r .key) k ≡ Admission.Stale
-          → inputAfter (record { runner = r; received = Received.Receipt Receipt.Stale }) store lengths ≡ input r k bytes store lengths
-      input-stale ha = input-goes _ _ _ _ g ha (received-stale r bytes store lengths)
-
-    pub input-own : (h : Hearing) (store′ lengths′ : List ℕ) → isGood r (storesDo r store lengths) ≡ true
+    pub input-heard : (h : Hearing) (store′ lengths′ : List ℕ) → isGood r (storesDo r store lengths) ≡ true
         → admits (r .key) k ≡ Admission.Own → inputAfter h store′ lengths′ ≡ received Admission.Own r bytes store lengths
         → inputAfter h store′ lengths′ ≡ input r k bytes store lengths
-    input-own h store′ lengths′ g ha e = input-goes h store′ lengths′ Admission.Own g ha e
+    unfolding input received
+    input-heard h store′ lengths′ g ha e = rw (g, ha) e
 
-    pub input-stops : (h : Hearing) → isGood r (storesDo r store lengths) ≡ false → h ≡ record { runner = r; received = Received.Refused (stop r) }
-        → inputAfter h store lengths ≡ input r k bytes store lengths
-    unfolding input
-    input-stops h g e = rw (g, e)
+    pub input-unheard : (heard : Bool) (x : Received) (good : Bool) → isGood r (storesDo r store lengths) ≡ good
+        → heard ≡ (good && isTaken (admits (r .key) k) r) → heard ≡ false → x ≡ met good (admits (r .key) k) r
+        → inputAfter (record { runner = r; received = x }) store lengths ≡ input r k bytes store lengths
+    unfolding input inputAnswer inputNext inputBytes inputLengths
+    input-unheard heard x good g h f e = rw (e, g) (by good (admits (r .key) k) (sym h ∙ f))
+      where
+        by : (good : Bool) (a : Admission) → (good && isTaken a r) ≡ false
+            → inputAfter (record { runner = r; received = met good a r }) store lengths
+            ≡ inputAfter (hearing good (inputAnswer a r (length bytes)) (inputNext a r (length bytes)) r)
+            (cond good (inputBytes a r bytes store) store) (cond good (inputLengths a r (length bytes) lengths) lengths)
+        by false a t = refl
+        by true (Admission.Refused y) t = refl
+        by true Admission.Stale t = refl
+        by true Admission.Own t = let f : r .flags .finished ≡ true = un-not (r .flags .finished) t in rw f
 
   -- pending_input
   module _ (store : List ℕ) where
@@ -168,26 +170,40 @@ module _ (r : Runner) where
 
   -- input_written
   module _ (count : ℕ) (lengths : List ℕ) where
-    pub written-goes : (r′ : Runner) (lengths′ : List ℕ) → isGood r (lengthsDo (r .limits) lengths) ≡ true
-        → wroteAfter r′ lengths′ ≡ wrote r count lengths → writtenAfter (record { runner = r′; reply = Reply.Ok }) lengths′ ≡ inputWritten r count lengths
-    unfolding inputWritten wrote
-    written-goes r′ lengths′ g e =
-        rw (g, ap (λ (w : WroteAfter). w .runner) e, ap (λ (w : WroteAfter). w .lengths) e)
+    pub written-goes : (i : Input) (lengths′ : List ℕ) (x : Reply) (good : Bool) → isGood r (lengthsDo (r .limits) lengths) ≡ good → good ≡ true
+        → x ≡ cond good Reply.Ok (Reply.Refused (stop r)) → In.writtenAfter i lengths′ ≡ In.written (r .limits) (r .input) count lengths
+        → writtenAfter (record { runner = withInput i r; reply = x }) lengths′ ≡ inputWritten r count lengths
+    unfolding inputWritten writtenNext writtenLengths
+    written-goes i lengths′ x good g t hx e =
+        rw (g, hx, t, ap (λ (a : In.WrittenAfter). a .input) e, ap (λ (a : In.WrittenAfter). a .lengths) e)
 
-    pub written-stops : (n : Noting) → isGood r (lengthsDo (r .limits) lengths) ≡ false → n ≡ noting false r r → writtenAfter n lengths ≡ inputWritten r count lengths
+    pub written-stops : (x : Reply) (good : Bool) → isGood r (lengthsDo (r .limits) lengths) ≡ good → good ≡ false
+        → x ≡ cond good Reply.Ok (Reply.Refused (stop r)) → writtenAfter (record { runner = r; reply = x }) lengths ≡ inputWritten r count lengths
     unfolding inputWritten
-    written-stops n g e = rw (g, e)
+    written-stops x good g f hx = rw (g, hx, f)
 
   -- next_message
   module _ (store buffer : List ℕ) where
-    pub message-goes : (m : Moved) (s : Said) (buffer′ : List ℕ) (c : Choice) → isGood r (bytesDo (r .limits) store) ≡ true → c ≡ choose r (length buffer)
-        → s ≡ saidFor c r → movedAfter m buffer′ ≡ moves c r store buffer
-        → messageAfter (record { runner = withMoved m r; said = s }) buffer′ ≡ nextMessage r store buffer
-    unfolding nextMessage moves
-    message-goes m s buffer′ c g hc hs e =
-        rw (g, hs, ap (λ (a : MovedAfter). a .moved) e, ap (λ (a : MovedAfter). a .buffer) e, put-back c r, hc)
+    module _ (good : Bool) (g : isGood r (bytesDo (r .limits) store) ≡ good) (c : Choice) (hc : c ≡ choiceOf good r (length buffer)) where
+      pub sayable : Sayable c r store buffer
+      sayable = rw hc (by good g)
+        where
+          by : (good : Bool) → isGood r (bytesDo (r .limits) store) ≡ good → isSaid (choiceOf good r (length buffer)) ≡ true
+              → InRange r × (byteNeed (r .limits) ≤ length store) × (choiceOf good r (length buffer) ≡ choose r (length buffer))
+          by true g s = let p = bytes-good store g in (p .0, p .1, refl)
+          by false g s = let z : _≡_ {A = ℕ} 0 1 = cc in absurd (omega arith)
 
-    pub message-stops : (z : Refusal) → isGood r (bytesDo (r .limits) store) ≡ false → z ≡ stop r
-        → messageAfter (record { runner = r; said = Said.Refused z }) buffer ≡ nextMessage r store buffer
-    unfolding nextMessage
-    message-stops z g e = rw (g, e)
+      pub message-is : (r′ : Runner) (s : Said) (buffer′ : List ℕ) → s ≡ answerOf good c r → sayAfter r′ buffer′ ≡ say c r store buffer
+          → messageAfter (record { runner = r′; said = s }) buffer′ ≡ nextMessage r store buffer
+      unfolding nextMessage say effect bufferAfter
+      message-is r′ s buffer′ hs e =
+          rw (ap (λ (a : SayAfter). a .runner) e, ap (λ (a : SayAfter). a .buffer) e, hs, hc, g) (by good)
+        where
+          by : (good : Bool)
+              → messageAfter (record { runner = effect (choiceOf good r (length buffer)) r; said = answerOf good (choiceOf good r (length buffer)) r })
+              (bufferAfter (choiceOf good r (length buffer)) r store buffer)
+              ≡ messageAfter
+              (record { runner = cond good (effect (choose r (length buffer)) r) r; said = cond good (saidFor (choose r (length buffer)) r) (Said.Refused (stop r)) })
+              (cond good (bufferAfter (choose r (length buffer)) r store buffer) buffer)
+          by true = refl
+          by false = refl

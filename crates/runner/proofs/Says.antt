@@ -1,6 +1,6 @@
--- What next_message moves, from what the calls on the parts ensure.
+-- What saying a message leaves, from what the calls on the parts ensure.
 use mathlib.Core.Bool.{false}
-use mathlib.Core.Path.{_≡_, refl, ap}
+use mathlib.Core.Path.{_≡_, ap}
 use Prim.Native.Nat.{ℕ}
 use mathlib.Core.List.{List}
 use Rattle.exec.specs.declared.Stream.{Stream}
@@ -10,10 +10,9 @@ use Rattle.stdio.specs.declared.output.Output.{Output}
 use Rattle.stdio.specs.Output.{SendAfter, sendAfter, sent}
 use Rattle.runner.specs.declared.message.Choice.{Choice}
 use Rattle.runner.specs.declared.message.Choice.the-variants as Choice
-use Rattle.runner.specs.declared.message.Moved.{Moved}
 use Rattle.runner.specs.declared.runner.Runner.{Runner}
-use Rattle.runner.specs.Message.{messageFlags, effect, outputPaid, outputSent, SentAfter, sentAfter, sentOutput, payload, bufferAfter, partsOf, movedAfter, moves}
-use Rattle.runner.specs.State.{outOf, other, putOutput, base}
+use Rattle.runner.specs.Message.{messageFlags, effect, outputPaid, outputSent, SentAfter, sentAfter, sentOutput, payload, bufferAfter, sayAfter, say}
+use Rattle.runner.specs.State.{withOutputs, withFlow, outOf, other, putOutput, base}
 
 -- the bytes of an output message
 pub sent-is : (r : Runner) (x : Stream) (n : ℕ) (store buffer : List ℕ) (o : Output) (at : ℕ) (o′ : Output) (buffer′ : List ℕ) (next : List Output)
@@ -23,35 +22,9 @@ unfolding sentOutput payload sent
 sent-is r x n store buffer o at o′ buffer′ next ho ha e hn =
     rw (hn, ap (λ (a : SendAfter). a .output) e, ap (λ (a : SendAfter). a .buffer) e, ho, ha)
 
-pub moves-output : (c : Choice) (r : Runner) (store buffer : List ℕ) (x : Stream) (n : ℕ) (cs : List Credit) (os : List Output) (turn : ℕ) (buffer′ : List ℕ)
+pub say-output : (c : Choice) (r : Runner) (store buffer : List ℕ) (x : Stream) (n : ℕ) (cs : List Credit) (os : List Output) (turn : ℕ) (buffer′ : List ℕ)
     → c ≡ Choice.Output x n → cs ≡ outputPaid x n r .credits → sentAfter os buffer′ ≡ sentOutput x n r store buffer → turn ≡ index (other x)
-    → movedAfter (record { flags = messageFlags (r .flags .«started_message») false (r .flags .finished) (r .flags); input = r .input; outputs = os; credits = cs; turn = turn }) buffer′ ≡ moves c r store buffer
-unfolding moves effect bufferAfter outputSent outputPaid sentOutput payload
-moves-output c r store buffer x n cs os turn buffer′ hc hp e ht =
+    → sayAfter (withFlow cs turn (messageFlags (r .flags .«started_message») false (r .flags .finished) (r .flags)) (r .«high_water») (withOutputs os r)) buffer′ ≡ say c r store buffer
+unfolding say effect bufferAfter outputSent outputPaid sentOutput payload
+say-output c r store buffer x n cs os turn buffer′ hc hp e ht =
     rw (hc, hp, ap (λ (a : SentAfter). a .outputs) e, ap (λ (a : SentAfter). a .buffer) e, ht)
-
--- the parts that a message moves, put back into the runner
-abbrev pub withMoved : Moved → Runner → Runner
-withMoved m r = record {
-  key = r .key;
-  limits = r .limits;
-  timers = r .timers;
-  clocks = r .clocks;
-  life = r .life;
-  flags = m .flags;
-  input = m .input;
-  outputs = m .outputs;
-  credits = m .credits;
-  turn = m .turn;
-  «high_water» = r .«high_water»;
-}
-
-pub put-back : (c : Choice) (r : Runner) → withMoved (partsOf (effect c r)) r ≡ effect c r
-unfolding effect outputSent outputPaid
-put-back Choice.None r = refl
-put-back Choice.Credit r = refl
-put-back Choice.Started r = refl
-put-back Choice.InputClosed r = refl
-put-back (Choice.End x) r = refl
-put-back (Choice.Output x n) r = refl
-put-back Choice.Terminal r = refl

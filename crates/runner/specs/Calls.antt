@@ -44,6 +44,7 @@ use Rattle.runner.specs.declared.answer.When.the-variants as When
 use Rattle.runner.specs.declared.message.Wish.{Wish}
 use Rattle.runner.specs.declared.message.Wish.the-variants as Wish
 use Rattle.runner.specs.declared.runner.Runner.{Runner}
+use Rattle.runner.specs.declared.streams.Accounting.{Accounting}
 use Rattle.runner.specs.Life.{closeRunnerInput, cancelAnswer, cancelNext, launchedNext, exitedNext, settledNext, detachNext, ticked, deadlineOf}
 use Rattle.runner.specs.Message.{choose, effect, bufferAfter, saidFor, MessageAfter, messageAfter, wish, wishEffect}
 use Rattle.runner.specs.Range.{bytesDo, lengthsDo, isGood, stop, opens, openStop, fresh, noLimits}
@@ -85,6 +86,10 @@ credit r k p units =
     hearing (isGood r true)
     (creditAnswer (admits (r .key) k) (outputPool (r .limits .shared) p) r units)
     (creditNext (admits (r .key) k) (outputPool (r .limits .shared) p) r units) r
+
+-- what the code's inner functions hand back of it: the accounts, and the answer
+abbrev pub accountingOf : Hearing → Accounting
+accountingOf h = record { credits = h .runner .credits; received = h .received }
 
 -- the stores that input is lent do
 abbrev pub storesDo : Runner → (store lengths : List ℕ) → Bool

@@ -8,4 +8,3 @@ pub mod Range
 pub mod RangeLaws
 pub mod MessageLaws
 pub mod Calls
-pub mod Parts

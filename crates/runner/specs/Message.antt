@@ -25,12 +25,12 @@ use Rattle.runner.specs.declared.answer.Said.the-variants as Said
 use Rattle.runner.specs.declared.answer.Saying.{Saying}
 use Rattle.runner.specs.declared.message.Choice.{Choice}
 use Rattle.runner.specs.declared.message.Choice.the-variants as Choice
-use Rattle.runner.specs.declared.message.Moved.{Moved}
 use Rattle.runner.specs.declared.message.Wish.{Wish}
 use Rattle.runner.specs.declared.message.Wish.the-variants as Wish
 use Rattle.runner.specs.declared.runner.Runner.{Runner}
 use Rattle.runner.specs.Choose.{ifElse}
 use Rattle.runner.specs.Life.{awaitsLaunch, isReady, outcomeOf}
+use Rattle.runner.specs.Range.{stop}
 use Rattle.runner.specs.State.{withLife, withFlags, withInput, withFlow, flagsOf, out0, out1, outOf, at, other, base, creditAt, putCredit}
 
 -- the flags that a message moves
@@ -125,19 +125,16 @@ bufferAfter (Choice.End x) r store buffer = buffer
 bufferAfter (Choice.Output x n) r store buffer = payload r x n store ++ drop n buffer
 bufferAfter Choice.Terminal r store buffer = buffer
 
--- what a message moves: parts of the state, and the buffer
-abbrev pub partsOf : Runner → Moved
-partsOf r = record { flags = r .flags; input = r .input; outputs = r .outputs; credits = r .credits; turn = r .turn }
-
-pub record MovedAfter : Type 0 where
-  pub moved : Moved
+-- what saying it leaves: the state, and the buffer
+pub record SayAfter : Type 0 where
+  pub runner : Runner
   pub buffer : List ℕ
 
-abbrev pub movedAfter : Moved → List ℕ → MovedAfter
-movedAfter m buffer = record { moved = m; buffer = buffer }
+abbrev pub sayAfter : Runner → List ℕ → SayAfter
+sayAfter r buffer = record { runner = r; buffer = buffer }
 
-unfoldable pub moves : Choice → Runner → (store buffer : List ℕ) → MovedAfter
-moves c r store buffer = movedAfter (partsOf (effect c r)) (bufferAfter c r store buffer)
+unfoldable pub say : Choice → Runner → (store buffer : List ℕ) → SayAfter
+say c r store buffer = sayAfter (effect c r) (bufferAfter c r store buffer)
 
 -- what is said
 unfoldable pub saidFor : Choice → Runner → Said
@@ -148,6 +145,13 @@ saidFor Choice.InputClosed r = Said.Message Message.InputClosed
 saidFor (Choice.End x) r = Said.Message (Message.End x)
 saidFor (Choice.Output x n) r = Said.Message (Message.Output x n)
 saidFor Choice.Terminal r = Said.Message (Message.Terminal (outcomeOf r))
+
+-- the choice of a call that may be refused by 12, 10 or 11, and its answer
+abbrev pub choiceOf : (good : Bool) → Runner → (buffer : ℕ) → Choice
+choiceOf good r buffer = cond good (choose r buffer) Choice.None
+
+abbrev pub answerOf : (good : Bool) → Choice → Runner → Said
+answerOf good c r = cond good (saidFor c r) (Said.Refused (stop r))
 
 -- what next_message leaves: its answer with the state, and the buffer
 pub record MessageAfter : Type 0 where

@@ -37,6 +37,20 @@ pub record Sendable (r : Runner) (x : Stream) (n : ℕ) (store buffer : List ℕ
   pub queued : n ≤ outOf x r .queued
   pub fits : n ≤ length buffer
 
+-- something is said
+abbrev pub isSaid : Choice → Bool
+isSaid Choice.None = false
+isSaid Choice.Credit = true
+isSaid Choice.Started = true
+isSaid Choice.InputClosed = true
+isSaid (Choice.End x) = true
+isSaid (Choice.Output x n) = true
+isSaid Choice.Terminal = true
+
+-- where something is said it was chosen, of a runner in range with a store that does
+abbrev pub Sayable : Choice → Runner → (store buffer : List ℕ) → Type 0
+Sayable c r store buffer = isSaid c ≡ true → InRange r × (byteNeed (r .limits) ≤ length store) × (c ≡ choose r (length buffer))
+
 -- ---- the choice of an output is of what its stream can send
 
 -- a claim on outputs alone

@@ -25,6 +25,7 @@ use Rattle.runner.specs.declared.answer.Hearing.{Hearing}
 use Rattle.runner.specs.declared.answer.Taken.the-variants as Taken
 use Rattle.runner.specs.declared.answer.Taking.{Taking}
 use Rattle.runner.specs.declared.runner.Runner.{Runner}
+use Rattle.runner.specs.Range.{stop}
 use Rattle.runner.specs.State.{withInput, withFlow, outOf, at, base, creditAt, putCredit, buffered}
 
 -- ---- output: closed or given up, it takes 0; while discarding it takes all and keeps none; else min(length, chunk - queued)
@@ -124,6 +125,15 @@ isTaken (Admission.Refused x) r = false
 isTaken Admission.Stale r = false
 isTaken Admission.Own r = not (r .flags .finished)
 
+-- what one is answered that is not, where the call is not refused by 12, 10 or 11 either
+abbrev pub metBy : Admission → Received
+metBy (Admission.Refused x) = Refused x
+metBy Admission.Stale = Receipt Stale
+metBy Admission.Own = Receipt Late
+
+abbrev pub met : (good : Bool) → Admission → Runner → Received
+met good a r = cond good (metBy a) (Refused (stop r))
+
 unfoldable pub inputAnswer : Admission → Runner → ℕ → Received
 inputAnswer (Admission.Refused x) r n = Refused x
 inputAnswer Admission.Stale r n = Receipt Stale
@@ -195,14 +205,3 @@ writtenNext r count lengths = withInput (Input.writtenInput (r .limits) (r .inpu
 
 unfoldable pub writtenLengths : Runner → ℕ → List ℕ → List ℕ
 writtenLengths r count lengths = Input.writtenLengths (r .limits) (r .input) count lengths
-
--- what the write leaves: the state, and the length store
-pub record WroteAfter : Type 0 where
-  pub runner : Runner
-  pub lengths : List ℕ
-
-abbrev pub wroteAfter : Runner → List ℕ → WroteAfter
-wroteAfter r lengths = record { runner = r; lengths = lengths }
-
-unfoldable pub wrote : Runner → ℕ → List ℕ → WroteAfter
-wrote r count lengths = wroteAfter (writtenNext r count lengths) (writtenLengths r count lengths)

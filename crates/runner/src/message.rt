@@ -1,5 +1,6 @@
 // What the runner says next, and what it asks of the adapter: a choice by what the state shows, and then its effect.
 ghost use mathlib.Core.Path.{_≡_};
+ghost use mathlib.Core.Bool.{true};
 ghost use Prim.Native.Nat.{_≤_};
 ghost use lib.ListN.{length};
 ghost use Rattle.credit.specs.Need.{byteNeed};
@@ -13,13 +14,15 @@ ghost use Rattle.runner.specs.Message.{
   sentAfter,
   sentOutput,
   saidFor,
-  movedAfter,
-  moves,
+  choiceOf,
+  answerOf,
+  sayAfter,
+  say,
   wishFor,
   wish,
   handed,
 };
-ghost use Rattle.runner.specs.MessageLaws.{Payable, Sendable};
+ghost use Rattle.runner.specs.MessageLaws.{Payable, Sendable, Sayable};
 ghost use Rattle.runner.specs.RangeLaws.{InRange};
 ghost use Rattle.runner.specs.State.{other};
 use crate::answer::Message;
@@ -35,8 +38,6 @@ use crate::runner::Runner;
 use credit::sender::Credit;
 use exec::MaybeCause;
 use exec::Stream;
-use lifecycle::flags::Flags;
-use stdio::input::Input;
 use stdio::output::Output;
 
 // What the runner says next, by what its state shows.
@@ -48,15 +49,6 @@ pub enum Choice {
     End(Stream),
     Output(Stream, u32),
     Terminal,
-}
-
-// What a message moves of the runner.
-pub struct Moved {
-    pub flags: Flags,
-    pub input: Input,
-    pub outputs: [Output; 2],
-    pub credits: [Credit; 2],
-    pub turn: u8,
 }
 
 // What the runner asks of the adapter next.
@@ -148,7 +140,7 @@ impl Runner {
         output.is_done() & !output.ended
     }
 
-    pub(crate) fn choose(self, buffer: usize) -> Choice
+    fn choose(self, buffer: usize) -> Choice
         requires { ⌜ InRange self ⌝ }
         ensures { λ r. ⌜ r ≡ choose self buffer ⌝ }
     {
@@ -179,8 +171,29 @@ impl Runner {
         )
     }
 
+    // The choice of a call, given whether it meets none of refusals 12, 10 and 11.
+    pub(crate) fn choice(self, good: bool, buffer: usize) -> Choice
+        requires { ⌜ (good ≡ true → InRange self) ⌝ }
+        ensures { λ r. ⌜ r ≡ choiceOf good self buffer ⌝ }
+    {
+        if good {
+            return self.choose(buffer);
+        }
+        Choice::None
+    }
+
+    // Its answer.
+    pub(crate) fn answer(self, good: bool, choice: Choice) -> Said
+        ensures { λ r. ⌜ r ≡ answerOf good choice self ⌝ }
+    {
+        if good {
+            return self.said(choice);
+        }
+        Said::Refused(self.stop())
+    }
+
     // What is said.
-    pub(crate) fn said(self, choice: Choice) -> Said
+    fn said(self, choice: Choice) -> Said
         ensures { λ r. ⌜ r ≡ saidFor choice self ⌝ }
     {
         match choice {
@@ -201,94 +214,50 @@ impl Runner {
         }
     }
 
-    // What saying it moves. It hands back these parts and not the runner, which would be copied once more.
-    pub(crate) fn moved(self, choice: Choice, store: &[u8], buffer: &mut [u8]) -> Moved
-        requires { ⌜ InRange self × (byteNeed (self .limits) ≤ length (now store)) × (choice ≡ choose self (length (now buffer))) ⌝ }
-        ensures { λ r. ⌜ movedAfter r (now (buffer .exit)) ≡ moves choice self (now (store .entry)) (now (buffer .entry)) ⌝ }
+    // The runner once it is said. It is changed in place and handed back at one place, so that saying nothing copies nothing.
+    pub(crate) fn say(mut self, choice: Choice, store: &[u8], buffer: &mut [u8]) -> Runner
+        requires { ⌜ Sayable choice self (now store) (now buffer) ⌝ }
+        ensures { λ r. ⌜ sayAfter r (now (buffer .exit)) ≡ say choice self (now (store .entry)) (now (buffer .entry)) ⌝ }
     {
-        let mut flags = self.flags;
-        let input = self.input;
-        let outputs = self.outputs;
-        let credits = self.credits;
-        let turn = self.turn;
         match choice {
-            Choice::None => Moved {
-                flags,
-                input,
-                outputs,
-                credits,
-                turn,
-            },
+            Choice::None => {}
             Choice::Credit => {
-                flags.credited = true;
+                let input = self.input;
                 let crediting = input.take_credit();
                 let granted = crediting.input;
-                Moved {
-                    flags,
-                    input: granted,
-                    outputs,
-                    credits,
-                    turn,
-                }
+                self.input = granted;
+                self.flags.credited = true;
             }
             Choice::Started => {
-                flags.started_message = false;
-                flags.credited = false;
-                Moved {
-                    flags,
-                    input,
-                    outputs,
-                    credits,
-                    turn,
-                }
+                self.flags.started_message = false;
+                self.flags.credited = false;
             }
             Choice::InputClosed => {
-                flags.credited = false;
+                let input = self.input;
                 let told = input.message_told();
-                Moved {
-                    flags,
-                    input: told,
-                    outputs,
-                    credits,
-                    turn,
-                }
+                self.input = told;
+                self.flags.credited = false;
             }
             Choice::End(stream) => {
-                flags.credited = false;
+                let outputs = self.outputs;
                 let output = output_in(stream, outputs);
                 let ended = put_output(stream, output.end(), outputs);
-                Moved {
-                    flags,
-                    input,
-                    outputs: ended,
-                    credits,
-                    turn,
-                }
+                self.outputs = ended;
+                self.flags.credited = false;
             }
             Choice::Output(stream, n) => {
-                flags.credited = false;
                 let paid = self.paid(stream, n);
                 let sent = self.sent(stream, n, store, buffer);
-                let next = turn_after(stream);
-                Moved {
-                    flags,
-                    input,
-                    outputs: sent,
-                    credits: paid,
-                    turn: next,
-                }
+                self.credits = paid;
+                self.outputs = sent;
+                self.turn = turn_after(stream);
+                self.flags.credited = false;
             }
             Choice::Terminal => {
-                flags.finished = true;
-                Moved {
-                    flags,
-                    input,
-                    outputs,
-                    credits,
-                    turn,
-                }
+                self.flags.finished = true;
             }
         }
+        self
     }
 
     // The accounts once the cost of n bytes of a stream is spent.

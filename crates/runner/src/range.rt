@@ -1,6 +1,6 @@
 // What is met before a call: refusals 12, 10 and 11.
 ghost use mathlib.Core.Path.{_≡_};
-ghost use mathlib.Core.Bool.{false};
+ghost use mathlib.Core.Bool.{cond, false};
 ghost use lib.Dec.{leb};
 ghost use lib.ListN.{length};
 ghost use Rattle.credit.specs.Need.{byteNeed, lengthNeed};
@@ -86,6 +86,16 @@ impl Runner {
             return Refusal::NoLimits;
         }
         Refusal::StateOutOfRange
+    }
+
+    // The reply of a call with no result, given whether it meets none of the three.
+    pub(crate) fn reply(self, good: bool) -> Reply
+        ensures { λ r. ⌜ r ≡ cond good Reply.Ok (Reply.Refused (stop self)) ⌝ }
+    {
+        if good {
+            return Reply::Ok;
+        }
+        Reply::Refused(self.stop())
     }
 
     // A refused call with no result.

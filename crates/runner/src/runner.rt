@@ -50,10 +50,14 @@ use crate::answer::LimitsAnswer;
 use crate::answer::Noting;
 use crate::answer::Said;
 use crate::answer::Saying;
+use crate::answer::Taken;
 use crate::answer::Taking;
 use crate::answer::Truth;
 use crate::answer::When;
 use crate::message::Wish;
+use crate::pairs::output_in;
+use crate::pairs::put_output;
+use crate::pairs::ring_base;
 use crate::range::bytes_do;
 use crate::range::lengths_do;
 use crate::streams::is_dropped;
@@ -220,51 +224,29 @@ impl Runner {
         }
     }
 
-    // Bytes of the workload's input from the peer. Once the input is closed they are dropped, and the charge stands. As in
-    // cancel, all answers are given here.
+    // Bytes of the workload's input from the peer. Once the input is closed they are dropped, and the charge stands.
     pub fn input(mut self, key: Key, store: &mut [u8], lengths: &mut [u32], bytes: &[u8]) -> Hearing
         ensures { λ r. ⌜ inputAfter r (now (store .exit)) (now (lengths .exit)) ≡ input self key (now (bytes .entry)) (now (store .entry)) (now (lengths .entry)) ⌝ }
     {
         let limits = self.limits;
         let enough = bytes_do(limits, store.len()) & lengths_do(limits, lengths.len());
-        if self.is_good(enough) {
-            let own = self.key;
-            let admission = own.admits(key);
-            match admission {
-                Admission::Refused(refusal) => {
-                    return Hearing {
-                        runner: self,
-                        received: Received::Refused(refusal),
-                    };
-                }
-                Admission::Stale => {
-                    return Hearing {
-                        runner: self,
-                        received: Received::Receipt(Receipt::Stale),
-                    };
-                }
-                Admission::Own => {
-                    if self.flags.finished {
-                        return Hearing {
-                            runner: self,
-                            received: Received::Receipt(Receipt::Late),
-                        };
-                    }
-                    let held = self.input;
-                    let receiving = held.receive(limits, store, lengths, bytes);
-                    let input = receiving.input;
-                    let received = receiving.received;
-                    self.input = input;
-                    let mark = self.mark(is_dropped(received));
-                    self.high_water = mark;
-                    return Hearing {
-                        runner: self,
-                        received,
-                    };
-                }
-            }
+        let good = self.is_good(enough);
+        let received = if self.hears(good, key) {
+            let held = self.input;
+            let receiving = held.receive(limits, store, lengths, bytes);
+            let input = receiving.input;
+            let answer = receiving.received;
+            self.input = input;
+            let mark = self.mark(is_dropped(answer));
+            self.high_water = mark;
+            answer
+        } else {
+            self.meets(good, key)
+        };
+        Hearing {
+            runner: self,
+            received,
         }
-        self.unheard()
     }
 
     // The end of the workload's input from the peer.
@@ -351,11 +333,22 @@ impl Runner {
     pub fn output(mut self, stream: Stream, store: &mut [u8], bytes: &[u8]) -> Taking
         ensures { λ r. ⌜ outputAfter r (now (store .exit)) ≡ output self stream (now (bytes .entry)) (now (store .entry)) ⌝ }
     {
-        let filling = self.fill(stream, store, bytes);
-        let outputs = filling.outputs;
-        let taken = filling.taken;
-        self.outputs = outputs;
-        self.high_water = filling.high_water;
+        let limits = self.limits;
+        let taken = if self.is_good(bytes_do(limits, store.len())) {
+            let none = self.keeps_none(stream);
+            let chunk = limits.chunk;
+            let outputs = self.outputs;
+            let output = output_in(stream, outputs);
+            let base = ring_base(stream, chunk);
+            let intake = output.take_in(self.flags.gave_up, store, base, chunk, bytes);
+            let next = put_output(stream, intake.output, outputs);
+            self.outputs = next;
+            let mark = self.mark(none);
+            self.high_water = mark;
+            Taken::Bytes(intake.taken)
+        } else {
+            Taken::Refused(self.stop())
+        };
         Taking {
             runner: self,
             taken,
@@ -434,18 +427,21 @@ impl Runner {
     }
 
     // The workload took so many bytes of its input.
-    pub fn input_written(self, lengths: &mut [u32], bytes: usize) -> Noting
+    pub fn input_written(mut self, lengths: &mut [u32], bytes: usize) -> Noting
         ensures { λ r. ⌜ writtenAfter r (now (lengths .exit)) ≡ inputWritten self bytes (now (lengths .entry)) ⌝ }
     {
         let limits = self.limits;
-        if self.is_good(lengths_do(limits, lengths.len())) {
-            let runner = self.write_input(lengths, bytes);
-            return Noting {
-                runner,
-                reply: Reply::Ok,
-            };
+        let good = self.is_good(lengths_do(limits, lengths.len()));
+        let reply = self.reply(good);
+        if good {
+            let held = self.input;
+            let input = held.written(limits, lengths, bytes);
+            self.input = input;
         }
-        self.refused()
+        Noting {
+            runner: self,
+            reply,
+        }
     }
 
     // The workload's input closed, other than by the runner's request.
@@ -532,24 +528,30 @@ impl Runner {
         self.refused()
     }
 
-    // Fires the timers whose instants `now` has reached.
-    pub fn tick(self, now: u64) -> Noting
+    // Fires the timers whose instants `now` has reached. What they do not move is left in its place.
+    pub fn tick(mut self, now: u64) -> Noting
         ensures { λ r. ⌜ r ≡ tick self now ⌝ }
     {
-        if self.is_good(true) {
-            if self.any_due(now) {
-                let runner = self.fire(now);
-                return Noting {
-                    runner,
-                    reply: Reply::Ok,
-                };
-            }
-            return Noting {
-                runner: self,
-                reply: Reply::Ok,
-            };
+        let good = self.is_good(true);
+        let reply = self.reply(good);
+        if good & self.any_due(now) {
+            let before = self;
+            let after = before.fire(now);
+            let clocks = after.clocks;
+            let life = after.life;
+            let flags = after.flags;
+            let input = after.input;
+            let outputs = after.outputs;
+            self.clocks = clocks;
+            self.life = life;
+            self.flags = flags;
+            self.input = input;
+            self.outputs = outputs;
         }
-        self.refused()
+        Noting {
+            runner: self,
+            reply,
+        }
     }
 
     // When the next timer fires.
@@ -592,30 +594,15 @@ impl Runner {
     }
 
     // The next message to send the peer, if one waits. An output message stands at the start of `buffer`.
-    pub fn next_message(mut self, store: &[u8], buffer: &mut [u8]) -> Saying
+    pub fn next_message(self, store: &[u8], buffer: &mut [u8]) -> Saying
         ensures { λ r. ⌜ messageAfter r (now (buffer .exit)) ≡ nextMessage self (now (store .entry)) (now (buffer .entry)) ⌝ }
     {
         let limits = self.limits;
-        if self.is_good(bytes_do(limits, store.len())) {
-            let choice = self.choose(buffer.len());
-            let said = self.said(choice);
-            let moved = self.moved(choice, store, buffer);
-            let flags = moved.flags;
-            let input = moved.input;
-            let outputs = moved.outputs;
-            let credits = moved.credits;
-            self.flags = flags;
-            self.input = input;
-            self.outputs = outputs;
-            self.credits = credits;
-            self.turn = moved.turn;
-            return Saying { runner: self, said };
-        }
-        let refusal = self.stop();
-        Saying {
-            runner: self,
-            said: Said::Refused(refusal),
-        }
+        let good = self.is_good(bytes_do(limits, store.len()));
+        let choice = self.choice(good, buffer.len());
+        let said = self.answer(good, choice);
+        let runner = self.say(choice, store, buffer);
+        Saying { runner, said }
     }
 
     // Whether the terminal outcome was returned.

@@ -1,11 +1,11 @@
 // The output streams, the credit and the input: what each call does once it is not refused by 12, 10 or 11.
 ghost use mathlib.Core.Path.{_≡_};
-ghost use mathlib.Core.Bool.{cond, not};
+ghost use mathlib.Core.Bool.{cond, not, _&&_};
 ghost use Prim.Native.Nat.{_≤_, _<_, _^_, max};
 ghost use lib.ListN.{length};
-ghost use Rattle.credit.specs.Need.{byteNeed, lengthNeed};
-ghost use Rattle.runner.specs.Calls.{credit, output};
-ghost use Rattle.runner.specs.Parts.{accountingOf, fillingAfter, fillingOf};
+ghost use Rattle.exec.specs.Key.{admits};
+ghost use Rattle.credit.specs.Need.{byteNeed};
+ghost use Rattle.runner.specs.Calls.{credit, accountingOf};
 ghost use Rattle.runner.specs.RangeLaws.{InRange};
 ghost use Rattle.runner.specs.State.{buffered};
 ghost use Rattle.runner.specs.Streams.{
@@ -22,17 +22,15 @@ ghost use Rattle.runner.specs.Streams.{
   receiptOf,
   endAnswer,
   endNext,
-  wroteAfter,
-  wrote,
+  isTaken,
+  met,
 };
 use crate::answer::Hearing;
-use crate::answer::Taken;
 use crate::pairs::credit_at;
 use crate::pairs::output_in;
 use crate::pairs::put_credit;
 use crate::pairs::put_output;
 use crate::pairs::ring_base;
-use crate::range::bytes_do;
 use crate::runner::Runner;
 use credit::sender::Credit;
 use exec::Admission;
@@ -45,15 +43,8 @@ use exec::Reply;
 use exec::Stream;
 use stdio::output::Output;
 
-// What output moves of the runner, and its answer. Such parts are handed back, and not the runner, where a call has several ways
-// to end: each way would copy the runner, and the caller could not leave it where it is.
-pub struct Filling {
-    pub outputs: [Output; 2],
-    pub high_water: usize,
-    pub taken: Taken,
-}
-
-// What credit moves, and its answer.
+// What credit moves of the runner, and its answer. Such parts are handed back, and not the runner, as the grant has several ways
+// to end: each would copy the runner, and the caller could not leave it where it is.
 pub struct Accounting {
     pub credits: [Credit; 2],
     pub received: Received,
@@ -81,6 +72,36 @@ impl Runner {
         }
         let held = self.held();
         larger(self.high_water, held)
+    }
+
+    // Whether a message of the peer's does something, given whether it meets none of refusals 12, 10 and 11: its key is the
+    // execution's own, and the outcome was not returned.
+    pub(crate) fn hears(self, good: bool, key: Key) -> bool
+        ensures { λ r. ⌜ r ≡ (good && isTaken (admits (self .key) key) self) ⌝ }
+    {
+        let own = self.key;
+        let admission = own.admits(key);
+        match admission {
+            Admission::Refused(_) => false,
+            Admission::Stale => false,
+            Admission::Own => good & !self.flags.finished,
+        }
+    }
+
+    // The answer to one that does nothing.
+    pub(crate) fn meets(self, good: bool, key: Key) -> Received
+        ensures { λ r. ⌜ r ≡ met good (admits (self .key) key) self ⌝ }
+    {
+        if good {
+            let own = self.key;
+            let admission = own.admits(key);
+            return match admission {
+                Admission::Refused(refusal) => Received::Refused(refusal),
+                Admission::Stale => Received::Receipt(Receipt::Stale),
+                Admission::Own => Received::Receipt(Receipt::Late),
+            };
+        }
+        Received::Refused(self.stop())
     }
 
     // Whether a stream's bytes are not kept: it closed, or the runner gave up on it or discards it.
@@ -142,36 +163,6 @@ impl Runner {
         let next = put_output(stream, output.hang_up(), outputs);
         self.outputs = next;
         self
-    }
-
-    // Bytes of a stream, read: what becomes of the outputs and of the high-water mark.
-    pub(crate) fn fill(mut self, stream: Stream, store: &mut [u8], bytes: &[u8]) -> Filling
-        ensures { λ r. ⌜ fillingAfter r (now (store .exit)) ≡ fillingOf (output self stream (now (bytes .entry)) (now (store .entry))) ⌝ }
-    {
-        let limits = self.limits;
-        if self.is_good(bytes_do(limits, store.len())) {
-            let none = self.keeps_none(stream);
-            let chunk = limits.chunk;
-            let outputs = self.outputs;
-            let output = output_in(stream, outputs);
-            let base = ring_base(stream, chunk);
-            let intake = output.take_in(self.flags.gave_up, store, base, chunk, bytes);
-            let next = put_output(stream, intake.output, outputs);
-            self.outputs = next;
-            let mark = self.mark(none);
-            return Filling {
-                outputs: next,
-                high_water: mark,
-                taken: Taken::Bytes(intake.taken),
-            };
-        }
-        let outputs = self.outputs;
-        let refusal = self.stop();
-        Filling {
-            outputs,
-            high_water: self.high_water,
-            taken: Taken::Refused(refusal),
-        }
     }
 
     // The peer's credit: what becomes of the accounts.
@@ -277,18 +268,6 @@ impl Runner {
             runner: self,
             received,
         }
-    }
-
-    // The workload took bytes of its input.
-    pub(crate) fn write_input(mut self, lengths: &mut [u32], count: usize) -> Runner
-        requires { ⌜ InRange self × (lengthNeed (self .limits) ≤ length (now lengths)) ⌝ }
-        ensures { λ r. ⌜ wroteAfter r (now (lengths .exit)) ≡ wrote self count (now (lengths .entry)) ⌝ }
-    {
-        let held = self.input;
-        let limits = self.limits;
-        let input = held.written(limits, lengths, count);
-        self.input = input;
-        self
     }
 }
 

@@ -1,6 +1,6 @@
 -- `runner::runner::Runner::grant_at` meets its contract.
 use mathlib.Core.Path.{ap}
-use Rattle.runner.specs.Parts.{accountingOf}
+use Rattle.runner.specs.Calls.{accountingOf}
 use Rattle.runner.proofs.Flows.{grant-is}
 use Rattle.runner.specs.Streams.{creditIn, creditNext}
 use borrow.Author.Needs.{needs}

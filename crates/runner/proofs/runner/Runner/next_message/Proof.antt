@@ -1,23 +1,21 @@
 -- `runner::runner::Runner::next_message` meets its contract.
+use mathlib.Core.Path.{refl}
+use Rattle.runner.proofs.Guards.{guard, bytes-good, sayable, message-is}
 use Rattle.runner.specs.Range.{bytesDo}
-use Rattle.runner.proofs.Guards.{guard, bytes-good, message-goes, message-stops}
 use borrow.Author.Needs.{needs}
 use Rattle.runner.proofs.runner.Runner.next_message.Statement.{statement}
 use Rattle.runner.proofs.runner.Runner.next_message.Tie as tie
 
-choose-requires : tie.Need-choose-requires
-choose-requires c κs = let a = c .before .before .before .before .before .before .args in bytes-good (a .self) (a .store .now) (guard (a .self) (bytesDo (a .self .limits) (a .store .now)) _ _ _ (c .before .before .bytes-do .ensures) (c .before .is-good .ensures) (c .if1 .taken)) .0
+choice-requires : tie.Need-choice-requires
+choice-requires c κs = let a = c .before .before .before .before .before .args in
+    λ t. bytes-good (a .self) (a .store .now) (guard (a .self) (bytesDo (a .self .limits) (a .store .now)) _ _ _ (c .before .bytes-do .ensures) (c .is-good .ensures) t) .0
 
-moved-requires : tie.Need-moved-requires
-moved-requires c κs = let a = c .before .before .before .before .before .before .before .before .before .args in
-    let g = bytes-good (a .self) (a .store .now) (guard (a .self) (bytesDo (a .self .limits) (a .store .now)) _ _ _ (c .before .before .before .before .before .bytes-do .ensures) (c .before .before .before .before .is-good .ensures) (c .before .before .before .if1 .taken)) in
-    (g .0, g .1, c .before .before .choose .ensures)
+say-requires : tie.Need-say-requires
+say-requires c κs = let a = c .before .before .before .before .before .before .before .before .args in
+    sayable (a .self) (a .store .now) (a .buffer .now) _ (guard (a .self) (bytesDo (a .self .limits) (a .store .now)) _ _ _ (c .before .before .before .before .bytes-do .ensures) (c .before .before .before .is-good .ensures) refl) _ (c .before .before .choice .ensures)
 
 returns : tie.Need-returns
-returns c = message-goes _ _ _ _ _ _ _ (guard _ _ _ _ _ (c .before .before .before .before .before .before .before .before .before .before .before .before .bytes-do .ensures) (c .before .before .before .before .before .before .before .before .before .before .before .is-good .ensures) (c .before .before .before .before .before .before .before .before .before .before .if1 .taken)) (c .before .before .before .before .before .before .before .before .before .choose .ensures) (c .before .before .before .before .before .before .before .before .said .ensures) (c .before .before .before .before .before .before .moved .ensures)
-
-returns-2 : tie.Need-returns-2
-returns-2 c = message-stops _ _ _ _ (guard _ _ _ _ _ (c .before .before .before .bytes-do .ensures) (c .before .before .is-good .ensures) (c .before .if1 .left)) (c .stop .ensures)
+returns c = message-is _ _ _ _ (guard _ _ _ _ _ (c .before .before .before .before .before .before .before .bytes-do .ensures) (c .before .before .before .before .before .before .is-good .ensures) refl) _ (c .before .before .before .before .before .choice .ensures) _ _ _ (c .before .before .before .before .answer .ensures) (c .before .before .say .ensures)
 
 pub next-message-spec : {M : Type 1} → statement M
 next-message-spec =
@@ -25,10 +23,8 @@ next-message-spec =
     (tie.spec
     (λ c κs. search needs)
     (λ c κs. search needs)
-    choose-requires
+    choice-requires
     (λ c κs. search needs)
-    moved-requires
+    say-requires
     (search needs)
-    returns
-    (λ c κs. search needs)
-    returns-2)
+    returns)
