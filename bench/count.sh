@@ -7,7 +7,7 @@ instructions() {
 }
 echo '| a turn | Rust | ours |'
 echo '|---|---|---|'
-for line in output64 output1k output16k input64 input16k tick deadline credit idle frames; do
+for line in output64 output1k output16k input64 input16k tick deadline credit idle frames adapter64; do
     turns=1000
     parts=1
     [ $line = frames ] && turns=10 && parts=1024

@@ -3,44 +3,18 @@
 //!     bench                      prints the table
 //!     bench LINE SIDE TURNS      runs one loop, for a counter of instructions: SIDE is rust or ours
 
-#[allow(dead_code, unused_imports)]
-#[path = "../target/exec/mod.rs"]
-mod exec;
 mod ours;
-mod rust;
-
-use std::time::{Duration, Instant};
-
-/// What a loop is lent. It is cleared before each loop, and not between the turns.
-pub struct Room {
-    store: Box<[u8; 49152]>,
-    lengths: Box<[u32; 1024]>,
-    bytes: Vec<u8>,
-    buffer: Box<[u8; 16384]>,
-    chunk: u32,
-    /// The input's window, in bytes or, for the line of frames, in frames.
-    window: u32,
-    timeout: u64,
-    /// The instant of time 0, and those of the times 0 to 63.
-    zero: Instant,
-    instants: Vec<Instant>,
+/// The Rust's loops, each from its crate of src/rust.
+mod rust {
+    pub use rust_adapter::adapter;
+    pub use rust_calls::{credit, deadline, idle, tick, work_alone};
+    pub use rust_frames::frames;
+    pub use rust_input::input;
+    pub use rust_output::output;
 }
 
-impl Room {
-    fn new(zero: Instant, length: usize) -> Self {
-        Self {
-            store: Box::new([0; 49152]),
-            lengths: Box::new([0; 1024]),
-            bytes: (0..length).map(|i| (i * 7 + 1) as u8).collect(),
-            buffer: Box::new([0; 16384]),
-            chunk: if length == 1 { 16 } else { 16384 },
-            window: if length == 1 { 1024 } else { 16384 },
-            timeout: 1_000_000,
-            zero,
-            instants: (0..64).map(|i| zero + Duration::from_nanos(i)).collect(),
-        }
-    }
-}
+use room::Room;
+use std::time::Instant;
 
 type Loop = fn(&mut Room, u64, u64) -> u64;
 
@@ -70,7 +44,7 @@ macro_rules! lines {
     };
 }
 
-const LINES: [Line; 10] = lines! {
+const LINES: [Line; 11] = lines! {
     "output64" "output + next_message, 64 B" 64 100_000 1 output;
     "output1k" "output + next_message, 1 KiB" 1024 60_000 1 output;
     "output16k" "output + next_message, 16 KiB" 16384 10_000 1 output;
@@ -80,7 +54,8 @@ const LINES: [Line; 10] = lines! {
     "deadline" "deadline" 0 200_000 1 deadline;
     "credit" "credit" 0 200_000 1 credit;
     "idle" "next_message, nothing waiting" 0 200_000 1 idle;
-    "frames" "1,024 one-byte frames in and popped, a frame" 1 100 1024 frames;
+    "frames" "1,024 one-byte frames in and popped, a frame" 1 1_000 1024 frames;
+    "adapter64" "an adapter's turn: ten calls, 64 B" 64 60_000 1 adapter;
 };
 
 /// The steps of work between two turns.
@@ -119,7 +94,8 @@ fn time(zero: Instant, line: &Line, run: Loop, steps: u64, sends: bool) -> (f64,
     let sum = run(&mut room, line.turns, steps);
     let nanos = start.elapsed().as_nanos() as f64;
     // The last message's bytes stand in the buffer, as they were read; the work alone sends none.
-    if sends && line.word.starts_with("output") {
+    let moves = line.word.starts_with("output") || line.word.starts_with("adapter");
+    if sends && moves {
         assert_eq!(
             room.buffer[..line.length],
             room.bytes[..],

@@ -1,7 +1,7 @@
-//! The loops of crates/bench, linked from its static library. A lent slice goes as its address and length, a lent array as
+//! The loops of crates/bench*, linked from their static libraries. A lent slice goes as its address and length, a lent array as
 //! its address.
 
-use crate::Room;
+use room::Room;
 
 /// Declares a loop that is lent the bytes that it hands to the runner, and wraps it.
 macro_rules! moving {
@@ -16,7 +16,7 @@ macro_rules! moving {
             let (store, lengths) = (room.store.as_mut_ptr(), room.lengths.as_mut_ptr());
             let (bytes, count) = (room.bytes.as_ptr(), room.bytes.len());
             let buffer = room.buffer.as_mut_ptr();
-            // SAFETY: the arrays have the lengths of their types in crates/bench, and none overlaps another.
+            // SAFETY: the arrays have the lengths of their types in crates/bench*, and none overlaps another.
             unsafe {
                 $linked(
                     store, lengths, bytes, count, buffer,
@@ -50,7 +50,7 @@ macro_rules! still {
     )*};
 }
 
-moving!(output: bench_output, input: bench_input, frames: bench_frames);
+moving!(output: bench_output, input: bench_input, frames: bench_frames, adapter: bench_adapter);
 still!(tick: bench_tick, credit: bench_credit, idle: bench_idle, deadline: bench_deadline);
 
 pub fn work_alone(_: &mut Room, turns: u64, steps: u64) -> u64 {

@@ -1,8 +1,12 @@
-// The runner's calls in loops, for Rust to link and time beside its own (bench/). Each exported function opens a runner over
-// the lent stores, makes the calls of a turn `turns` times, with `steps` steps of arithmetic after each turn, and returns the
-// sum of the answers and of the arithmetic. It is proved safe and to end, and promises nothing else. What is lent has a fixed
-// length, so that nothing has to be known of it after a turn; chunk, window and timeout are given, so that the compiler does
-// not know them.
+// The runner's calls in loops, for Rust to link and time beside its own (bench/): the loops of one call a turn, and what all
+// loops share. The loops of several calls are crates of their own, so that in each library each measured call has one caller,
+// as in an adapter's event loop: there the compiler makes it a part of its caller, and where it has several it does not.
+// An exported loop opens a runner over the lent stores, makes the calls of a turn `turns` times, with `steps` steps of
+// arithmetic after each turn, and returns the sum of the answers and of the arithmetic. It is proved safe and to end, and
+// promises nothing else. What is lent has a fixed length, so that nothing has to be known of it after a turn; chunk, window and
+// timeout are given, so that the compiler does not know them.
+// A loop's runner is a copy of the one that `running` hands over, so that its own address is handed to no function: the
+// compiler takes a local apart into its fields only then, and it was measured to matter.
 use credit::receiver::Granted;
 use credit::sender::Credit;
 use exec::Cause;
@@ -25,7 +29,7 @@ use runner::answer::When;
 use runner::runner::Runner;
 
 // So many steps of arithmetic, each on the result of the last: the work between two turns.
-fn work(start: u64, steps: u64) -> u64 {
+pub fn work(start: u64, steps: u64) -> u64 {
     let mut x = start;
     for _ in 0..steps {
         x = (x % 4294967291) * 1664525 + 1013904223;
@@ -43,13 +47,13 @@ pub extern "C" fn bench_work(turns: u64, steps: u64) -> u64 {
     other
 }
 
-fn add(a: u64, b: u64) -> u64 {
+pub fn add(a: u64, b: u64) -> u64 {
     std::num::wrapping_add_u64(a, b)
 }
 
 // What an answer adds to the sum.
 
-fn of_received(received: Received) -> u64 {
+pub fn of_received(received: Received) -> u64 {
     match received {
         Received::Receipt(receipt) => match receipt {
             Receipt::Applied => 1,
@@ -60,21 +64,21 @@ fn of_received(received: Received) -> u64 {
     }
 }
 
-fn of_reply(reply: Reply) -> u64 {
+pub fn of_reply(reply: Reply) -> u64 {
     match reply {
         Reply::Ok => 1,
         Reply::Refused(_) => 4,
     }
 }
 
-fn of_taken(taken: Taken) -> u64 {
+pub fn of_taken(taken: Taken) -> u64 {
     match taken {
         Taken::Bytes(n) => n as u64,
         Taken::Refused(_) => 4,
     }
 }
 
-fn of_message(message: Message) -> u64 {
+pub fn of_message(message: Message) -> u64 {
     match message {
         Message::Credit(units) => units as u64,
         Message::Started => 5,
@@ -85,7 +89,7 @@ fn of_message(message: Message) -> u64 {
     }
 }
 
-fn of_said(said: Said) -> u64 {
+pub fn of_said(said: Said) -> u64 {
     match said {
         Said::None => 1,
         Said::Message(message) => of_message(message),
@@ -106,20 +110,20 @@ fn of_deadline(deadline: Deadline, due: u64) -> u64 {
     }
 }
 
-fn of_when(when: When, due: u64) -> u64 {
+pub fn of_when(when: When, due: u64) -> u64 {
     match when {
         When::Is(deadline) => of_deadline(deadline, due),
         When::Refused(_) => 4,
     }
 }
 
-fn key() -> Key {
+pub fn key() -> Key {
     Key::new(7, 2)
 }
 
 // A runner whose workload runs, with its first credit and its start told, and so many units of stdout's window granted. The
-// calls that are measured are not made here, so that each has few callers, as in an adapter.
-fn running(limits: Limits, timeout: u64, store: &[u8], lengths: &[u32], units: u32) -> Runner {
+// calls that are measured are not made here, so that each has one caller.
+pub fn running(limits: Limits, timeout: u64, store: &[u8], lengths: &[u32], units: u32) -> Runner {
     let timers = Timers::new(1000, 1000).timeout(timeout);
     let mut r = Runner::open(key(), limits, timers, 0, store, lengths).runner;
     r = r.launched(LaunchResult::Started).runner;
@@ -143,7 +147,7 @@ fn running(limits: Limits, timeout: u64, store: &[u8], lengths: &[u32], units: u
     r
 }
 
-fn in_bytes(chunk: u32, window: u32) -> Limits {
+pub fn in_bytes(chunk: u32, window: u32) -> Limits {
     Limits {
         chunk,
         input: Window::bytes(window),
@@ -152,77 +156,13 @@ fn in_bytes(chunk: u32, window: u32) -> Limits {
     }
 }
 
-fn in_frames(chunk: u32, window: u32) -> Limits {
+pub fn in_frames(chunk: u32, window: u32) -> Limits {
     Limits {
         chunk,
         input: Window::frames(window),
         output: Window::frames(window),
         shared: false,
     }
-}
-
-// output and next_message, which hands the bytes on.
-#[no_mangle]
-pub extern "C" fn bench_output(
-    store: &mut [u8; 49152],
-    lengths: &mut [u32; 1024],
-    bytes: &[u8],
-    buffer: &mut [u8; 16384],
-    chunk: u32,
-    window: u32,
-    timeout: u64,
-    turns: u64,
-    steps: u64,
-) -> u64 {
-    let mut r = running(in_bytes(chunk, window), timeout, store, lengths, u32::MAX);
-    let mut sum = 0;
-    let mut other = 1;
-    for _ in 0..turns {
-        let taking = r.output(Stream::Stdout, store, bytes);
-        let taken = taking.taken;
-        sum = add(sum, of_taken(taken));
-        r = taking.runner;
-        let saying = r.next_message(store, buffer);
-        let said = saying.said;
-        sum = add(sum, of_said(said));
-        r = saying.runner;
-        other = work(other, steps);
-    }
-    add(sum, other)
-}
-
-// input, pending_input, input_written and next_message, which grants the units again.
-#[no_mangle]
-pub extern "C" fn bench_input(
-    store: &mut [u8; 49152],
-    lengths: &mut [u32; 1024],
-    bytes: &[u8],
-    buffer: &mut [u8; 16384],
-    chunk: u32,
-    window: u32,
-    timeout: u64,
-    turns: u64,
-    steps: u64,
-) -> u64 {
-    let mut r = running(in_bytes(chunk, window), timeout, store, lengths, u32::MAX);
-    let mut sum = 0;
-    let mut other = 1;
-    for _ in 0..turns {
-        let hearing = r.input(key(), store, lengths, bytes);
-        let received = hearing.received;
-        sum = add(sum, of_received(received));
-        let held = hearing.runner;
-        let mut refusal = 0;
-        let waiting = held.pending_input(store, &mut refusal).len();
-        sum = add(sum, waiting as u64);
-        let written = held.input_written(lengths, waiting).runner;
-        let saying = written.next_message(store, buffer);
-        let said = saying.said;
-        sum = add(sum, of_said(said));
-        r = saying.runner;
-        other = work(other, steps);
-    }
-    add(sum, other)
 }
 
 // tick, with nothing due.
@@ -237,7 +177,8 @@ pub extern "C" fn bench_tick(
     turns: u64,
     steps: u64,
 ) -> u64 {
-    let mut r = running(in_bytes(chunk, window), timeout, store, lengths, u32::MAX);
+    let first = running(in_bytes(chunk, window), timeout, store, lengths, u32::MAX);
+    let mut r = first;
     let mut sum = 0;
     let mut other = 1;
     for i in 0..turns {
@@ -262,7 +203,8 @@ pub extern "C" fn bench_credit(
     turns: u64,
     steps: u64,
 ) -> u64 {
-    let mut r = running(in_bytes(chunk, window), timeout, store, lengths, 1);
+    let first = running(in_bytes(chunk, window), timeout, store, lengths, 1);
+    let mut r = first;
     let mut sum = 0;
     let mut other = 1;
     for _ in 0..turns {
@@ -287,7 +229,8 @@ pub extern "C" fn bench_idle(
     turns: u64,
     steps: u64,
 ) -> u64 {
-    let mut r = running(in_bytes(chunk, window), timeout, store, lengths, u32::MAX);
+    let first = running(in_bytes(chunk, window), timeout, store, lengths, u32::MAX);
+    let mut r = first;
     let mut sum = 0;
     let mut other = 1;
     for _ in 0..turns {
@@ -298,60 +241,6 @@ pub extern "C" fn bench_idle(
         other = work(other, steps);
     }
     add(sum, other)
-}
-
-// 1,024 frames in, popped at once and granted again.
-#[no_mangle]
-pub extern "C" fn bench_frames(
-    store: &mut [u8; 49152],
-    lengths: &mut [u32; 1024],
-    bytes: &[u8],
-    buffer: &mut [u8; 16384],
-    chunk: u32,
-    window: u32,
-    timeout: u64,
-    turns: u64,
-    steps: u64,
-) -> u64 {
-    let mut r = running(in_frames(chunk, window), timeout, store, lengths, 1024);
-    let mut sum = 0;
-    let mut other = 1;
-    for _ in 0..turns {
-        let summed = fill(r, sum, store, lengths, bytes, 1024);
-        let held = summed.runner;
-        let written = held.input_written(lengths, 1024).runner;
-        let saying = written.next_message(store, buffer);
-        let said = saying.said;
-        sum = add(summed.sum, of_said(said));
-        r = saying.runner;
-        other = work(other, steps);
-    }
-    add(sum, other)
-}
-
-// A runner, and the sum of its answers so far.
-struct Summed {
-    runner: Runner,
-    sum: u64,
-}
-
-fn fill(
-    first: Runner,
-    before: u64,
-    store: &mut [u8; 49152],
-    lengths: &mut [u32; 1024],
-    bytes: &[u8],
-    turns: u64,
-) -> Summed {
-    let mut r = first;
-    let mut sum = before;
-    for _ in 0..turns {
-        let hearing = r.input(key(), store, lengths, bytes);
-        let received = hearing.received;
-        sum = add(sum, of_received(received));
-        r = hearing.runner;
-    }
-    Summed { runner: r, sum }
 }
 
 // deadline, of four runners by turns: of one alone the compiler would ask once.
@@ -396,7 +285,16 @@ fn due_at(mut runner: Runner, at: u64) -> Runner {
     runner
 }
 
-// The other calls that tick, once each: with them `fire` has several callers, as in any adapter, and is a part of none.
+// The other calls that tick, once each: with them `fire` has several callers, as in any adapter, and is a part of none. A
+// library whose loop ticks exports it beside the loop.
+pub fn rest(r: Runner, now: u64) -> u64 {
+    let cancelled = r.cancel(now, key(), Cause::Cancelled).runner;
+    let exited = cancelled.exited(now, MaybeStatus::None).runner;
+    let noting = exited.disconnect(now);
+    let reply = noting.reply;
+    of_reply(reply)
+}
+
 #[no_mangle]
 pub extern "C" fn bench_rest(
     store: &mut [u8; 49152],
@@ -405,10 +303,8 @@ pub extern "C" fn bench_rest(
     window: u32,
     now: u64,
 ) -> u64 {
-    let r = running(in_bytes(chunk, window), now, store, lengths, u32::MAX);
-    let cancelled = r.cancel(now, key(), Cause::Cancelled).runner;
-    let exited = cancelled.exited(now, MaybeStatus::None).runner;
-    let noting = exited.disconnect(now);
-    let reply = noting.reply;
-    of_reply(reply)
+    rest(
+        running(in_bytes(chunk, window), now, store, lengths, u32::MAX),
+        now,
+    )
 }

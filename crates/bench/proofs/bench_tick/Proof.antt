@@ -1,7 +1,7 @@
 -- `bench_tick` is safe and ends: the measure is the turns left.
 use Prim.Native.Nat.{_-_, _≤_, _<_, _^_}
 use borrow.Author.Needs.{needs}
-use Rattle.bench.proofs.Turns.{fits, less, again}
+use Rattle.bench.specs.Turns.{fits, less, again}
 use Rattle.bench.proofs.bench_tick.Statement.{statement}
 use Rattle.bench.proofs.bench_tick.Tie as tie
 

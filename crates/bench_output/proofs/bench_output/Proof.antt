@@ -1,9 +1,9 @@
 -- `bench_output` is safe and ends: the measure is the turns left.
 use Prim.Native.Nat.{_-_, _≤_, _<_, _^_}
 use borrow.Author.Needs.{needs}
-use Rattle.bench.proofs.Turns.{fits, less, again}
-use Rattle.bench.proofs.bench_output.Statement.{statement}
-use Rattle.bench.proofs.bench_output.Tie as tie
+use Rattle.bench.specs.Turns.{fits, less, again}
+use Rattle.bench_output.proofs.bench_output.Statement.{statement}
+use Rattle.bench_output.proofs.bench_output.Tie as tie
 
 abbrev Inv-loop : tie.InvT-loop
 Inv-loop store₀ lengths bytes buffer₀ chunk window timeout turns steps r₀ sum₀ other₀ counter₀ store buffer r sum other counter = (counter ≤ turns) × (turns < 2 ^ 64)

@@ -1,0 +1,83 @@
+-- `bench_adapter` is safe and ends: the measures are the turns left, and the messages left in a turn.
+use Prim.Native.Nat.{_-_, _≤_, _<_, _^_}
+use native.Mathlib.Omega.{arith}
+use borrow.Author.Needs.{needs}
+use Rattle.bench.specs.Turns.{fits, less, again}
+use Rattle.bench_adapter.proofs.bench_adapter.Statement.{statement}
+use Rattle.bench_adapter.proofs.bench_adapter.Tie as tie
+
+abbrev Inv-loop2 : tie.InvT-loop2
+Inv-loop2 store lengths bytes buffer₀ chunk window timeout turns steps r₀ sum₀ other i refusal waiting taken counter₀ buffer r sum counter = counter ≤ 3
+
+abbrev μ-loop2 : tie.MeasureT-loop2
+μ-loop2 store lengths bytes buffer₀ chunk window timeout turns steps r₀ sum₀ other i refusal waiting taken counter₀ buffer r sum counter = 3 - counter
+
+abbrev Inv-loop : tie.InvT-loop
+Inv-loop store₀ lengths₀ bytes buffer₀ chunk window timeout turns steps r₀ sum₀ other₀ i₀ store lengths buffer r sum other i = (i ≤ turns) × (turns < 2 ^ 64)
+
+abbrev μ-loop : tie.MeasureT-loop
+μ-loop store₀ lengths₀ bytes buffer₀ chunk window timeout turns steps r₀ sum₀ other₀ i₀ store lengths buffer r sum other i = turns - i
+
+add-counter : tie.Need-add-counter Inv-loop2 μ-loop2 Inv-loop μ-loop
+add-counter c = record { fits = fits _ 3 (c .before .before .before .before .before .before .before .loop2-test .taken) (omega arith) }
+
+loop2-less : tie.Need-loop2-less Inv-loop2 μ-loop2 Inv-loop μ-loop
+loop2-less c = less _ _ (c .before .before .before .before .before .before .before .loop2-test .taken)
+
+loop2-again : tie.Need-loop2-again Inv-loop2 μ-loop2 Inv-loop μ-loop
+loop2-again c = again _ _ (c .before .before .before .before .before .before .before .loop2-test .taken)
+
+add-i : tie.Need-add-i Inv-loop2 μ-loop2 Inv-loop μ-loop
+add-i c = record { fits = fits _ _ (c .before .before .before .before .before .before .before .before .before .before .before .before .before .before .before .before .before .before .before .before .before .before .before .before .before .before .before .before .before .before .before .before .before .before .before .before .loop-test .taken) (c .before .before .before .before .before .before .before .before .before .before .before .before .before .before .before .before .before .before .before .before .before .before .before .before .before .before .before .before .before .before .before .before .before .before .before .before .before .loop .inv .1) }
+
+loop-less : tie.Need-loop-less Inv-loop2 μ-loop2 Inv-loop μ-loop
+loop-less c = less _ _ (c .before .before .before .before .before .before .before .before .before .before .before .before .before .before .before .before .before .before .before .before .before .before .before .before .before .before .before .before .before .before .before .before .before .before .before .before .loop-test .taken)
+
+loop-again : tie.Need-loop-again Inv-loop2 μ-loop2 Inv-loop μ-loop
+loop-again c = (again _ _ (c .before .before .before .before .before .before .before .before .before .before .before .before .before .before .before .before .before .before .before .before .before .before .before .before .before .before .before .before .before .before .before .before .before .before .before .before .loop-test .taken), c .before .before .before .before .before .before .before .before .before .before .before .before .before .before .before .before .before .before .before .before .before .before .before .before .before .before .before .before .before .before .before .before .before .before .before .before .before .loop .inv .1)
+
+pub bench-adapter-spec : {M : Type 1} → statement M
+bench-adapter-spec =
+    tie.close
+    (tie.spec
+    Inv-loop2
+    μ-loop2
+    Inv-loop
+    μ-loop
+    (λ c κs. tt)
+    (λ c κs. tt)
+    (search needs)
+    (λ c κs. tt)
+    (λ c κs. tt)
+    (λ c κs. tt)
+    (λ c κs. tt)
+    (λ c κs. tt)
+    (λ c κs. tt)
+    (λ c κs. tt)
+    (λ c κs. tt)
+    (λ c κs. tt)
+    (λ c κs. tt)
+    (λ c κs. tt)
+    (λ c κs. tt)
+    (λ c κs. tt)
+    (search needs)
+    (λ c κs. tt)
+    (λ c κs. tt)
+    (λ c κs. tt)
+    add-counter
+    loop2-less
+    loop2-again
+    (λ c κs. tt)
+    (λ c κs. tt)
+    (λ c κs. tt)
+    (λ c κs. tt)
+    (λ c κs. tt)
+    (λ c κs. tt)
+    (λ c κs. tt)
+    (λ c κs. tt)
+    (λ c κs. tt)
+    add-i
+    loop-less
+    loop-again
+    (λ c κs. tt)
+    (λ c. tt))
