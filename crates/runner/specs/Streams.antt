@@ -125,7 +125,7 @@ isTaken (Admission.Refused x) r = false
 isTaken Admission.Stale r = false
 isTaken Admission.Own r = not (r .flags .finished)
 
--- what one is answered that is not, where the call is not refused by 12, 10 or 11 either
+-- the answer to one that is not: of a call that meets none of refusals 12, 10 and 11, and of any
 abbrev pub metBy : Admission → Received
 metBy (Admission.Refused x) = Refused x
 metBy Admission.Stale = Receipt Stale

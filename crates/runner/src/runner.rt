@@ -528,7 +528,8 @@ impl Runner {
         self.refused()
     }
 
-    // Fires the timers whose instants `now` has reached. What they do not move is left in its place.
+    // Fires the timers whose instants `now` has reached. They are handed a copy, and what they do not move is left in its place, so
+    // that a tick with nothing due copies nothing.
     pub fn tick(mut self, now: u64) -> Noting
         ensures { λ r. ⌜ r ≡ tick self now ⌝ }
     {
