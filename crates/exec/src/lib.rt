@@ -535,6 +535,16 @@ impl Deadline {
         Deadline::Never
     }
 
+    // The same, made anew. A copy has the bytes between tag and instant too, which cost more to move than it does.
+    pub fn again(self) -> Deadline
+        ensures { λ r. ⌜ r ≡ self ⌝ }
+    {
+        match self {
+            Deadline::Never => Deadline::Never,
+            Deadline::At(at) => Deadline::At(at),
+        }
+    }
+
     // The instant `duration` after this one.
     pub fn then(self, duration: u64) -> Deadline
         ensures { λ r. ⌜ r ≡ then self duration ⌝ }

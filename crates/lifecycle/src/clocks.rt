@@ -78,6 +78,23 @@ impl Clocks {
         }
     }
 
+    // The same, made anew (`Deadline::again`).
+    pub fn again(self) -> Clocks
+        ensures { λ r. ⌜ r ≡ self ⌝ }
+    {
+        let timeout_at = self.timeout_at;
+        let grace_until = self.grace_until;
+        let give_up_at = self.give_up_at;
+        let abandon_at = self.abandon_at;
+        Clocks {
+            timeout_at: timeout_at.again(),
+            grace_until: grace_until.again(),
+            give_up_at: give_up_at.again(),
+            abandon_at: abandon_at.again(),
+            terminated: self.terminated,
+        }
+    }
+
     // A termination at `now`: no timeout any more, a grace for pending output, and the time to give up after that.
     pub fn terminate(self, now: u64, grace: u64, settlement: u64) -> Clocks
         ensures { λ r. ⌜ r ≡ terminateClocks self now grace settlement ⌝ }

@@ -150,6 +150,18 @@ impl Settling {
         }
     }
 
+    // The same, made anew (`Deadline::again`).
+    pub fn again(self) -> Settling
+        ensures { λ r. ⌜ r ≡ self ⌝ }
+    {
+        match self {
+            Settling::Idle => Settling::Idle,
+            Settling::Requested(by) => Settling::Requested(by.again()),
+            Settling::Settled => Settling::Settled,
+            Settling::Fenced => Settling::Fenced,
+        }
+    }
+
     // Whether the result that was requested is late.
     pub fn late(self, now: u64) -> bool
         ensures { λ r. ⌜ r ≡ settlingLate self now ⌝ }
@@ -211,13 +223,14 @@ impl Settling {
 }
 
 pub struct Life {
-    pub launch: Launch,
     pub exit: Exit,
     // Why the runner ended the workload, if it did.
     pub cause: MaybeCause,
     // The request to end the workload, while it waits to be returned.
     pub terminate_request: MaybeCause,
     pub settling: Settling,
+    // No timer moves it, so it stands apart from what they move.
+    pub launch: Launch,
 }
 
 impl Life {
@@ -267,6 +280,14 @@ impl Life {
             terminate_request,
             settling,
         }
+    }
+
+    // The same, with its deadline made anew (`Deadline::again`).
+    pub fn again(self) -> Life
+        ensures { λ r. ⌜ r ≡ self ⌝ }
+    {
+        let settling = self.settling;
+        self.set_settling(settling.again())
     }
 
     // The runner ends the workload for `cause`; one that has ended needs no end, and gets no cause.

@@ -10,6 +10,8 @@ use Rattle.exec.specs.declared.Reply.{Reply}
 use Rattle.exec.specs.declared.Reply.the-variants as Reply
 use Rattle.exec.specs.Time.{due}
 use Rattle.credit.specs.RangeLaws.{both}
+use Rattle.lifecycle.specs.declared.clocks.Clocks.{Clocks}
+use Rattle.lifecycle.specs.declared.life.Life.{Life}
 use Rattle.lifecycle.specs.Clocks.{clocksDue, timeout-waits, grace-waits, give-up-waits, abandon-waits}
 use Rattle.lifecycle.specs.Life.{settlingLate, expired-in-time, isFenced}
 use Rattle.lifecycle.specs.Setters.{setSettling, setTimeoutAt, setGiveUpAt}
@@ -153,12 +155,13 @@ in-fire r now =
 -- ---- tick, from its tests and what they found
 
 module _ (r : Runner) (now : ℕ) (good due : Bool) (x : Reply) (hg : good ≡ isGood r true) (hd : due ≡ anyDue r now) where
-  pub tick-due : (r′ : Runner) → (good && due) ≡ true → x ≡ cond good Reply.Ok (Reply.Refused (stop r)) → r′ ≡ fire r now
-      → _≡_ {A = Noting} (record { runner = inPlace r′ r; reply = x }) (tick r now)
+  pub tick-due : (r′ : Runner) (cs : Clocks) (l : Life) → (good && due) ≡ true → x ≡ cond good Reply.Ok (Reply.Refused (stop r))
+      → r′ ≡ fire r now → cs ≡ r′ .clocks → l ≡ r′ .life
+      → _≡_ {A = Noting} (record { runner = with cs l (r′ .flags) (r′ .input) (r′ .outputs) r; reply = x }) (tick r now)
   unfolding tick
-  tick-due r′ t hx e =
+  tick-due r′ cs l t hx e hc hl =
       let b = both good due t in
-      rw (hx, e, ← hg, b .0, in-fire r now, busy r now (sym hd ∙ b .1))
+      rw (hc, hl, hx, e, ← hg, b .0, in-fire r now, busy r now (sym hd ∙ b .1))
 
   pub tick-quiet : (good && due) ≡ false → x ≡ cond good Reply.Ok (Reply.Refused (stop r))
       → _≡_ {A = Noting} (record { runner = r; reply = x }) (tick r now)

@@ -538,8 +538,10 @@ impl Runner {
         if good & self.any_due(now) {
             let before = self;
             let after = before.fire(now);
-            let clocks = after.clocks;
-            let life = after.life;
+            let fired = after.clocks;
+            let clocks = fired.again();
+            let lived = after.life;
+            let life = lived.again();
             let flags = after.flags;
             let input = after.input;
             let outputs = after.outputs;

@@ -6,7 +6,7 @@ use Rattle.runner.proofs.runner.Runner.tick.Statement.{statement}
 use Rattle.runner.proofs.runner.Runner.tick.Tie as tie
 
 returns : tie.Need-returns
-returns c = tick-due _ _ _ _ _ (c .before .before .before .before .before .before .before .before .before .is-good .ensures) (c .before .before .before .before .before .before .before .any-due .ensures) _ (c .before .before .before .before .before .before .if1 .taken) (c .before .before .before .before .before .before .before .before .reply .ensures) (c .before .before .before .before .before .fire .ensures)
+returns c = tick-due _ _ _ _ _ (c .before .before .before .before .before .before .before .before .before .before .before .is-good .ensures) (c .before .before .before .before .before .before .before .before .before .any-due .ensures) _ _ _ (c .before .before .before .before .before .before .before .before .if1 .taken) (c .before .before .before .before .before .before .before .before .before .before .reply .ensures) (c .before .before .before .before .before .before .before .fire .ensures) (c .before .before .before .before .before .again .ensures) (c .before .before .before .again2 .ensures)
 
 returns-2 : tie.Need-returns-2
 returns-2 c = tick-quiet _ _ _ _ _ (c .before .before .before .is-good .ensures) (c .before .any-due .ensures) (c .if1 .left) (c .before .before .reply .ensures)
@@ -14,4 +14,4 @@ returns-2 c = tick-quiet _ _ _ _ _ (c .before .before .before .is-good .ensures)
 pub tick-spec : {M : Type 1} → statement M
 tick-spec =
     tie.close
-    (tie.spec (λ c κs. search needs) (λ c κs. search needs) (λ c κs. search needs) (λ c κs. search needs) returns returns-2)
+    (tie.spec (λ c κs. search needs) (λ c κs. search needs) (λ c κs. search needs) (λ c κs. search needs) (λ c κs. search needs) (λ c κs. search needs) returns returns-2)
