@@ -535,7 +535,7 @@ impl Deadline {
         Deadline::Never
     }
 
-    // The same, made anew. A copy has the bytes between tag and instant too, which cost more to move than it does.
+    // The same, made anew: a copy would move the bytes between its tag and its instant too (docs/DECISIONS.md, Speed).
     pub fn again(self) -> Deadline
         ensures { λ r. ⌜ r ≡ self ⌝ }
     {

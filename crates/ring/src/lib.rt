@@ -26,9 +26,10 @@ pub fn advance(size: usize, start: usize, n: usize) -> usize
     if n < run { start + n } else { n - run }
 }
 
-// The most bytes of a copy by a plain loop, which is the quickest for few, and those of a block otherwise.
+// A copy of fewer bytes goes by one plain loop, which is the quickest for them.
 const FEW: usize = 256;
 
+// A longer one goes by blocks of so many.
 const BLOCK: usize = 4096;
 
 // What copy_in does, by one plain loop.
