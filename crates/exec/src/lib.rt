@@ -11,6 +11,8 @@ ghost use Rattle.exec.specs.Limits.{
   cost,
   bytesWith,
   isValid,
+  limitsOf,
+  noLimits,
   newLimits,
   sharedOutput,
   checkChunk,
@@ -182,16 +184,32 @@ impl Limits {
     pub fn new(chunk: u32, input: Window, output: Window) -> NewLimits
         ensures { λ r. ⌜ r ≡ newLimits chunk input output ⌝ }
     {
-        let limits = Limits {
-            chunk,
-            input,
-            output,
-            shared: false,
-        };
+        let limits = Limits::of(chunk, input, output, false);
         if limits.is_valid() {
             return NewLimits::Made(limits);
         }
         NewLimits::Refused(Refusal::NoLimits)
+    }
+
+    // Limits of any numbers, valid or not: `open` looks at them.
+    pub fn of(chunk: u32, input: Window, output: Window, shared: bool) -> Limits
+        ensures { λ r. ⌜ r ≡ limitsOf chunk input output shared ⌝ }
+    {
+        Limits {
+            chunk,
+            input,
+            output,
+            shared,
+        }
+    }
+
+    // Limits that are none.
+    pub fn none() -> Limits
+        ensures { λ r. ⌜ r ≡ noLimits ⌝ }
+    {
+        let input = Window::bytes(0);
+        let output = Window::bytes(0);
+        Limits::of(0, input, output, false)
     }
 
     // Whether neither the chunk nor a window is 0.
