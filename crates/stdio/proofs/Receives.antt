@@ -24,6 +24,7 @@ use Rattle.credit.specs.declared.receiver.Granted.{Granted}
 use Rattle.credit.specs.Inbox.{PushAfter, pushAfter, push, PopAfter, popAfter, pop}
 use Rattle.credit.specs.Receiver.{charge, freed}
 use Rattle.stdio.specs.declared.input.Input.{Input}
+use Rattle.stdio.specs.Setters.{setInbox, setWindow}
 use Rattle.stdio.specs.Input.{closeWhenTaken, peerEnds, endInput, endAnswer, inputEnded, isPaid, Paid, receiveAnswer, receiveInput, receiveBytes, receiveLengths, receiveAfter, receive, writtenInput, writtenLengths, writtenAfter, written}
 
 or-true : (b : Bool) → (b || true) ≡ false → ⊥
@@ -97,7 +98,7 @@ module _ (l : Limits) (i : Input) (bytes store lengths : List ℕ) where
     opens = simp (p .window) at paid
 
     pub receive-late : i .closed ≡ true
-        → receiveAfter (record { input = record { inbox = i .inbox; window = g; «peer_ended» = i .«peer_ended»; closed = i .closed; «close_requested» = i .«close_requested»; «closed_message» = i .«closed_message» }; received = Receipt Late }) store lengths
+        → receiveAfter (record { input = setWindow g i; received = Receipt Late }) store lengths
         ≡ receive l i bytes store lengths
     unfolding receiveInput receiveBytes receiveLengths receiveAnswer
     receive-late h =
@@ -106,7 +107,7 @@ module _ (l : Limits) (i : Input) (bytes store lengths : List ℕ) where
 
     pub receive-kept : (b : Inbox) (store′ lengths′ : List ℕ) → i .closed ≡ false
         → pushAfter b store′ lengths′ ≡ push l (i .inbox) bytes store lengths
-        → receiveAfter (record { input = record { inbox = b; window = g; «peer_ended» = i .«peer_ended»; closed = i .closed; «close_requested» = i .«close_requested»; «closed_message» = i .«closed_message» }; received = Receipt Applied }) store′ lengths′
+        → receiveAfter (record { input = setInbox b (setWindow g i); received = Receipt Applied }) store′ lengths′
         ≡ receive l i bytes store lengths
     unfolding receiveInput receiveBytes receiveLengths receiveAnswer push
     receive-kept b store′ lengths′ h e =
@@ -139,7 +140,7 @@ module _ (l : Limits) (i : Input) (count : ℕ) (lengths : List ℕ) where
 
   pub written-open : (p : Popping) (left : List ℕ) (g : Granted) (r : Input) → i .closed ≡ false
       → popAfter p left ≡ pop l (i .inbox) count lengths → g ≡ freed (i .window) (p .freed)
-      → r ≡ closeWhenTaken (record { inbox = p .inbox; window = g; «peer_ended» = i .«peer_ended»; closed = i .closed; «close_requested» = i .«close_requested»; «closed_message» = i .«closed_message» })
+      → r ≡ closeWhenTaken (setInbox (p .inbox) (setWindow g i))
       → writtenAfter r left ≡ written l i count lengths
   unfolding writtenInput writtenLengths pop
   written-open p left g r h e hg hr =

@@ -20,6 +20,7 @@ use Rattle.credit.specs.Receiver.{newGranted, opened, freed}
 use Rattle.stdio.specs.declared.input.Crediting.{Crediting}
 use Rattle.stdio.specs.declared.input.Input.{Input}
 use Rattle.stdio.specs.declared.input.Receiving.{Receiving}
+use Rattle.stdio.specs.Setters.{setInbox, setWindow, setPeerEnded, setInputClosed, setCloseRequested, setClosedMessage}
 
 abbrev pub newInput : ℕ → Input
 newInput size = record {
@@ -40,14 +41,7 @@ abbrev pub canGrant : Input → Bool
 canGrant i = inputAccepts i && ltb 0 (i .window .returnable)
 
 abbrev pub grantedIn : Input → Input
-grantedIn i = record {
-  inbox = i .inbox;
-  window = opened (i .window);
-  «peer_ended» = i .«peer_ended»;
-  closed = i .closed;
-  «close_requested» = i .«close_requested»;
-  «closed_message» = i .«closed_message»;
-}
+grantedIn i = setWindow (opened (i .window)) i
 
 abbrev pub takeCredit : Input → Crediting
 takeCredit i = record { input = grantedIn i; units = i .window .returnable }
@@ -56,28 +50,15 @@ takeCredit i = record { input = grantedIn i; units = i .window .returnable }
 
 -- other than by the runner's request: what waits is dropped, and the peer told unless it ended the input or is gone
 abbrev pub closeInput : Input → Bool → Input
-closeInput i detached = cond (i .closed) i (record {
-  inbox = newInbox;
-  window = i .window;
-  «peer_ended» = i .«peer_ended»;
-  closed = true;
-  «close_requested» = i .«close_requested»;
-  «closed_message» = not (i .«peer_ended») && not detached;
-})
+closeInput i detached =
+    cond (i .closed) i (setInbox newInbox (setInputClosed true (setClosedMessage (not (i .«peer_ended») && not detached) i)))
 
 -- by the runner's request, once the peer ended the input and the workload took every byte
 abbrev pub isTaken : Input → Bool
 isTaken i = (i .«peer_ended» && not (i .closed)) && eqb (i .inbox .length) 0
 
 abbrev pub closeWhenTaken : Input → Input
-closeWhenTaken i = record {
-  inbox = i .inbox;
-  window = i .window;
-  «peer_ended» = i .«peer_ended»;
-  closed = isTaken i || i .closed;
-  «close_requested» = isTaken i || i .«close_requested»;
-  «closed_message» = i .«closed_message»;
-}
+closeWhenTaken i = setInputClosed (isTaken i || i .closed) (setCloseRequested (isTaken i || i .«close_requested») i)
 
 -- ---- bytes from the peer: Ended, Chunk, Window, then closed, where the charge stands and the answer is Late
 
@@ -128,17 +109,12 @@ module _ (P : Received → Bool) (refused : (x : Refusal) → P (Refused x) ≡ 
   asked-of l i n = asked-by (i .«peer_ended») (offChunk l n) (ltb (i .window .open) (cost (l .input .unit) n)) (i .closed)
 
 unfoldable pub receiveInput : Limits → Input → ℕ → Input
-receiveInput l i n = record {
-  inbox = cond (isKept l i n) (pushed (l .input .unit) n (i .inbox)) (i .inbox);
-  window = record {
-    «open» = cond (isPaid l i n) (i .window .open - cost (l .input .unit) n) (i .window .open);
-    returnable = i .window .returnable;
-  };
-  «peer_ended» = i .«peer_ended»;
-  closed = i .closed;
-  «close_requested» = i .«close_requested»;
-  «closed_message» = i .«closed_message»;
-}
+receiveInput l i n =
+    setInbox (cond (isKept l i n) (pushed (l .input .unit) n (i .inbox)) (i .inbox))
+    (setWindow (record {
+      «open» = cond (isPaid l i n) (i .window .open - cost (l .input .unit) n) (i .window .open);
+      returnable = i .window .returnable;
+    }) i)
 
 unfoldable pub receiveBytes : Limits → Input → (bytes store : List ℕ) → List ℕ
 receiveBytes l i bytes store =
@@ -175,14 +151,7 @@ pub record Lent (l : Limits) (i : Input) (store lengths : List ℕ) : Type 0 whe
 -- ---- the peer's end of the input
 
 abbrev pub peerEnds : Input → Input
-peerEnds i = record {
-  inbox = i .inbox;
-  window = i .window;
-  «peer_ended» = true;
-  closed = i .closed;
-  «close_requested» = i .«close_requested»;
-  «closed_message» = i .«closed_message»;
-}
+peerEnds i = setPeerEnded true i
 
 unfoldable pub endAnswer : Input → Received
 endAnswer i = cond (i .«peer_ended») (Refused Refusal.Ended) (cond (i .closed) (Receipt Late) (Receipt Applied))
@@ -199,14 +168,9 @@ unfoldable pub pendingInput : Limits → Input → List ℕ → List ℕ
 pendingInput l i store = cond (i .closed) [] (front l (i .inbox) store)
 
 abbrev pub popIn : Limits → ℕ → List ℕ → Input → Input
-popIn l count lengths i = record {
-  inbox = poppedBox l (min count (i .inbox .length)) (popFreed l (i .inbox) count lengths) (i .inbox);
-  window = freed (i .window) (popFreed l (i .inbox) count lengths);
-  «peer_ended» = i .«peer_ended»;
-  closed = i .closed;
-  «close_requested» = i .«close_requested»;
-  «closed_message» = i .«closed_message»;
-}
+popIn l count lengths i =
+    setInbox (poppedBox l (min count (i .inbox .length)) (popFreed l (i .inbox) count lengths) (i .inbox))
+    (setWindow (freed (i .window) (popFreed l (i .inbox) count lengths)) i)
 
 unfoldable pub writtenInput : Limits → Input → ℕ → List ℕ → Input
 writtenInput l i count lengths = cond (i .closed) i (closeWhenTaken (popIn l count lengths i))
@@ -234,21 +198,7 @@ pub record Writable (l : Limits) (i : Input) (lengths : List ℕ) : Type 0 where
 -- ---- what was returned
 
 abbrev pub messageTold : Input → Input
-messageTold i = record {
-  inbox = i .inbox;
-  window = i .window;
-  «peer_ended» = i .«peer_ended»;
-  closed = i .closed;
-  «close_requested» = i .«close_requested»;
-  «closed_message» = false;
-}
+messageTold i = setClosedMessage false i
 
 abbrev pub closeAsked : Input → Input
-closeAsked i = record {
-  inbox = i .inbox;
-  window = i .window;
-  «peer_ended» = i .«peer_ended»;
-  closed = i .closed;
-  «close_requested» = false;
-  «closed_message» = i .«closed_message»;
-}
+closeAsked i = setCloseRequested false i

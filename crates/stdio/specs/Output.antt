@@ -12,6 +12,7 @@ use Rattle.credit.specs.RangeLaws.{both, ring-start, ring-below, ring-valid}
 use Rattle.ring.specs.Ring.{wrap, ringRead, ringWrite}
 use Rattle.stdio.specs.declared.output.Intake.{Intake}
 use Rattle.stdio.specs.declared.output.Output.{Output}
+use Rattle.stdio.specs.Setters.{setStart, setQueued, setClosed, setHungUp, setEnded, setDiscarding, setDiscardRequested, setTruncated}
 
 abbrev pub newOutput : Output
 newOutput = record {
@@ -36,126 +37,51 @@ isHeld o = not (o .closed) && not (o .«hung_up»)
 abbrev pub isDelivered : Bool → Output → Bool
 isDelivered detached o = isDone o && (o .ended || detached)
 
+-- truncated if bytes were lost
+abbrev pub lostOut : Bool → Output → Output
+lostOut lost o = setTruncated (lost || o .truncated) o
+
 -- ---- the runner's own changes
+
+-- the queue dropped: what was in it is lost
+abbrev emptied : Output → Output
+emptied o = lostOut (ltb 0 (o .queued)) (setStart 0 (setQueued 0 o))
 
 -- the queue dropped, and the rest of the stream to be discarded if it is open
 abbrev pub graceEnded : Output → Output
-graceEnded o = record {
-  start = 0;
-  queued = 0;
-  closed = o .closed;
-  «hung_up» = o .«hung_up»;
-  ended = o .ended;
-  discarding = o .discarding || not (o .closed);
-  «discard_requested» = (not (o .closed) && not (o .discarding)) || o .«discard_requested»;
-  truncated = ltb 0 (o .queued) || o .truncated;
-}
+graceEnded o =
+    setDiscarding (o .discarding || not (o .closed))
+    (setDiscardRequested ((not (o .closed) && not (o .discarding)) || o .«discard_requested») (emptied o))
 
 -- the queue dropped, and the stream closed, truncated if it was open
 abbrev pub givenUp : Output → Output
-givenUp o = record {
-  start = 0;
-  queued = 0;
-  closed = true;
-  «hung_up» = o .«hung_up»;
-  ended = o .ended;
-  discarding = o .discarding;
-  «discard_requested» = o .«discard_requested»;
-  truncated = not (o .closed) || (ltb 0 (o .queued) || o .truncated);
-}
+givenUp o = lostOut (not (o .closed)) (setClosed true (emptied o))
 
 -- closed and truncated, unless the stream closed or hung up
 abbrev pub abandoned : Output → Output
-abandoned o = record {
-  start = o .start;
-  queued = o .queued;
-  closed = o .closed || not (o .«hung_up»);
-  «hung_up» = o .«hung_up»;
-  ended = o .ended;
-  discarding = o .discarding;
-  «discard_requested» = o .«discard_requested»;
-  truncated = not (o .closed || o .«hung_up») || o .truncated;
-}
+abandoned o = lostOut (not (o .closed || o .«hung_up»)) (setClosed (o .closed || not (o .«hung_up»)) o)
 
 -- the end was told
 abbrev pub endedOut : Output → Output
-endedOut o = record {
-  start = o .start;
-  queued = o .queued;
-  closed = o .closed;
-  «hung_up» = o .«hung_up»;
-  ended = true;
-  discarding = o .discarding;
-  «discard_requested» = o .«discard_requested»;
-  truncated = o .truncated;
-}
+endedOut o = setEnded true o
 
 -- the request to discard was handed out
 abbrev pub askedOut : Output → Output
-askedOut o = record {
-  start = o .start;
-  queued = o .queued;
-  closed = o .closed;
-  «hung_up» = o .«hung_up»;
-  ended = o .ended;
-  discarding = o .discarding;
-  «discard_requested» = false;
-  truncated = o .truncated;
-}
+askedOut o = setDiscardRequested false o
 
 -- ---- what the adapter reports
 
 -- every writer closed the stream
 abbrev pub closedOut : Output → Output
-closedOut o = record {
-  start = o .start;
-  queued = o .queued;
-  closed = true;
-  «hung_up» = o .«hung_up»;
-  ended = o .ended;
-  discarding = o .discarding;
-  «discard_requested» = o .«discard_requested»;
-  truncated = o .truncated;
-}
+closedOut o = setClosed true o
 
 -- reading the stream failed
 abbrev pub failedOut : Output → Output
-failedOut o = record {
-  start = o .start;
-  queued = o .queued;
-  closed = true;
-  «hung_up» = o .«hung_up»;
-  ended = o .ended;
-  discarding = o .discarding;
-  «discard_requested» = o .«discard_requested»;
-  truncated = true;
-}
+failedOut o = setTruncated true (setClosed true o)
 
 -- every writer closed it, though it is not read to its end
 abbrev pub hungUp : Output → Output
-hungUp o = record {
-  start = o .start;
-  queued = o .queued;
-  closed = o .closed;
-  «hung_up» = true;
-  ended = o .ended;
-  discarding = o .discarding;
-  «discard_requested» = o .«discard_requested»;
-  truncated = o .truncated;
-}
-
--- whether bytes were read and dropped
-abbrev pub lostOut : Bool → Output → Output
-lostOut lost o = record {
-  start = o .start;
-  queued = o .queued;
-  closed = o .closed;
-  «hung_up» = o .«hung_up»;
-  ended = o .ended;
-  discarding = o .discarding;
-  «discard_requested» = o .«discard_requested»;
-  truncated = lost || o .truncated;
-}
+hungUp o = setHungUp true o
 
 -- ---- bytes from the workload; shut is closed or given up
 
@@ -194,16 +120,7 @@ keeps-fit false false room n = omega arith
 
 -- so many more queued, and whether any were lost
 abbrev pub filled : ℕ → Bool → Output → Output
-filled kept lost o = record {
-  start = o .start;
-  queued = o .queued + kept;
-  closed = o .closed;
-  «hung_up» = o .«hung_up»;
-  ended = o .ended;
-  discarding = o .discarding;
-  «discard_requested» = o .«discard_requested»;
-  truncated = lost || o .truncated;
-}
+filled kept lost o = lostOut lost (setQueued (o .queued + kept) o)
 
 -- n bytes came
 abbrev pub intake : (shut discarding : Bool) (room n : ℕ) → Output → Output
@@ -231,16 +148,7 @@ takenIn o gaveUp base chunk bytes store =
 
 -- n bytes left the queue
 abbrev pub sentOut : (chunk n : ℕ) → Output → Output
-sentOut chunk n o = record {
-  start = wrap chunk (o .start + n);
-  queued = o .queued - n;
-  closed = o .closed;
-  «hung_up» = o .«hung_up»;
-  ended = o .ended;
-  discarding = o .discarding;
-  «discard_requested» = o .«discard_requested»;
-  truncated = o .truncated;
-}
+sentOut chunk n o = setStart (wrap chunk (o .start + n)) (setQueued (o .queued - n) o)
 
 -- what a send leaves: the stream, and the buffer
 pub record SendAfter : Type 0 where
