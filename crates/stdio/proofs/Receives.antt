@@ -6,7 +6,7 @@ use Prim.Native.Nat.{ℕ, _-_, _≤_}
 use native.Mathlib.Decide.{decLt}
 use native.Mathlib.Omega.{arith}
 use mathlib.Core.List.{List}
-use lib.Dec.{ltb, eqb}
+use lib.Dec.{eqb}
 use borrow.Author.Tests.{lt-ltb}
 use lib.ListN.{length}
 use Rattle.exec.specs.declared.ChunkLength.{ChunkLength}
@@ -25,7 +25,7 @@ use Rattle.credit.specs.Inbox.{PushAfter, pushAfter, push, PopAfter, popAfter, 
 use Rattle.credit.specs.Receiver.{charge, freed}
 use Rattle.stdio.specs.declared.input.Input.{Input}
 use Rattle.stdio.specs.Setters.{setInbox, setWindow}
-use Rattle.stdio.specs.Input.{closeWhenTaken, peerEnds, endInput, endAnswer, inputEnded, isPaid, Paid, receiveAnswer, receiveInput, receiveBytes, receiveLengths, receiveAfter, receive, writtenInput, writtenLengths, writtenAfter, written}
+use Rattle.stdio.specs.Input.{closeWhenTaken, peerEnds, endInput, endAnswer, inputEnded, Paid, offWindow, receiveAnswer, receiveInput, receiveBytes, receiveLengths, receiveAfter, receive, writtenInput, writtenLengths, writtenAfter, written}
 
 or-true : (b : Bool) → (b || true) ≡ false → ⊥
 or-true true h = let z : _≡_ {A = ℕ} 0 1 = cc in omega arith
@@ -67,55 +67,54 @@ module _ (l : Limits) (i : Input) (bytes store lengths : List ℕ) where
   abbrev n : ℕ
   n = length bytes
 
-  -- a message that is not charged changes nothing
-  refused : (x : Refusal) → isPaid l i n ≡ false → receiveAnswer l i n ≡ Refused x
+  -- a message that is refused changes nothing
+  refused : (x : Refusal) → receiveAnswer l i n ≡ Refused x
       → receiveAfter (record { input = i; received = Refused x }) store lengths ≡ receive l i bytes store lengths
   unfolding receiveInput receiveBytes receiveLengths
-  refused x p a = rw (a, p)
+  refused x a = rw a
 
   pub receive-ended : i .«peer_ended» ≡ true
       → receiveAfter (record { input = i; received = Refused Refusal.Ended }) store lengths ≡ receive l i bytes store lengths
   unfolding receiveAnswer
-  receive-ended h = refused Refusal.Ended (simp h) (simp h)
+  receive-ended h = refused Refusal.Ended (simp h)
 
   pub receive-off : (x : Refusal) → i .«peer_ended» ≡ false → (offChunk l n ≡ true) × (x ≡ Refusal.Chunk)
       → receiveAfter (record { input = i; received = Refused x }) store lengths ≡ receive l i bytes store lengths
   unfolding receiveAnswer
-  receive-off x h k = refused x (simp (h, k .0)) (simp (h, k .0, k .1))
+  receive-off x h k = refused x (simp (h, k .0, k .1))
 
-  pub receive-unpaid : (x : Refusal) → i .«peer_ended» ≡ false → offChunk l n ≡ false
-      → (ltb (i .window .open) (cost (l .input .unit) n) ≡ true) × (x ≡ Refusal.Window)
+  pub receive-unpaid : (x : Refusal) → i .«peer_ended» ≡ false → offChunk l n ≡ false → (offWindow l i n ≡ true) × (x ≡ Refusal.Window)
       → receiveAfter (record { input = i; received = Refused x }) store lengths ≡ receive l i bytes store lengths
   unfolding receiveAnswer
-  receive-unpaid x h k w = refused x (simp (h, k, w .0)) (simp (h, k, w .0, w .1))
+  receive-unpaid x h k w = refused x (simp (h, k, w .0, w .1))
 
   -- one that is charged is dropped where the input is closed, and kept otherwise
   module _ (p : Paid l i n) (g : Granted) (paid : g ≡ charge (i .window) (cost (l .input .unit) n) .granted) where
-    is-paid : isPaid l i n ≡ true
-    is-paid = simp (p .goes-on, p .chunk, p .window)
-
     opens : g ≡ record { «open» = i .window .open - cost (l .input .unit) n; returnable = i .window .returnable }
     opens = simp (p .window) at paid
+
+    is-late : i .closed ≡ true → receiveAnswer l i n ≡ Receipt Late
+    unfolding receiveAnswer
+    is-late h = simp (p .goes-on, p .chunk, p .window, h)
 
     pub receive-late : i .closed ≡ true
         → receiveAfter (record { input = setWindow g i; received = Receipt Late }) store lengths
         ≡ receive l i bytes store lengths
-    unfolding receiveInput receiveBytes receiveLengths receiveAnswer
-    receive-late h =
-        let a : receiveAnswer l i n ≡ Receipt Late = simp (p .goes-on, p .chunk, p .window, h) in
-        rw (a, is-paid, h, opens)
+    unfolding receiveInput receiveBytes receiveLengths
+    receive-late h = rw (is-late h, opens)
+
+    is-applied : i .closed ≡ false → receiveAnswer l i n ≡ Receipt Applied
+    unfolding receiveAnswer
+    is-applied h = simp (p .goes-on, p .chunk, p .window, h)
 
     pub receive-kept : (b : Inbox) (store′ lengths′ : List ℕ) → i .closed ≡ false
         → pushAfter b store′ lengths′ ≡ push l (i .inbox) bytes store lengths
         → receiveAfter (record { input = setInbox b (setWindow g i); received = Receipt Applied }) store′ lengths′
         ≡ receive l i bytes store lengths
-    unfolding receiveInput receiveBytes receiveLengths receiveAnswer push
+    unfolding receiveInput receiveBytes receiveLengths push
     receive-kept b store′ lengths′ h e =
-        let a : receiveAnswer l i n ≡ Receipt Applied = simp (p .goes-on, p .chunk, p .window, h) in
         rw (
-          a,
-          is-paid,
-          h,
+          is-applied h,
           opens,
           ap (λ (x : PushAfter). x .inbox) e,
           ap (λ (x : PushAfter). x .bytes) e,

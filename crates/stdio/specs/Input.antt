@@ -6,10 +6,9 @@ use mathlib.Core.List.{List, []}
 use lib.Dec.{ltb, eqb}
 use lib.ListN.{length}
 use Rattle.exec.specs.declared.Limits.{Limits}
-use Rattle.exec.specs.declared.Receipt.the-variants.{Applied, Late}
+use Rattle.exec.specs.declared.Receipt.the-variants.{Applied, Stale, Late}
 use Rattle.exec.specs.declared.Received.{Received}
 use Rattle.exec.specs.declared.Received.the-variants.{Receipt, Refused}
-use Rattle.exec.specs.declared.Refusal.{Refusal}
 use Rattle.exec.specs.declared.Refusal.the-variants as Refusal
 use Rattle.exec.specs.Limits.{cost, inputBytes, offChunk}
 use Rattle.ring.specs.Ring.{ringWrite}
@@ -62,51 +61,33 @@ closeWhenTaken i = setInputClosed (isTaken i || i .closed) (setCloseRequested (i
 
 -- ---- bytes from the peer: Ended, Chunk, Window, then closed, where the charge stands and the answer is Late
 
+-- a message of so many bytes costs more than the window has open
+abbrev pub offWindow : Limits → Input → ℕ → Bool
+offWindow l i n = ltb (i .window .open) (cost (l .input .unit) n)
+
 unfoldable pub receiveAnswer : Limits → Input → ℕ → Received
 receiveAnswer l i n =
     cond (i .«peer_ended») (Refused Refusal.Ended)
     (cond (offChunk l n) (Refused Refusal.Chunk)
-    (cond (ltb (i .window .open) (cost (l .input .unit) n)) (Refused Refusal.Window)
+    (cond (offWindow l i n) (Refused Refusal.Window)
     (cond (i .closed) (Receipt Late) (Receipt Applied))))
 
--- the message is charged
+abbrev pub isReceipt : Received → Bool
+isReceipt (Refused x) = false
+isReceipt (Receipt x) = true
+
+abbrev pub isApplied : Received → Bool
+isApplied (Refused x) = false
+isApplied (Receipt Applied) = true
+isApplied (Receipt Stale) = false
+isApplied (Receipt Late) = false
+
+-- the message is charged unless it is refused, and kept where it is applied
 abbrev pub isPaid : Limits → Input → ℕ → Bool
-isPaid l i n = not ((i .«peer_ended» || offChunk l n) || ltb (i .window .open) (cost (l .input .unit) n))
+isPaid l i n = isReceipt (receiveAnswer l i n)
 
-pub record Paid (l : Limits) (i : Input) (n : ℕ) : Type 0 where
-  pub goes-on : i .«peer_ended» ≡ false
-  pub chunk : offChunk l n ≡ false
-  pub window : ltb (i .window .open) (cost (l .input .unit) n) ≡ false
-
-passed-by : (ended off unpaid : Bool) → not ((ended || off) || unpaid) ≡ true → (ended ≡ false) × (off ≡ false) × (unpaid ≡ false)
-passed-by true off unpaid e = absurd (false≢true e)
-passed-by false true unpaid e = absurd (false≢true e)
-passed-by false false true e = absurd (false≢true e)
-passed-by false false false e = (refl, refl, refl)
-
-pub passed : (l : Limits) (i : Input) (n : ℕ) → isPaid l i n ≡ true → Paid l i n
-passed l i n e =
-    let p = passed-by (i .«peer_ended») (offChunk l n) (ltb (i .window .open) (cost (l .input .unit) n)) e in
-    record { goes-on = p .0; chunk = p .1; window = p .2 }
-
--- and kept
 abbrev pub isKept : Limits → Input → ℕ → Bool
-isKept l i n = isPaid l i n && not (i .closed)
-
--- a question that every refusal answers no: where the message is charged, its answer is told by whether the input is closed
-module _ (P : Received → Bool) (refused : (x : Refusal) → P (Refused x) ≡ false) (told : Bool → Bool) (late : P (Receipt Late) ≡ told true) (applied : P (Receipt Applied) ≡ told false) where
-  asked-by : (ended off unpaid closed : Bool)
-      → P (cond ended (Refused Refusal.Ended) (cond off (Refused Refusal.Chunk) (cond unpaid (Refused Refusal.Window) (cond closed (Receipt Late) (Receipt Applied)))))
-      ≡ (not ((ended || off) || unpaid) && told closed)
-  asked-by true off unpaid closed = refused Refusal.Ended
-  asked-by false true unpaid closed = refused Refusal.Chunk
-  asked-by false false true closed = refused Refusal.Window
-  asked-by false false false true = late
-  asked-by false false false false = applied
-
-  pub asked-of : (l : Limits) (i : Input) (n : ℕ) → P (receiveAnswer l i n) ≡ (isPaid l i n && told (i .closed))
-  unfolding receiveAnswer
-  asked-of l i n = asked-by (i .«peer_ended») (offChunk l n) (ltb (i .window .open) (cost (l .input .unit) n)) (i .closed)
+isKept l i n = isApplied (receiveAnswer l i n)
 
 unfoldable pub receiveInput : Limits → Input → ℕ → Input
 receiveInput l i n =
@@ -147,6 +128,36 @@ pub record Lent (l : Limits) (i : Input) (store lengths : List ℕ) : Type 0 whe
   pub range : InRange l (i .window) (i .inbox)
   pub bytes : byteNeed l ≤ length store
   pub slots : lengthNeed l ≤ length lengths
+
+-- ---- the answer by its ways
+
+-- a message that is charged passed the tests
+pub record Paid (l : Limits) (i : Input) (n : ℕ) : Type 0 where
+  pub goes-on : i .«peer_ended» ≡ false
+  pub chunk : offChunk l n ≡ false
+  pub window : offWindow l i n ≡ false
+
+-- what holds of each answer that there is holds of this one
+module _ (l : Limits) (i : Input) (n : ℕ) (P : Received → Type 0) (ended : P (Refused Refusal.Ended)) (chunk : P (Refused Refusal.Chunk)) (window : P (Refused Refusal.Window)) (late : Paid l i n → P (Receipt Late)) (applied : Paid l i n → P (Receipt Applied)) where
+  by-tests : (over off unpaid closed : Bool) → (over ≡ false → off ≡ false → unpaid ≡ false → Paid l i n)
+      → P (cond over (Refused Refusal.Ended) (cond off (Refused Refusal.Chunk) (cond unpaid (Refused Refusal.Window) (cond closed (Receipt Late) (Receipt Applied)))))
+  by-tests true off unpaid closed paid = ended
+  by-tests false true unpaid closed paid = chunk
+  by-tests false false true closed paid = window
+  by-tests false false false true paid = late (paid refl refl refl)
+  by-tests false false false false paid = applied (paid refl refl refl)
+
+  pub answered : P (receiveAnswer l i n)
+  unfolding receiveAnswer
+  answered =
+      by-tests (i .«peer_ended») (offChunk l n) (offWindow l i n) (i .closed) (λ e c w. record { goes-on = e; chunk = c; window = w })
+
+module _ (l : Limits) (i : Input) (n : ℕ) where
+  pub kept-paid : isKept l i n ≡ true → isPaid l i n ≡ true
+  kept-paid = answered l i n (λ x. isApplied x ≡ true → isReceipt x ≡ true) (λ e. e) (λ e. e) (λ e. e) (λ p e. refl) (λ p e. refl)
+
+  pub passed : isPaid l i n ≡ true → Paid l i n
+  passed = answered l i n (λ x. isReceipt x ≡ true → Paid l i n) (λ e. absurd (false≢true e)) (λ e. absurd (false≢true e)) (λ e. absurd (false≢true e)) (λ p e. p) (λ p e. p)
 
 -- ---- the peer's end of the input
 
