@@ -52,12 +52,12 @@ abbrev pub closeInput : Input → Bool → Input
 closeInput i detached =
     cond (i .closed) i (setInbox newInbox (setInputClosed true (setClosedMessage (not (i .«peer_ended») && not detached) i)))
 
--- by the runner's request, once the peer ended the input and the workload took every byte
-abbrev pub isTaken : Input → Bool
-isTaken i = (i .«peer_ended» && not (i .closed)) && eqb (i .inbox .length) 0
+-- by the runner's request, once the input is used up: the peer ended it, it is open, and the workload took every byte
+abbrev pub isUsedUp : Input → Bool
+isUsedUp i = (i .«peer_ended» && not (i .closed)) && eqb (i .inbox .length) 0
 
 abbrev pub closeWhenTaken : Input → Input
-closeWhenTaken i = setInputClosed (isTaken i || i .closed) (setCloseRequested (isTaken i || i .«close_requested») i)
+closeWhenTaken i = setInputClosed (isUsedUp i || i .closed) (setCloseRequested (isUsedUp i || i .«close_requested») i)
 
 -- ---- bytes from the peer: Ended, Chunk, Window, then closed, where the charge stands and the answer is Late
 

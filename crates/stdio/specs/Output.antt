@@ -127,16 +127,16 @@ abbrev pub intake : (shut discarding : Bool) (room n : ℕ) → Output → Outpu
 intake shut d room n o = filled (keeps shut d room n) (not shut && d && ltb 0 n) o
 
 -- what the intake leaves: its answer with the stream, and the store
-pub record After : Type 0 where
+pub record IntakeAfter : Type 0 where
   pub answer : Intake
   pub bytes : List ℕ
 
-abbrev pub after : Intake → List ℕ → After
-after a bytes = record { answer = a; bytes = bytes }
+abbrev pub intakeAfter : Intake → List ℕ → IntakeAfter
+intakeAfter a bytes = record { answer = a; bytes = bytes }
 
-unfoldable pub takenIn : Output → (gaveUp : Bool) (base chunk : ℕ) (bytes store : List ℕ) → After
+unfoldable pub takenIn : Output → (gaveUp : Bool) (base chunk : ℕ) (bytes store : List ℕ) → IntakeAfter
 takenIn o gaveUp base chunk bytes store =
-    after
+    intakeAfter
     (record {
       taken = takes (o .closed || gaveUp) (o .discarding) (chunk - o .queued) (length bytes);
       output = intake (o .closed || gaveUp) (o .discarding) (chunk - o .queued) (length bytes) o;

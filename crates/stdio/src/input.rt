@@ -124,14 +124,14 @@ impl Input {
         input
     }
 
-    // Requests to close the input once the peer ended it and the workload took every byte.
+    // Requests to close the input once it is used up: the peer ended it, and the workload took every byte.
     fn close_when_taken(mut self) -> Input
         ensures { λ r. ⌜ r ≡ closeWhenTaken self ⌝ }
     {
         let inbox = self.inbox;
-        let now = (self.peer_ended & !self.closed) & (inbox.length == 0);
-        self.closed = now | self.closed;
-        self.close_requested = now | self.close_requested;
+        let used_up = (self.peer_ended & !self.closed) & (inbox.length == 0);
+        self.closed = used_up | self.closed;
+        self.close_requested = used_up | self.close_requested;
         self
     }
 

@@ -20,7 +20,7 @@ ghost use Rattle.stdio.specs.Output.{
   askedOut,
   allowance,
   filled,
-  after,
+  intakeAfter,
   takenIn,
   sendAfter,
   sent,
@@ -210,7 +210,7 @@ impl Output {
         bytes: &[u8],
     ) -> Intake
         requires { ⌜ (base + chunk ≤ length (now store)) × (self .start ≤ chunk) × (self .queued ≤ chunk) ⌝ }
-        ensures { λ r. ⌜ after r (now (store .exit)) ≡ takenIn self «gave_up» base chunk (now (bytes .entry)) (now (store .entry)) ⌝ }
+        ensures { λ r. ⌜ intakeAfter r (now (store .exit)) ≡ takenIn self «gave_up» base chunk (now (bytes .entry)) (now (store .entry)) ⌝ }
     {
         let start = self.start as usize;
         let queued = self.queued as usize;

@@ -9,7 +9,7 @@ use lib.Dec.{ltb}
 use lib.ListN.{length}
 use Rattle.ring.specs.Ring.{ringWrite}
 use Rattle.stdio.specs.declared.output.Output.{Output}
-use Rattle.stdio.specs.Output.{allowance, takes, keeps, keeps-allowed, takes-dropped, keeps-fit, filled, after, takenIn}
+use Rattle.stdio.specs.Output.{allowance, takes, keeps, keeps-allowed, takes-dropped, keeps-fit, filled, intakeAfter, takenIn}
 use Rattle.stdio.proofs.output.Output.take_in.Statement.{statement}
 use Rattle.stdio.proofs.output.Output.take_in.Tie as tie
 
@@ -37,7 +37,7 @@ taken-in : (o : Output) (gaveUp : Bool) (base chunk : ℕ) (bytes store : List �
     → left ≡ ringWrite base chunk (o .start) (o .queued) bytes kept store
     → taken ≡ cond (not (o .closed || gaveUp) && o .discarding) (length bytes) kept
     → out ≡ filled kept (not (o .closed || gaveUp) && o .discarding && ltb 0 (length bytes)) o
-    → after (record { taken = taken; output = out }) left ≡ takenIn o gaveUp base chunk bytes store
+    → intakeAfter (record { taken = taken; output = out }) left ≡ takenIn o gaveUp base chunk bytes store
 unfolding takenIn
 taken-in o gaveUp base chunk bytes store room kept taken out left hr hk hl ht ho =
     let n = length bytes in
