@@ -13,19 +13,19 @@ use Rattle.credit.specs.declared.inbox.Inbox.{Inbox}
 use Rattle.credit.specs.declared.inbox.Popping.{Popping}
 use Rattle.credit.specs.Inbox.{inboxBase, FrameAfter, frameAfter, pushedFrame, pushAfter, push, front, PopAfter, popAfter, popUnits, pop}
 
-pub push-is : (l : Limits) (b : Inbox) (bytes store lengths : List ℕ) (r : Inbox) (store′ lengths′ : List ℕ) (size : ℕ)
-    → size ≡ inputBytes l
-    → store′ ≡ ringWrite (inboxBase l) size (b .start) (b .length) bytes (length bytes) store
+pub push-is : (l : Limits) (b : Inbox) (bytes store lengths : List ℕ) (r : Inbox) (store′ lengths′ : List ℕ) (base size : ℕ)
+    → base ≡ inboxBase l → size ≡ inputBytes l
+    → store′ ≡ ringWrite base size (b .start) (b .length) bytes (length bytes) store
     → frameAfter r lengths′ ≡ pushedFrame (l .input) b (length bytes) lengths
     → pushAfter r store′ lengths′ ≡ push l b bytes store lengths
 unfolding push pushedFrame
-push-is l b bytes store lengths r store′ lengths′ size hs hw hf =
-    rw (ap (λ (x : FrameAfter). x .inbox) hf, ap (λ (x : FrameAfter). x .lengths) hf, hw, hs)
+push-is l b bytes store lengths r store′ lengths′ base size hb hs hw hf =
+    rw (ap (λ (x : FrameAfter). x .inbox) hf, ap (λ (x : FrameAfter). x .lengths) hf, hw, hb, hs)
 
-pub front-is : (l : Limits) (b : Inbox) (store r : List ℕ) (size : ℕ) → size ≡ inputBytes l
-    → r ≡ take (firstRun size (b .start) (b .length)) (drop (inboxBase l + b .start) store) → r ≡ front l b store
+pub front-is : (l : Limits) (b : Inbox) (store r : List ℕ) (base size : ℕ) → base ≡ inboxBase l → size ≡ inputBytes l
+    → r ≡ take (firstRun size (b .start) (b .length)) (drop (base + b .start) store) → r ≡ front l b store
 unfolding front
-front-is l b store r size hs hr = rw (hr, hs)
+front-is l b store r base size hb hs hr = rw (hr, hb, hs)
 
 pub pop-frames-is : (w : Window) (b : Inbox) (n : ℕ) (lengths : List ℕ) (freed next : ℕ) (left : List ℕ) → w .unit ≡ Frames
     → popped (b .frames) (w .size) (b .first) n lengths ≡ stop freed left → next ≡ wrap (w .size) (b .first + freed)

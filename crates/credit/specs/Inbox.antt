@@ -1,6 +1,6 @@
--- The inbox: the waiting bytes in a ring of the byte store behind the two output rings, and in Frames the bytes left of each
--- frame in a ring of the length store.
-use Prim.Native.Nat.{ℕ, _+_, _-_, _*_, min}
+-- The inbox: the waiting bytes in a ring of the byte store behind the rings of the output streams, and in Frames the bytes
+-- left of each frame in a ring of the length store.
+use Prim.Native.Nat.{ℕ, _+_, _-_, min}
 use mathlib.Core.List.{List}
 use lib.ListN.{length, take, drop, set}
 use Rattle.exec.specs.declared.Limits.{Limits}
@@ -12,6 +12,7 @@ use Rattle.ring.specs.Ring.{wrap, firstRun, ringWrite}
 use Rattle.ring.specs.Frames.{popped}
 use Rattle.credit.specs.declared.inbox.Inbox.{Inbox}
 use Rattle.credit.specs.declared.inbox.Popping.{Popping}
+use Rattle.credit.specs.Need.{ringsOf}
 
 abbrev pub newInbox : Inbox
 newInbox = record { start = 0; length = 0; first = 0; frames = 0 }
@@ -23,7 +24,7 @@ inboxHeld Frames b = b .frames
 
 -- where the inbox's ring begins in the byte store
 abbrev pub inboxBase : Limits → ℕ
-inboxBase l = 2 * l .chunk
+inboxBase l = ringsOf l
 
 -- ---- push: the bytes behind those that wait, and in Frames their number behind those of the other frames
 

@@ -176,7 +176,7 @@ module _ (l : Limits) (g : Granted) (b : Inbox) (r : InRange l g b) where
         waiting = is-waiting store bytes;
         room = room;
         frame = record {
-          counts = omega (arith, room, need-fits (l .input .unit) hc hs);
+          counts = omega (arith, room, need-fits l hc hs);
           small = omega arith;
           slots = slots-do lengths need;
           first = r .frames .first;

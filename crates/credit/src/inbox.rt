@@ -16,6 +16,7 @@ ghost use Rattle.credit.specs.Inbox.{
   popUnits,
 };
 ghost use Rattle.credit.specs.Range.{ringFits, framesFit, inboxFits, inboxWithin, Pushable, FrameRoom, Waiting, Poppable, Slots};
+use crate::need::rings;
 use crate::receiver::Granted;
 use exec::Limits;
 use exec::Unit;
@@ -69,7 +70,7 @@ impl Inbox {
         requires { ⌜ Pushable limits self (length (now bytes)) (now store) (now lengths) ⌝ }
         ensures { λ r. ⌜ pushAfter r (now (store .exit)) (now (lengths .exit)) ≡ push limits self (now (bytes .entry)) (now (store .entry)) (now (lengths .entry)) ⌝ }
     {
-        let base = 2 * (limits.chunk as usize);
+        let base = rings(limits);
         let size = limits.input_bytes();
         let start = self.start;
         let held = self.length;
@@ -105,7 +106,7 @@ impl Inbox {
         requires { ⌜ Waiting limits self (now store) ⌝ }
         ensures { λ r. ⌜ now r ≡ front limits self (now (store .entry)) ⌝ }
     {
-        let base = 2 * (limits.chunk as usize);
+        let base = rings(limits);
         let size = limits.input_bytes();
         let start = self.start;
         let held = self.length;

@@ -1,15 +1,22 @@
 // What an execution needs of the stores that it is lent.
 ghost use mathlib.Core.Path.{_≡_};
-ghost use Rattle.credit.specs.Need.{byteNeed, lengthNeed};
+ghost use Rattle.credit.specs.Need.{ringsOf, byteNeed, lengthNeed};
 use exec::Limits;
 use exec::Unit;
 
-// The bytes: a ring of a chunk for each output stream, and the inbox.
+// The bytes that the rings of the output streams take: a chunk for each stream.
+pub fn rings(limits: Limits) -> usize
+    ensures { λ r. ⌜ r ≡ ringsOf limits ⌝ }
+{
+    let chunk = limits.chunk as usize;
+    chunk + chunk
+}
+
+// The bytes: the rings of the output streams, and the inbox.
 pub fn byte_need(limits: Limits) -> usize
     ensures { λ r. ⌜ r ≡ byteNeed limits ⌝ }
 {
-    let chunk = limits.chunk as usize;
-    2 * chunk + limits.input_bytes()
+    rings(limits) + limits.input_bytes()
 }
 
 // The lengths: one for each frame of the input, where it counts frames.

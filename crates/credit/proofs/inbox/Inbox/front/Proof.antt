@@ -4,5 +4,8 @@ use borrow.Author.Needs.{needs}
 use Rattle.credit.proofs.inbox.Inbox.front.Statement.{statement}
 use Rattle.credit.proofs.inbox.Inbox.front.Tie as tie
 
+returns : tie.Need-returns
+returns c = front-is _ _ _ _ _ _ (c .before .before .rings .ensures) (c .before .input-bytes .ensures) (c .pending .ensures)
+
 pub front-spec : {M : Type 1} → statement M
-front-spec = tie.close (tie.spec (search needs) (search needs) (search needs) (search needs) (λ c. front-is _ _ _ _ _ (c .before .input-bytes .ensures) (c .pending .ensures)))
+front-spec = tie.close (tie.spec (λ c κs. search needs) (λ c κs. search needs) (λ c κs. search needs) returns)

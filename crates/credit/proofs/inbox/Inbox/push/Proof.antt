@@ -5,16 +5,15 @@ use Rattle.credit.proofs.inbox.Inbox.push.Statement.{statement}
 use Rattle.credit.proofs.inbox.Inbox.push.Tie as tie
 
 returns : tie.Need-returns
-returns c = push-is _ _ _ _ _ _ _ _ _ (c .before .before .before .before .before .before .before .before .before .input-bytes .ensures) (c .before .before .before .before .before .before .before .push .ensures) (c .before .before .push-frame .ensures)
+returns c = push-is _ _ _ _ _ _ _ _ _ _ (c .before .before .before .before .before .before .before .before .before .before .rings .ensures) (c .before .before .before .before .before .before .before .before .before .input-bytes .ensures) (c .before .before .before .before .before .before .before .push .ensures) (c .before .before .push-frame .ensures)
 
 pub push-spec : {M : Type 1} → statement M
 push-spec =
     tie.close
     (tie.spec
-    (search needs)
-    (search needs)
-    (search needs)
-    (search needs)
+    (λ c κs. search needs)
+    (λ c κs. search needs)
+    (λ c κs. search needs)
     (λ c κs. search needs)
     (search needs)
     (search needs)
