@@ -60,6 +60,10 @@ abbrev pub lengthsPushed : Units.Unit → (size n : ℕ) → Inbox → List ℕ 
 lengthsPushed Bytes size n b lengths = lengths
 lengthsPushed Frames size n b lengths = set lengths (wrap size (b .first + b .frames)) n
 
+abbrev pub bytesPushed : Limits → Inbox → (bytes store : List ℕ) → List ℕ
+bytesPushed l b bytes store =
+    ringWrite (inboxBase l) (inputBytes l) (b .start) (b .length) bytes (length bytes) store
+
 unfoldable pub pushedFrame : Window → Inbox → ℕ → List ℕ → FrameAfter
 pushedFrame w b n lengths = frameAfter (pushed (w .unit) n b) (lengthsPushed (w .unit) (w .size) n b lengths)
 
@@ -67,7 +71,7 @@ unfoldable pub push : Limits → Inbox → (bytes store lengths : List ℕ) → 
 push l b bytes store lengths =
     pushAfter
     (pushed (l .input .unit) (length bytes) b)
-    (ringWrite (inboxBase l) (inputBytes l) (b .start) (b .length) bytes (length bytes) store)
+    (bytesPushed l b bytes store)
     (lengthsPushed (l .input .unit) (l .input .size) (length bytes) b lengths)
 
 -- ---- front: from the ring's head to the end of its area or the last waiting byte
@@ -102,35 +106,34 @@ firstAfter Frames size freed b = wrap size (b .first + freed)
 
 unfoldable pub popUnits : Window → Inbox → ℕ → List ℕ → PopAfter
 popUnits w b n lengths =
+    let f : ℕ = freedBy (w .unit) (w .size) n b lengths in
     popAfter
     (record {
       inbox = record {
         start = b .start;
         length = b .length;
-        first = firstAfter (w .unit) (w .size) (freedBy (w .unit) (w .size) n b lengths) b;
-        frames = framesPopped (w .unit) (freedBy (w .unit) (w .size) n b lengths) (b .frames);
+        first = firstAfter (w .unit) (w .size) f b;
+        frames = framesPopped (w .unit) f (b .frames);
       };
-      freed = freedBy (w .unit) (w .size) n b lengths;
+      freed = f;
     })
     (lengthsPopped (w .unit) (w .size) n b lengths)
 
--- n bytes off the ring, and f frames
-abbrev pub poppedBox : Limits → (n f : ℕ) → Inbox → Inbox
-poppedBox l n f b = record {
-  start = wrap (inputBytes l) (b .start + n);
-  length = b .length - n;
-  first = firstAfter (l .input .unit) (l .input .size) f b;
-  frames = framesPopped (l .input .unit) f (b .frames);
-}
-
-abbrev pub popFreed : Limits → Inbox → ℕ → List ℕ → ℕ
+-- a pop of count bytes, at most of those that wait: the units that it frees, and what it leaves of the inbox and of the lengths
+abbrev pub popFreed : Limits → Inbox → (count : ℕ) → List ℕ → ℕ
 popFreed l b count lengths = freedBy (l .input .unit) (l .input .size) (min count (b .length)) b lengths
 
-unfoldable pub pop : Limits → Inbox → ℕ → List ℕ → PopAfter
+abbrev pub popInbox : Limits → Inbox → (count : ℕ) → List ℕ → Inbox
+popInbox l b count lengths = record {
+  start = wrap (inputBytes l) (b .start + min count (b .length));
+  length = b .length - min count (b .length);
+  first = firstAfter (l .input .unit) (l .input .size) (popFreed l b count lengths) b;
+  frames = framesPopped (l .input .unit) (popFreed l b count lengths) (b .frames);
+}
+
+abbrev pub popLengths : Limits → Inbox → (count : ℕ) → List ℕ → List ℕ
+popLengths l b count lengths = lengthsPopped (l .input .unit) (l .input .size) (min count (b .length)) b lengths
+
+unfoldable pub pop : Limits → Inbox → (count : ℕ) → List ℕ → PopAfter
 pop l b count lengths =
-    popAfter
-    (record {
-      inbox = poppedBox l (min count (b .length)) (popFreed l b count lengths) b;
-      freed = popFreed l b count lengths;
-    })
-    (lengthsPopped (l .input .unit) (l .input .size) (min count (b .length)) b lengths)
+    popAfter (record { inbox = popInbox l b count lengths; freed = popFreed l b count lengths }) (popLengths l b count lengths)

@@ -1,5 +1,5 @@
 -- The workload's input: what each call does to it and to the stores.
-use Prim.Native.Nat.{ℕ, _-_, _≤_, min}
+use Prim.Native.Nat.{ℕ, _-_, _≤_}
 use mathlib.Core.Path.{_≡_, refl}
 use mathlib.Core.Bool.{Bool, true, false, cond, not, _&&_, _||_, false≢true}
 use mathlib.Core.List.{List, []}
@@ -10,9 +10,8 @@ use Rattle.exec.specs.declared.Receipt.the-variants.{Applied, Stale, Late}
 use Rattle.exec.specs.declared.Received.{Received}
 use Rattle.exec.specs.declared.Received.the-variants.{Receipt, Refused}
 use Rattle.exec.specs.declared.Refusal.the-variants as Refusal
-use Rattle.exec.specs.Limits.{cost, inputBytes, offChunk}
-use Rattle.ring.specs.Ring.{ringWrite}
-use Rattle.credit.specs.Inbox.{newInbox, inboxBase, pushed, lengthsPushed, front, poppedBox, popFreed, lengthsPopped}
+use Rattle.exec.specs.Limits.{cost, offChunk}
+use Rattle.credit.specs.Inbox.{newInbox, pushed, bytesPushed, lengthsPushed, front, popFreed, popInbox, popLengths}
 use Rattle.credit.specs.Need.{byteNeed, lengthNeed}
 use Rattle.credit.specs.RangeLaws.{InRange}
 use Rattle.credit.specs.Receiver.{newGranted, opened, freed}
@@ -99,9 +98,7 @@ receiveInput l i n =
 
 unfoldable pub receiveBytes : Limits → Input → (bytes store : List ℕ) → List ℕ
 receiveBytes l i bytes store =
-    cond (isKept l i (length bytes))
-    (ringWrite (inboxBase l) (inputBytes l) (i .inbox .start) (i .inbox .length) bytes (length bytes) store)
-    store
+    cond (isKept l i (length bytes)) (bytesPushed l (i .inbox) bytes store) store
 
 unfoldable pub receiveLengths : Limits → Input → ℕ → List ℕ → List ℕ
 receiveLengths l i n lengths =
@@ -180,7 +177,7 @@ pendingInput l i store = cond (i .closed) [] (front l (i .inbox) store)
 
 abbrev pub popIn : Limits → ℕ → List ℕ → Input → Input
 popIn l count lengths i =
-    setInbox (poppedBox l (min count (i .inbox .length)) (popFreed l (i .inbox) count lengths) (i .inbox))
+    setInbox (popInbox l (i .inbox) count lengths)
     (setWindow (freed (i .window) (popFreed l (i .inbox) count lengths)) i)
 
 unfoldable pub writtenInput : Limits → Input → ℕ → List ℕ → Input
@@ -188,8 +185,7 @@ writtenInput l i count lengths = cond (i .closed) i (closeWhenTaken (popIn l cou
 
 unfoldable pub writtenLengths : Limits → Input → ℕ → List ℕ → List ℕ
 writtenLengths l i count lengths =
-    cond (i .closed) lengths
-    (lengthsPopped (l .input .unit) (l .input .size) (min count (i .inbox .length)) (i .inbox) lengths)
+    cond (i .closed) lengths (popLengths l (i .inbox) count lengths)
 
 -- what is left: the input, and the length store
 pub record WrittenAfter : Type 0 where

@@ -136,13 +136,12 @@ intakeAfter a bytes = record { answer = a; bytes = bytes }
 
 unfoldable pub takenIn : Output → (gaveUp : Bool) (base chunk : ℕ) (bytes store : List ℕ) → IntakeAfter
 takenIn o gaveUp base chunk bytes store =
+    let shut : Bool = o .closed || gaveUp in
+    let room : ℕ = chunk - o .queued in
+    let n : ℕ = length bytes in
     intakeAfter
-    (record {
-      taken = takes (o .closed || gaveUp) (o .discarding) (chunk - o .queued) (length bytes);
-      output = intake (o .closed || gaveUp) (o .discarding) (chunk - o .queued) (length bytes) o;
-    })
-    (ringWrite base chunk (o .start) (o .queued) bytes
-    (keeps (o .closed || gaveUp) (o .discarding) (chunk - o .queued) (length bytes)) store)
+    (record { taken = takes shut (o .discarding) room n; output = intake shut (o .discarding) room n o })
+    (ringWrite base chunk (o .start) (o .queued) bytes (keeps shut (o .discarding) room n) store)
 
 -- ---- bytes to the peer
 
