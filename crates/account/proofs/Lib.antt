@@ -4,6 +4,7 @@ pub mod Guarded
 pub mod Flags
 pub mod Rings
 pub mod Streams
+pub mod Sides
 pub mod Stages
 pub mod Lives
 pub mod Choices

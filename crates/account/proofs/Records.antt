@@ -20,6 +20,7 @@ use Rattle.exec.specs.declared.Reply.{Reply}
 use Rattle.exec.specs.declared.Reply.the-variants as Reply
 use Rattle.exec.specs.declared.Stream.{Stream}
 use Rattle.exec.specs.declared.Stream.the-variants.{Stdout, Stderr}
+use Rattle.exec.specs.Outcome.{isTruncated}
 use Rattle.exec.specs.Refusal.{number}
 use Rattle.runner.specs.declared.answer.Message.the-variants as Message
 use Rattle.runner.specs.declared.answer.Said.the-variants as Said
@@ -377,7 +378,7 @@ module _ (conf : Conf) (now : ℕ) (bytes lengths : List ℕ) (op : Opens conf n
         (subst⁻¹ (λ (s : State). Silent (Step.run s (callsOf conf ds))) (q .1)
         (d3 .once (callsOf conf es) (q .0) (callsOf conf ds) (sym (ap isTerminal (q .2)) ∙ h))));
     marks = λ es e out h. (let q = at-terminal es e (ap isTerminal h) in
-        subst⁻¹ (λ (a : Account). (out .«stdout_truncated» ≡ cut (a .t0)) × (out .«stderr_truncated» ≡ cut (a .t1))) (same-account es)
+        subst⁻¹ (λ (a : Account). (x : Stream) → isTruncated out x ≡ cut (tallyOf x a)) (same-account es)
         (d3 .marks (callsOf conf es) (q .0) out (sym (q .2) ∙ h)));
     first = λ es t k c h. subst⁻¹ (λ (a : Account). tickA t a .rep .begun ≡ false) (same-account es) (d3 .first (callsOf conf es) t k c (cancel-at es t k c h));
     late = λ cs ds es t n k c h below past five.
