@@ -48,12 +48,12 @@ giveUp-pre : (b c : Bool) (a : Account.Account) → Prefixes a → Prefixes (Acc
 unfolding Account.giveUpA
 giveUp-pre false c a h = h
 giveUp-pre true true a h = h
-giveUp-pre true false a h = λ x. rw (one-both (λ (c : Bool) (t : Account.Tally). Account.marked (not c) t) (a .rep .closed) (a .tallies) x) (h x)
+giveUp-pre true false a h = λ x. rw (one-both Account.unlessClosed (a .rep .closed) (a .tallies) x) (h x)
 
 streams-pre : (b : Bool) (a : Account.Account) → Prefixes a → Prefixes (Account.abandonStreamsA b a)
 unfolding Account.abandonStreamsA
 streams-pre false a h = h
-streams-pre true a h = λ x. rw (one-both (λ (c : Bool) (t : Account.Tally). Account.marked (not c) t) (both (λ (c d : Bool). c || d) (a .rep .closed) (a .rep .hung)) (a .tallies) x) (h x)
+streams-pre true a h = λ x. rw (one-both Account.unlessClosed (both _||_ (a .rep .closed) (a .rep .hung)) (a .tallies) x) (h x)
 
 abandon-pre : (b : Bool) (a : Account.Account) → Prefixes a → Prefixes (Account.abandonA b a)
 unfolding Account.abandonA

@@ -1,5 +1,5 @@
 -- The replay keeps step with the runner's life cycle, and each stream with its account, at every stage of a call.
-use mathlib.Core.Bool.{Bool, true, false, cond, not, _||_, true≢false}
+use mathlib.Core.Bool.{Bool, true, false, cond, _||_, true≢false}
 use mathlib.Core.Path.{_≡_, refl, ap, _∙_, subst, subst⁻¹}
 use mathlib.Core.List.{List}
 use Prim.Native.Nat.{ℕ}
@@ -27,7 +27,7 @@ use Rattle.runner.specs.Life.{awaitsLaunch, isCleanedUp, closeRunnerInput, endG
 use Rattle.runner.specs.State.{withClocks, outOf, base}
 use Rattle.account.specs.Call.{Conf}
 use Rattle.account.specs.Account
-use Rattle.account.specs.Account.{Account, Replay, Tally, tallyOf, marked, mk, beginIf, begin, timeoutR, noTimeoutR, overdueR, settlingR, isSettledR, isFencedR, cleanedR, giveUpA, leaveR, abandonStreamsA, abandonA, tick1, tick3, tick4, tick5, tickA, cancelA, detachedR, detachR, detachA, exitR, exitA, reportedR}
+use Rattle.account.specs.Account.{Account, Replay, Tally, tallyOf, unlessClosed, mk, beginIf, begin, timeoutR, noTimeoutR, overdueR, settlingR, isSettledR, isFencedR, cleanedR, giveUpA, leaveR, abandonStreamsA, abandonA, tick1, tick3, tick4, tick5, tickA, cancelA, detachedR, detachR, detachA, exitR, exitA, reportedR}
 use Rattle.account.proofs.Streams.{Good, end-grace, given-up, abandoned-by}
 use Rattle.account.proofs.Sides.{out-each, one-both, one-per}
 use Rattle.account.proofs.Stages.{graceIf, terminateIf, timeoutIf, giveUpIf, dropLaunchIf, abandonStreamsIf, abandonIf, stage1, stage2, stage3, stage4, stage5, tickIf, tick-is, cancelIf, late, detachIf, exitedIf, cancelNext}
@@ -248,7 +248,7 @@ module _ (st : List ℕ) where
   giveUpIf-inv true true s a h = (refl, h .1)
   giveUpIf-inv true false s a h = (
     rw (given-exit (s .life .exit)) refl,
-    λ x. rw (out-each givenUp (s .outputs) x, one-both (λ (c : Bool) (t : Tally). marked (not c) t) (rep s .closed) (a .tallies) x, one-per (λ (y : Stream). outOf y s .closed) x) (given-up st (base x (s .limits .chunk)) (s .limits .chunk) (outOf x s) (tallyOf x a) (h .1 x)),
+    λ x. rw (out-each givenUp (s .outputs) x, one-both unlessClosed (rep s .closed) (a .tallies) x, one-per (λ (y : Stream). outOf y s .closed) x) (given-up st (base x (s .limits .chunk)) (s .limits .chunk) (outOf x s) (tallyOf x a) (h .1 x)),
   )
 
   cleaned-same : (s : Runner) → cleanedR (rep s) ≡ isCleanedUp s
@@ -273,7 +273,7 @@ module _ (st : List ℕ) where
   streams-inv false s a h = at-home s a h
   streams-inv true s a h = (
     refl,
-    λ x. rw (out-each abandoned (s .outputs) x, one-both (λ (over : Bool) (t : Tally). marked (not over) t) (both (λ (c h : Bool). c || h) (rep s .closed) (rep s .hung)) (a .tallies) x, one-both (λ (c h : Bool). c || h) (rep s .closed) (rep s .hung) x, one-per (λ (y : Stream). outOf y s .closed) x, one-per (λ (y : Stream). outOf y s .«hung_up») x) (abandoned-by st (base x (s .limits .chunk)) (s .limits .chunk) (outOf x s) (tallyOf x a) (h .1 x)),
+    λ x. rw (out-each abandoned (s .outputs) x, one-both unlessClosed (both _||_ (rep s .closed) (rep s .hung)) (a .tallies) x, one-both _||_ (rep s .closed) (rep s .hung) x, one-per (λ (y : Stream). outOf y s .closed) x, one-per (λ (y : Stream). outOf y s .«hung_up») x) (abandoned-by st (base x (s .limits .chunk)) (s .limits .chunk) (outOf x s) (tallyOf x a) (h .1 x)),
   )
 
   abandonIf-inv : (b : Bool) (s : Runner) (a : Account) → Inv st s a → Inv st (abandonIf b s) (abandonA b (home s a))

@@ -55,6 +55,10 @@ mk r ts = record { rep = r; tallies = ts }
 abbrev pub marked : Bool → Tally → Tally
 marked b t = record { taken = t .taken; sent = t .sent; mark = b || t .mark }
 
+-- a stream that is not closed is marked
+abbrev pub unlessClosed : (closed : Bool) → Tally → Tally
+unlessClosed closed t = marked (not closed) t
+
 abbrev pub onTally : Stream → (Tally → Tally) → Account → Account
 onTally x f a = mk (a .rep) (onOne x f (a .tallies))
 
@@ -170,7 +174,7 @@ giveUpA true false a =
     (withTimes (a .rep .timeout) (a .rep .begun) Never (a .rep .abandon)
     (withWork (a .rep .launch) true (a .rep .left) true Fenced (a .rep .detached)
     (withStreams (each (λ (c : Bool). true) (a .rep .closed)) (a .rep .hung) (a .rep))))
-    (both (λ (c : Bool) (t : Tally). marked (not c) t) (a .rep .closed) (a .tallies))
+    (both unlessClosed (a .rep .closed) (a .tallies))
 
 -- the launch is still waited for
 abbrev pub waitsR : Replay → Bool
@@ -192,7 +196,7 @@ abandonStreamsA true a =
     mk
     (withTimes (a .rep .timeout) (a .rep .begun) (a .rep .giveUp) Never
     (withStreams (both (λ (c h : Bool). c || not h) (a .rep .closed) (a .rep .hung)) (a .rep .hung) (a .rep)))
-    (both (λ (over : Bool) (t : Tally). marked (not over) t) (both (λ (c h : Bool). c || h) (a .rep .closed) (a .rep .hung)) (a .tallies))
+    (both unlessClosed (both _||_ (a .rep .closed) (a .rep .hung)) (a .tallies))
 
 unfoldable pub abandonA : (due : Bool) → Account → Account
 abandonA false a = a
