@@ -1,6 +1,6 @@
 -- Each call, while the runner has not finished: it keeps the invariant between runner and account, and the length of the byte store.
 use mathlib.Core.Bool.{Bool, true, false, cond, not, or-self-left}
-use mathlib.Core.Path.{_≡_, refl, sym, ap, _∙_, subst⁻¹}
+use mathlib.Core.Path.{_≡_, refl, sym, ap, _∙_, subst, subst⁻¹}
 use mathlib.Core.List.{List}
 use mathlib.Core.Logic.{inl}
 use Prim.Native.Nat.{ℕ, _+_, _*_, _≤_, _<_}
@@ -8,10 +8,13 @@ use native.Mathlib.Omega.{arith}
 use lib.Dec.{ltb}
 use lib.ListN.{length, take}
 use Rattle.exec.specs.declared.Admission.{Admission}
+use Rattle.exec.specs.declared.Admission.the-variants as Admission
 use Rattle.exec.specs.declared.Cause.the-variants as Cause
 use Rattle.exec.specs.declared.LaunchResult.{LaunchResult}
 use Rattle.exec.specs.declared.LaunchResult.the-variants as LaunchResult
 use Rattle.exec.specs.declared.Limits.{Limits}
+use Rattle.exec.specs.declared.Receipt.the-variants.{Late, Applied}
+use Rattle.exec.specs.declared.Received.the-variants.{Receipt}
 use Rattle.exec.specs.declared.Stream.{Stream}
 use Rattle.exec.specs.declared.Stream.the-variants.{Stdout, Stderr}
 use Rattle.exec.specs.Each.{Each}
@@ -29,17 +32,17 @@ use Rattle.runner.specs.declared.message.Choice.the-variants as Choice
 use Rattle.runner.specs.declared.message.Wish.{Wish}
 use Rattle.runner.specs.declared.message.Wish.the-variants as Wish
 use Rattle.runner.specs.declared.runner.Runner.{Runner}
-use Rattle.runner.specs.Life.{awaitsLaunch, closeRunnerInput, noteStarted, noteLaunch, launchedNext, settledNext}
+use Rattle.runner.specs.Life.{awaitsLaunch, ticked, isLate, cancelAnswer, closeRunnerInput, noteStarted, noteLaunch, launchedNext, settledNext}
 use Rattle.runner.specs.Message.{choose, outputPaid, outputSent, effect, payload, wish, wishEffect}
 use Rattle.runner.specs.State.{outOf, withOutputs, putOutput, at, base}
 use Rattle.runner.specs.Streams.{isShut, room, outputTaken, outputNext, outputBytes, discardedNext, closedNext, failedNext, hungUpNext, creditNext, isTaken, inputNext, inputBytes, endNext, writtenNext}
 use Rattle.account.specs.Call as Call
 use Rattle.account.specs.Call.{Conf, Call}
-use Rattle.account.specs.Step.{State}
+use Rattle.account.specs.Step.{State, receivedAs}
 use Rattle.account.specs.Account
-use Rattle.account.specs.Account.{Tally, tallyOf, marked, sentBy, mk, add, hear, heard, onTally, takenBy, launchR, closeR, hangR, settlingR}
+use Rattle.account.specs.Account.{Tally, tallyOf, marked, sentBy, mk, isRefused, adds, add, hear, heard, onTally, takenBy, launchR, closeR, hangR, settlingR}
 use Rattle.account.proofs.Plain.{said, next, answer}
-use Rattle.account.proofs.Stages.{launchedIf, cancelNext}
+use Rattle.account.proofs.Stages.{launchedIf}
 use Rattle.account.proofs.Rings.{ring}
 use Rattle.account.proofs.Sides.{on-out, on-one, base-behind, bases-apart}
 use Rattle.account.proofs.Streams.{Fits, Good, closed-by, failed-by, discarded-by, taken-by, sent-by, moved, keeps-less}
@@ -47,7 +50,7 @@ use Rattle.account.proofs.Choices.{Sent, choose-sent}
 use Rattle.account.proofs.Range.{RangedS}
 use Rattle.account.proofs.Finish.{framed, framed-conf}
 use Rattle.account.proofs.Lives.{rep, Inv, along, tick-inv, cancel-inv, detach-inv, exited-inv, reported-same}
-use Rattle.account.proofs.Flags.{and-l}
+use Rattle.account.proofs.Flags.{and-l, either}
 use Rattle.account.proofs.InputRange.{room-by, paid}
 
 -- a claim of the invariant on each stream
@@ -78,7 +81,7 @@ seen-inv st x f s a k c u h = (
   on-out (λ (y : Stream) (o : Output). Good st (base y (s .limits .chunk)) (s .limits .chunk) o (tallyOf y a)) x (f (outOf x s)) (s .outputs) (k (outOf x s) (tallyOf x a) (h .1 x)) (λ y e. h .1 y),
 )
 
-effect-inv : (st : List ℕ) (m : Choice) (s : Runner) (a : Account.Account) → Sent s m → Inv st s a → Inv st (effect m s) (hear (said m s st) a)
+effect-inv : (st : List ℕ) (m : Choice) (s : Runner) (a : Account.Account) → Sent s m → Inv st s a → Inv st (effect m s) (cond (isRefused (said m s st)) a (hear (said m s st) a))
 unfolding effect said
 effect-inv st Choice.None s a l h = h
 effect-inv st Choice.Credit s a l h = h
@@ -166,6 +169,20 @@ shut-inv st x f g s a c u p h = (
   on-one (Claim st (s .limits .chunk)) x (f (outOf x s)) g (s .outputs) (a .tallies) p (λ y e. h .1 y),
 )
 
+-- a cancel that is refused changes nothing
+unrefused : (k : Admission) (now : ℕ) (s : Runner) (a : Account.Account) → Account.cancelA k now a ≡ cond (isRefused (receivedAs (cancelAnswer k s now))) a (Account.cancelA k now a)
+unfolding cancelAnswer Account.cancelA
+unrefused Admission.Own now s a = go (isLate (ticked s now))
+  where
+    b : Account.Account
+    b = Account.cancelA Admission.Own now a
+
+    go : (l : Bool) → b ≡ cond (isRefused (receivedAs (cond l (Receipt Late) (Receipt Applied)))) a b
+    go true = refl
+    go false = refl
+unrefused Admission.Stale now s a = refl
+unrefused (Admission.Refused x) now s a = refl
+
 -- what is kept has room
 pub kept-room : (b : List ℕ) (s : State) → RangedS s → isKept (s .runner .limits) (s .runner .input) (length b) ≡ true
     → s .runner .input .inbox .length + length b ≤ inboxSize (s .runner .limits)
@@ -180,18 +197,22 @@ InvS s a = Inv (s .bytes) (s .runner) a
 abbrev pub Roomy : State → Type 0
 Roomy s = byteNeed (s .runner .limits) ≤ length (s .bytes)
 
+-- a call that adds nothing, refused or not
+unheard : (s : State) (a : Account.Account) (c : Call) → InvS (next s c) a → InvS (next s c) (cond (isRefused (answer s c)) a a)
+unheard s a c h = either (InvS (next s c)) (isRefused (answer s c)) a a h h
+
 -- every call, while the runner has not finished
 pub step-inv : (c : Call) (s : State) (a : Account.Account) → s .runner .flags .finished ≡ false → RangedS s → Roomy s → InvS s a → InvS (next s c) (add a c (answer s c))
-unfolding next add answer creditNext inputNext inputBytes endNext launchedNext discardedNext closedNext failedNext hungUpNext writtenNext closeRunnerInput settledNext
-step-inv (Call.credit k p u) s a f r m h = h
+unfolding next adds add answer creditNext inputNext inputBytes endNext launchedNext discardedNext closedNext failedNext hungUpNext writtenNext closeRunnerInput settledNext
+step-inv (Call.credit k p u) s a f r m h = unheard s a (Call.credit k p u) h
 step-inv (Call.input k b) s a f r m h =
     let u : Runner = s .runner in let x : Admission = admits (u .key) k in
-    taken-inv (isTaken x u) b (s .bytes) u a m (r .2 .1) (kept-room b s r) h
-step-inv (Call.endInput k) s a f r m h = h
+    unheard s a (Call.input k b) (taken-inv (isTaken x u) b (s .bytes) u a m (r .2 .1) (kept-room b s r) h)
+step-inv (Call.endInput k) s a f r m h = unheard s a (Call.endInput k) h
 step-inv (Call.cancel now k c) s a f r m h =
-    let u : Runner = s .runner in
-    along (s .bytes) (λ (x : Account.Account). Inv (s .bytes) (cancelNext (admits (u .key) k) now c u) (Account.cancelA (admits (x .rep .conf .key) k) now x)) u a h
-    (cancel-inv (s .bytes) (admits (u .key) k) now c u (mk (rep u) (a .tallies)) f (refl, h .1))
+    let u : Runner = s .runner in let home : Account.Account = mk (rep u) (a .tallies) in
+    along (s .bytes) (λ (x : Account.Account). InvS (next s (Call.cancel now k c)) (add x (Call.cancel now k c) (answer s (Call.cancel now k c)))) u a h
+    (subst (InvS (next s (Call.cancel now k c))) (unrefused (admits (u .key) k) now u home) (cancel-inv (s .bytes) (admits (u .key) k) now c u home f (refl, h .1)))
 step-inv (Call.launched x) s a f r m h =
     let u : Runner = s .runner in
     along (s .bytes) (λ (y : Account.Account). Inv (s .bytes) (launchedIf (awaitsLaunch u) x u) (mk (launchR (y .rep)) (y .tallies))) u a h
@@ -223,7 +244,7 @@ step-inv (Call.dropped now) s a f r m h = detach-inv (s .bytes) now Cause.Droppe
 step-inv (Call.reset now) s a f r m h = detach-inv (s .bytes) now Cause.Reset (s .runner) a f h
 step-inv (Call.disconnect now) s a f r m h = detach-inv (s .bytes) now Cause.Disconnected (s .runner) a f h
 step-inv (Call.tick now) s a f r m h = tick-inv (s .bytes) now (s .runner) a f h
-step-inv Call.nextRequest s a f r m h = handed-inv (s .bytes) (wish (s .runner)) (s .runner) a h
+step-inv Call.nextRequest s a f r m h = unheard s a Call.nextRequest (handed-inv (s .bytes) (wish (s .runner)) (s .runner) a h)
 step-inv (Call.nextMessage b) s a f r m h = effect-inv (s .bytes) (choose (s .runner) (length b)) (s .runner) a (choose-sent (s .runner) (length b)) h
 step-inv (Call.readAllowance x) s a f r m h = h
 step-inv Call.pendingInput s a f r m h = h

@@ -27,7 +27,7 @@ use Rattle.account.specs.Call as Call
 use Rattle.account.specs.Call.{Conf, Call, Answer}
 use Rattle.account.specs.Step.{State}
 use Rattle.account.specs.Account
-use Rattle.account.specs.Account.{Replay, mk, add, hear, account, start, tallyOf, cut}
+use Rattle.account.specs.Account.{Replay, mk, isRefused, adds, add, hear, account, start, tallyOf, cut}
 use Rattle.account.specs.Claim.{IsPrefix, isMessage, isTerminal, Silent}
 use Rattle.account.proofs.Plain.{next, answer, afterAll, run, begun}
 use Rattle.account.proofs.Streams.{Good, cut-is}
@@ -35,7 +35,7 @@ use Rattle.account.proofs.Sides.{out-alike, one-both, one-per, on-each,
 use Rattle.account.proofs.Range.{RangedS, range-next, Lent, opened-range}
 use Rattle.account.proofs.Finish.{Ends, ends, ends-answer, ends-fin, no-more, silent, fin-stays, chosen-ready}
 use Rattle.account.proofs.Lives.{tick-inv}
-use Rattle.account.proofs.Flags.{and-l, and-r, five}
+use Rattle.account.proofs.Flags.{and-l, and-r, either, five}
 use borrow.Author.Tests.{not-true}
 use Rattle.account.proofs.EachCall.{InvS, Roomy, step-inv, roomy-next}
 
@@ -103,39 +103,43 @@ longer s t b h = (h .0 ++ b, rw (h .1) (append-assoc s (h .0) b))
 on-tally : (y : Stream) (g : Account.Tally → Account.Tally) (a : Account.Account) → IsPrefix (g (tallyOf y a) .sent) (g (tallyOf y a) .taken) → Prefixes a → Prefixes (Account.onTally y g a)
 on-tally y g a p h = on-each (λ (x : Stream) (t : Account.Tally). IsPrefix (t .sent) (t .taken)) y g (a .tallies) p (λ x e. h x)
 
+adds-pre : (c : Call) (r : Answer) (a : Account.Account) → isMessage r ≡ false → Prefixes a → Prefixes (adds a c r)
+unfolding adds
+adds-pre (Call.credit k p u) r a e h = h
+adds-pre (Call.input k b) r a e h = h
+adds-pre (Call.endInput k) r a e h = h
+adds-pre (Call.cancel now k c) r a e h = cancel-pre (admits (a .rep .conf .key) k) now a h
+adds-pre (Call.launched x) r a e h = h
+adds-pre (Call.output x b) r a e h = on-tally x (Account.takenBy (take (Account.count r) b)) a (longer (tallyOf x a .sent) (tallyOf x a .taken) (take (Account.count r) b) (h x)) h
+adds-pre (Call.discarded x n) r a e h = on-tally x (Account.marked (ltb 0 n)) a (h x) h
+adds-pre (Call.outputClosed x) r a e h = h
+adds-pre (Call.outputFailed x) r a e h = on-tally x (Account.marked true) (mk (Account.closeR x (a .rep)) (a .tallies)) (h x) h
+adds-pre (Call.outputHungUp x) r a e h = h
+adds-pre (Call.inputWritten n) r a e h = h
+adds-pre Call.inputClosed r a e h = h
+adds-pre (Call.exited now x) r a e h = exit-pre now a h
+adds-pre (Call.settled ok) r a e h = h
+adds-pre (Call.dropped now) r a e h = detach-pre now a h
+adds-pre (Call.reset now) r a e h = detach-pre now a h
+adds-pre (Call.disconnect now) r a e h = detach-pre now a h
+adds-pre (Call.tick now) r a e h = tick-pre now a h
+adds-pre Call.nextRequest r a e h = h
+adds-pre (Call.nextMessage n) r a e h = hear-pre r a e h
+adds-pre (Call.readAllowance x) r a e h = h
+adds-pre Call.pendingInput r a e h = h
+adds-pre Call.deadline r a e h = h
+adds-pre Call.isFinished r a e h = h
+adds-pre Call.isDetached r a e h = h
+adds-pre Call.awaitsSettlement r a e h = h
+adds-pre Call.buffered r a e h = h
+adds-pre Call.highWater r a e h = h
+adds-pre Call.memoryBound r a e h = h
+adds-pre Call.key r a e h = h
+adds-pre Call.limits r a e h = h
+
 add-pre : (c : Call) (r : Answer) (a : Account.Account) → isMessage r ≡ false → Prefixes a → Prefixes (add a c r)
 unfolding add
-add-pre (Call.credit k p u) r a e h = h
-add-pre (Call.input k b) r a e h = h
-add-pre (Call.endInput k) r a e h = h
-add-pre (Call.cancel now k c) r a e h = cancel-pre (admits (a .rep .conf .key) k) now a h
-add-pre (Call.launched x) r a e h = h
-add-pre (Call.output x b) r a e h = on-tally x (Account.takenBy (take (Account.count r) b)) a (longer (tallyOf x a .sent) (tallyOf x a .taken) (take (Account.count r) b) (h x)) h
-add-pre (Call.discarded x n) r a e h = on-tally x (Account.marked (ltb 0 n)) a (h x) h
-add-pre (Call.outputClosed x) r a e h = h
-add-pre (Call.outputFailed x) r a e h = on-tally x (Account.marked true) (mk (Account.closeR x (a .rep)) (a .tallies)) (h x) h
-add-pre (Call.outputHungUp x) r a e h = h
-add-pre (Call.inputWritten n) r a e h = h
-add-pre Call.inputClosed r a e h = h
-add-pre (Call.exited now x) r a e h = exit-pre now a h
-add-pre (Call.settled ok) r a e h = h
-add-pre (Call.dropped now) r a e h = detach-pre now a h
-add-pre (Call.reset now) r a e h = detach-pre now a h
-add-pre (Call.disconnect now) r a e h = detach-pre now a h
-add-pre (Call.tick now) r a e h = tick-pre now a h
-add-pre Call.nextRequest r a e h = h
-add-pre (Call.nextMessage n) r a e h = hear-pre r a e h
-add-pre (Call.readAllowance x) r a e h = h
-add-pre Call.pendingInput r a e h = h
-add-pre Call.deadline r a e h = h
-add-pre Call.isFinished r a e h = h
-add-pre Call.isDetached r a e h = h
-add-pre Call.awaitsSettlement r a e h = h
-add-pre Call.buffered r a e h = h
-add-pre Call.highWater r a e h = h
-add-pre Call.memoryBound r a e h = h
-add-pre Call.key r a e h = h
-add-pre Call.limits r a e h = h
+add-pre c r a e h = either Prefixes (isRefused r) a (adds a c r) h (adds-pre c r a e h)
 
 -- ---- over the list
 

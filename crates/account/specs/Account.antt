@@ -317,38 +317,60 @@ hear (IsKey k) a = a
 hear (AreLimits l) a = a
 hear Nothing a = a
 
+-- what a call adds that is not refused
+unfoldable pub adds : Account → Call → Answer → Account
+adds a (credit k p u) r = a
+adds a (input k b) r = a
+adds a (endInput k) r = a
+adds a (cancel now k c) r = cancelA (admits (a .rep .conf .key) k) now a
+adds a (launched x) r = mk (launchR (a .rep)) (a .tallies)
+adds a (output x b) r = onTally x (takenBy (take (count r) b)) a
+adds a (discarded x n) r = onTally x (marked (ltb 0 n)) a
+adds a (outputClosed x) r = mk (closeR x (a .rep)) (a .tallies)
+adds a (outputFailed x) r = onTally x (marked true) (mk (closeR x (a .rep)) (a .tallies))
+adds a (outputHungUp x) r = mk (hangR x (a .rep)) (a .tallies)
+adds a (inputWritten n) r = a
+adds a inputClosed r = a
+adds a (exited now x) r = exitA now a
+adds a (settled ok) r = mk (settlingR (reportedR (a .rep .settling) ok) (a .rep)) (a .tallies)
+adds a (dropped now) r = detachA now a
+adds a (reset now) r = detachA now a
+adds a (disconnect now) r = detachA now a
+adds a (tick now) r = tickA now a
+adds a nextRequest r = a
+adds a (nextMessage n) r = hear r a
+adds a (readAllowance x) r = a
+adds a pendingInput r = a
+adds a deadline r = a
+adds a isFinished r = a
+adds a isDetached r = a
+adds a awaitsSettlement r = a
+adds a buffered r = a
+adds a highWater r = a
+adds a memoryBound r = a
+adds a key r = a
+adds a limits r = a
+
+abbrev pub isRefused : Answer → Bool
+isRefused Ok = false
+isRefused Applied = false
+isRefused Stale = false
+isRefused Late = false
+isRefused (Refused n) = true
+isRefused (Taken n) = false
+isRefused (Pending b) = false
+isRefused (Value n) = false
+isRefused (Time d) = false
+isRefused (Truth b) = false
+isRefused (Asks r) = false
+isRefused (Says m) = false
+isRefused (IsKey k) = false
+isRefused (AreLimits l) = false
+isRefused Nothing = false
+
+-- a refused call adds nothing
 unfoldable pub add : Account → Call → Answer → Account
-add a (credit k p u) r = a
-add a (input k b) r = a
-add a (endInput k) r = a
-add a (cancel now k c) r = cancelA (admits (a .rep .conf .key) k) now a
-add a (launched x) r = mk (launchR (a .rep)) (a .tallies)
-add a (output x b) r = onTally x (takenBy (take (count r) b)) a
-add a (discarded x n) r = onTally x (marked (ltb 0 n)) a
-add a (outputClosed x) r = mk (closeR x (a .rep)) (a .tallies)
-add a (outputFailed x) r = onTally x (marked true) (mk (closeR x (a .rep)) (a .tallies))
-add a (outputHungUp x) r = mk (hangR x (a .rep)) (a .tallies)
-add a (inputWritten n) r = a
-add a inputClosed r = a
-add a (exited now x) r = exitA now a
-add a (settled ok) r = mk (settlingR (reportedR (a .rep .settling) ok) (a .rep)) (a .tallies)
-add a (dropped now) r = detachA now a
-add a (reset now) r = detachA now a
-add a (disconnect now) r = detachA now a
-add a (tick now) r = tickA now a
-add a nextRequest r = a
-add a (nextMessage n) r = hear r a
-add a (readAllowance x) r = a
-add a pendingInput r = a
-add a deadline r = a
-add a isFinished r = a
-add a isDetached r = a
-add a awaitsSettlement r = a
-add a buffered r = a
-add a highWater r = a
-add a memoryBound r = a
-add a key r = a
-add a limits r = a
+add a c r = cond (isRefused r) a (adds a c r)
 
 abbrev pub none : Tally
 none = record { taken = []; sent = []; mark = false }
