@@ -161,7 +161,7 @@ module _ (conf : Conf) (now : ℕ) (bytes lengths : List ℕ) (op : Opens conf n
   pub same-run : (cs : List Call) → Step.run (Step.opened conf now bytes lengths) cs ≡ run (begun conf now bytes lengths) cs
   same-run cs = ap (λ (s : State). Step.run s cs) (open-same conf now bytes lengths op) ∙ run-same cs (begun conf now bytes lengths) f0
 
-  same-account : (cs : List Call) → accountOf conf now bytes lengths cs ≡ plainOf conf now bytes lengths cs
+  pub same-account : (cs : List Call) → accountOf conf now bytes lengths cs ≡ plainOf conf now bytes lengths cs
   same-account cs = ap (λ (ds : List Done). account (start conf now) ds) (same-run cs)
 
   pub same-answer : (cs : List Call) (c : Call) → Step.answer (Step.after (Step.opened conf now bytes lengths) cs) c ≡ answer (afterAll (begun conf now bytes lengths) cs) c

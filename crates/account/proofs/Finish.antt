@@ -227,7 +227,7 @@ said-none : (m : Choice) (s : Runner) (b : List ℕ) → m ≡ Choice.None → i
 unfolding said
 said-none m s b e = rw e refl
 
-finished-none : (n : ℕ) (s : Runner) → s .flags .finished ≡ true → choose s n ≡ Choice.None
+pub finished-none : (n : ℕ) (s : Runner) → s .flags .finished ≡ true → choose s n ≡ Choice.None
 unfolding choose order ifElse
 finished-none n s f = rw f refl
 

@@ -5,6 +5,7 @@ pub mod Flags
 pub mod Rings
 pub mod Streams
 pub mod Sides
+pub mod Keeps
 pub mod Stages
 pub mod Lives
 pub mod Choices
@@ -24,4 +25,5 @@ pub mod Session
 pub mod Tight
 pub mod InputFifo
 pub mod Records
+pub mod Turn
 pub mod Refused

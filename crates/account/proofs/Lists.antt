@@ -6,15 +6,10 @@ use Prim.Native.Nat.{ℕ, _+_, _≤_, _<_}
 use native.Mathlib.Omega.{arith}
 use lib.Dec.{ltb}
 use lib.ListN.{length, take}
-use Rattle.exec.specs.declared.Admission.{Admission}
-use Rattle.exec.specs.declared.Admission.the-variants as Admission
 use Rattle.exec.specs.declared.Outcome.{Outcome}
 use Rattle.exec.specs.declared.Stream.{Stream}
 use Rattle.exec.specs.declared.Stream.the-variants.{Stdout, Stderr}
-use Rattle.exec.specs.Each.{both}
-use Rattle.exec.specs.Key.{admits}
 use Rattle.exec.specs.Outcome.{isTruncated}
-use Rattle.exec.specs.Time.{due}
 use Rattle.ring.specs.RingLaws.{read-none}
 use Rattle.lifecycle.specs.Life.{exitKnown, isFenced, isSettled}
 use Rattle.stdio.specs.declared.output.Output.{Output}
@@ -27,15 +22,16 @@ use Rattle.account.specs.Call as Call
 use Rattle.account.specs.Call.{Conf, Call, Answer}
 use Rattle.account.specs.Step.{State}
 use Rattle.account.specs.Account
-use Rattle.account.specs.Account.{Replay, mk, isRefused, adds, add, hear, account, start, tallyOf, cut}
+use Rattle.account.specs.Account.{Replay, Tally, add, account, start, tallyOf, cut, count}
 use Rattle.account.specs.Claim.{IsPrefix, isMessage, isTerminal, Silent}
 use Rattle.account.proofs.Plain.{next, answer, afterAll, run, begun}
 use Rattle.account.proofs.Streams.{Good, cut-is}
-use Rattle.account.proofs.Sides.{out-alike, one-both, one-per, on-each, base-behind}
+use Rattle.account.proofs.Sides.{out-alike, one-per, base-behind}
+use Rattle.account.proofs.Keeps.{add-keeps}
 use Rattle.account.proofs.Range.{RangedS, range-next, Lent, opened-range}
 use Rattle.account.proofs.Finish.{Ends, ends, ends-answer, ends-fin, no-more, silent, fin-stays, chosen-ready}
 use Rattle.account.proofs.Lives.{tick-inv}
-use Rattle.account.proofs.Flags.{and-l, and-r, either, five}
+use Rattle.account.proofs.Flags.{and-l, and-r, five}
 use borrow.Author.Tests.{not-true}
 use Rattle.account.proofs.EachCall.{InvS, Roomy, step-inv, roomy-next}
 
@@ -44,102 +40,18 @@ use Rattle.account.proofs.EachCall.{InvS, Roomy, step-inv, roomy-next}
 abbrev pub Prefixes : Account.Account → Type 0
 Prefixes a = (x : Stream) → IsPrefix (tallyOf x a .sent) (tallyOf x a .taken)
 
-giveUp-pre : (b c : Bool) (a : Account.Account) → Prefixes a → Prefixes (Account.giveUpA b c a)
-unfolding Account.giveUpA
-giveUp-pre false c a h = h
-giveUp-pre true true a h = h
-giveUp-pre true false a h = λ x. rw (one-both Account.unlessClosed (a .rep .closed) (a .tallies) x) (h x)
-
-streams-pre : (b : Bool) (a : Account.Account) → Prefixes a → Prefixes (Account.abandonStreamsA b a)
-unfolding Account.abandonStreamsA
-streams-pre false a h = h
-streams-pre true a h = λ x. rw (one-both Account.unlessClosed (both _||_ (a .rep .closed) (a .rep .hung)) (a .tallies) x) (h x)
-
-abandon-pre : (b : Bool) (a : Account.Account) → Prefixes a → Prefixes (Account.abandonA b a)
-unfolding Account.abandonA
-abandon-pre false a h = h
-abandon-pre true a h = streams-pre (Account.isFencedR (Account.leaveR (a .rep) .settling)) (mk (Account.leaveR (a .rep)) (a .tallies)) h
-
-tick-pre : (now : ℕ) (a : Account.Account) → Prefixes a → Prefixes (Account.tickA now a)
-unfolding Account.tickA
-tick-pre now a h =
-    let a1 : Account.Account = Account.tick1 now a in let a3 : Account.Account = Account.tick3 now a1 in let a4 : Account.Account = Account.tick4 now a3 in
-    abandon-pre (due (a4 .rep .abandon) now) a4 (giveUp-pre (due (a3 .rep .giveUp) now) (Account.cleanedR (a3 .rep)) a3 h)
-
-cancel-pre : (k : Admission) (now : ℕ) (a : Account.Account) → Prefixes a → Prefixes (Account.cancelA k now a)
-unfolding Account.cancelA
-cancel-pre Admission.Own now a h = tick-pre now a h
-cancel-pre Admission.Stale now a h = h
-cancel-pre (Admission.Refused x) now a h = h
-
-detach-pre : (now : ℕ) (a : Account.Account) → Prefixes a → Prefixes (Account.detachA now a)
-unfolding Account.detachA
-detach-pre now a h = tick-pre now a h
-
-exit-pre : (now : ℕ) (a : Account.Account) → Prefixes a → Prefixes (Account.exitA now a)
-unfolding Account.exitA
-exit-pre now a h = tick-pre now (mk (Account.noTimeoutR (a .rep)) (a .tallies)) h
-
-hear-pre : (r : Answer) (a : Account.Account) → isMessage r ≡ false → Prefixes a → Prefixes (hear r a)
-hear-pre Call.Ok a e h = h
-hear-pre Call.Applied a e h = h
-hear-pre Call.Stale a e h = h
-hear-pre Call.Late a e h = h
-hear-pre (Call.Refused n) a e h = h
-hear-pre (Call.Taken n) a e h = h
-hear-pre (Call.Pending b) a e h = h
-hear-pre (Call.Value n) a e h = h
-hear-pre (Call.Time d) a e h = h
-hear-pre (Call.Truth b) a e h = h
-hear-pre (Call.Asks r) a e h = h
-hear-pre (Call.Says m) a e h = absurd (true≢false e)
-hear-pre Call.Nothing a e h = h
-hear-pre (Call.IsKey k) a e h = h
-hear-pre (Call.AreLimits l) a e h = h
-
 longer : (s t b : List ℕ) → IsPrefix s t → IsPrefix s (t ++ b)
 longer s t b h = (h .0 ++ b, rw (h .1) (append-assoc s (h .0) b))
 
-on-tally : (y : Stream) (g : Account.Tally → Account.Tally) (a : Account.Account) → IsPrefix (g (tallyOf y a) .sent) (g (tallyOf y a) .taken) → Prefixes a → Prefixes (Account.onTally y g a)
-on-tally y g a p h = on-each (λ (x : Stream) (t : Account.Tally). IsPrefix (t .sent) (t .taken)) y g (a .tallies) p (λ x e. h x)
-
-adds-pre : (c : Call) (r : Answer) (a : Account.Account) → isMessage r ≡ false → Prefixes a → Prefixes (adds a c r)
-unfolding adds
-adds-pre (Call.credit k p u) r a e h = h
-adds-pre (Call.input k b) r a e h = h
-adds-pre (Call.endInput k) r a e h = h
-adds-pre (Call.cancel now k c) r a e h = cancel-pre (admits (a .rep .conf .key) k) now a h
-adds-pre (Call.launched x) r a e h = h
-adds-pre (Call.output x b) r a e h = on-tally x (Account.takenBy (take (Account.count r) b)) a (longer (tallyOf x a .sent) (tallyOf x a .taken) (take (Account.count r) b) (h x)) h
-adds-pre (Call.discarded x n) r a e h = on-tally x (Account.marked (ltb 0 n)) a (h x) h
-adds-pre (Call.outputClosed x) r a e h = h
-adds-pre (Call.outputFailed x) r a e h = on-tally x (Account.marked true) (mk (Account.closeR x (a .rep)) (a .tallies)) (h x) h
-adds-pre (Call.outputHungUp x) r a e h = h
-adds-pre (Call.inputWritten n) r a e h = h
-adds-pre Call.inputClosed r a e h = h
-adds-pre (Call.exited now x) r a e h = exit-pre now a h
-adds-pre (Call.settled ok) r a e h = h
-adds-pre (Call.dropped now) r a e h = detach-pre now a h
-adds-pre (Call.reset now) r a e h = detach-pre now a h
-adds-pre (Call.disconnect now) r a e h = detach-pre now a h
-adds-pre (Call.tick now) r a e h = tick-pre now a h
-adds-pre Call.nextRequest r a e h = h
-adds-pre (Call.nextMessage n) r a e h = hear-pre r a e h
-adds-pre (Call.readAllowance x) r a e h = h
-adds-pre Call.pendingInput r a e h = h
-adds-pre Call.deadline r a e h = h
-adds-pre Call.isFinished r a e h = h
-adds-pre Call.isDetached r a e h = h
-adds-pre Call.awaitsSettlement r a e h = h
-adds-pre Call.buffered r a e h = h
-adds-pre Call.highWater r a e h = h
-adds-pre Call.memoryBound r a e h = h
-adds-pre Call.key r a e h = h
-adds-pre Call.limits r a e h = h
-
 add-pre : (c : Call) (r : Answer) (a : Account.Account) → isMessage r ≡ false → Prefixes a → Prefixes (add a c r)
-unfolding add
-add-pre c r a e h = either Prefixes (isRefused r) a (adds a c r) h (adds-pre c r a e h)
+add-pre c r a e h = add-keeps (λ (x : Stream) (k : Bool) (t : Tally). IsPrefix (t .sent) (t .taken)) c r (record {
+  marks = λ x b k t p. p;
+  lost = λ x k t p. p;
+  fails = λ x k t d p. p;
+  closes = λ x k t d p. p;
+  takes = λ x b k t d p. longer (t .sent) (t .taken) (take (count r) b) p;
+  sends = λ x b k t d p. absurd (true≢false (sym (ap isMessage d) ∙ e));
+}) a h
 
 -- ---- over the list
 
@@ -214,7 +126,7 @@ once s c ds e = silent ds _ (ends-fin _ c (ends c _ e))
 emptied : (o : Output) (b : Bool) → (isDone o && b) ≡ true → ltb 0 (o .queued) ≡ false
 emptied o b e = not-true (ltb 0 (o .queued)) (and-r (o .closed) (not (ltb 0 (o .queued))) (and-l (isDone o) b e))
 
-ready-delivered : (s : Runner) → isReady s ≡ true → (x : Stream) → isDelivered (s .flags .detached) (outOf x s) ≡ true
+pub ready-delivered : (s : Runner) → isReady s ≡ true → (x : Stream) → isDelivered (s .flags .detached) (outOf x s) ≡ true
 unfolding isReady
 ready-delivered s e Stdout = five (not (awaitsLaunch s)) (exitKnown (s .life .exit)) (isDelivered (s .flags .detached) (out0 s)) (isDelivered (s .flags .detached) (out1 s)) (isSettled (s .life .settling) || isFenced (s .life .settling)) e .2
 ready-delivered s e Stderr = five (not (awaitsLaunch s)) (exitKnown (s .life .exit)) (isDelivered (s .flags .detached) (out0 s)) (isDelivered (s .flags .detached) (out1 s)) (isSettled (s .life .settling) || isFenced (s .life .settling)) e .3

@@ -33,29 +33,31 @@ one-per f Stderr = refl
 
 -- ---- one changed: a claim on each stream holds if it holds of that one, and held of the others
 
--- what is kept of it
+-- two that are kept of it
+pub on-two : {A B : Type 0} (P : Stream → A → B → Type 0) (y : Stream) (f : A → A) (g : B → B) (d : Each A) (e : Each B)
+    → P y (f (one y d)) (g (one y e)) → ((x : Stream) → same y x ≡ false → P x (one x d) (one x e)) → (x : Stream) → P x (one x (onOne y f d)) (one x (onOne y g e))
+on-two P Stdout f g d e p h Stdout = p
+on-two P Stdout f g d e p h Stderr = h Stderr refl
+on-two P Stderr f g d e p h Stdout = h Stdout refl
+on-two P Stderr f g d e p h Stderr = p
+
+-- one that is kept of it
 pub on-each : {A : Type 0} (P : Stream → A → Type 0) (y : Stream) (g : A → A) (e : Each A)
     → P y (g (one y e)) → ((x : Stream) → same y x ≡ false → P x (one x e)) → (x : Stream) → P x (one x (onOne y g e))
-on-each P Stdout g e p h Stdout = p
-on-each P Stdout g e p h Stderr = h Stderr refl
-on-each P Stderr g e p h Stdout = h Stdout refl
-on-each P Stderr g e p h Stderr = p
+on-each {A} P y g e p h = on-two (λ (x : Stream) (a b : A). P x a) y g g e e p h
 
--- its output
-pub on-out : (P : Stream → Output → Type 0) (y : Stream) (o : Output) (os : List Output)
-    → P y o → ((x : Stream) → same y x ≡ false → P x (outputIn x os)) → (x : Stream) → P x (outputIn x (putOutput y o os))
-on-out P Stdout o os p h Stdout = p
-on-out P Stdout o os p h Stderr = h Stderr refl
-on-out P Stderr o os p h Stdout = h Stdout refl
-on-out P Stderr o os p h Stderr = p
-
--- both
+-- its output, and one that is kept of it
 pub on-one : {A : Type 0} (P : Stream → Output → A → Type 0) (y : Stream) (o : Output) (g : A → A) (os : List Output) (e : Each A)
     → P y o (g (one y e)) → ((x : Stream) → same y x ≡ false → P x (outputIn x os) (one x e)) → (x : Stream) → P x (outputIn x (putOutput y o os)) (one x (onOne y g e))
 on-one P Stdout o g os e p h Stdout = p
 on-one P Stdout o g os e p h Stderr = h Stderr refl
 on-one P Stderr o g os e p h Stdout = h Stdout refl
 on-one P Stderr o g os e p h Stderr = p
+
+-- its output
+pub on-out : (P : Stream → Output → Type 0) (y : Stream) (o : Output) (os : List Output)
+    → P y o → ((x : Stream) → same y x ≡ false → P x (outputIn x os)) → (x : Stream) → P x (outputIn x (putOutput y o os))
+on-out P y o os p h = on-one (λ (x : Stream) (o : Output) (a : Stream). P x o) y o (λ (a : Stream). a) os (per (λ (x : Stream). x)) p h
 
 -- ---- the rings
 

@@ -12,7 +12,7 @@ use Rattle.exec.specs.declared.Deadline.the-variants.{Never}
 use Rattle.exec.specs.declared.Settlement.{Settlement}
 use Rattle.exec.specs.declared.Settlement.the-variants as Settlement
 use Rattle.exec.specs.declared.Stream.{Stream}
-use Rattle.exec.specs.Each.{Each, one, onOne, alike, each, both, every}
+use Rattle.exec.specs.Each.{Each, one, onOne, alike, both, every}
 use Rattle.exec.specs.Key.{admits}
 use Rattle.exec.specs.Time.{after, then, earliest, due, timeoutAt}
 use Rattle.account.specs.Call.{Conf, Done, Call, key, limits, credit, input, endInput, cancel, launched, readAllowance, output, discarded, outputClosed, outputFailed, outputHungUp, pendingInput, inputWritten, inputClosed, exited, settled, dropped, reset, disconnect, tick, deadline, nextRequest, nextMessage, isFinished, isDetached, awaitsSettlement, memoryBound, buffered, highWater, Answer, Ok, Applied, Stale, Late, Refused, Taken, Pending, Value, Time, Truth, Asks, Says, IsKey, AreLimits, Nothing, Message, Credit, Started, Output, End, InputClosed, Terminal}
@@ -173,7 +173,7 @@ giveUpA true false a =
     mk
     (withTimes (a .rep .timeout) (a .rep .begun) Never (a .rep .abandon)
     (withWork (a .rep .launch) true (a .rep .left) true Fenced (a .rep .detached)
-    (withStreams (each (λ (c : Bool). true) (a .rep .closed)) (a .rep .hung) (a .rep))))
+    (withStreams (alike true) (a .rep .hung) (a .rep))))
     (both unlessClosed (a .rep .closed) (a .tallies))
 
 -- the launch is still waited for

@@ -7,4 +7,5 @@ pub mod Units
 pub mod LateClaim
 pub mod InputClaim
 pub mod Records
+pub mod TurnClaim
 pub mod Refused
