@@ -1,4 +1,4 @@
--- The proof of demand 3, file by file.
+-- The proof of demand 3 and of what is claimed beside it, file by file.
 pub mod Plain
 pub mod Guarded
 pub mod Flags

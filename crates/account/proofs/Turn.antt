@@ -76,14 +76,15 @@ unmarked t e = or-false-r (ltb (length (t .sent)) (length (t .taken))) (t .mark)
 
 -- ---- own: by the account a stream that is closed and not marked was closed by the program
 
-closed-by : Stream → Done
+-- over calls: the call that closed it
+abbrev closed-by : Stream → Done
 closed-by x = record { call = Call.outputClosed x; answer = Call.Ok }
 
 closed-now : (x : Stream) (c : Call) (s : State) → c ≡ Call.outputClosed x → closed-by x ≡ record { call = c; answer = answer s c }
-unfolding closed-by answer
+unfolding answer
 closed-now x c s e = rw e refl
 
--- G: it was
+-- G x: that the program closed x
 module _ (G : Stream → Type 0) where
   abbrev Owns : Stream → Bool → Tally → Type 0
   Owns x k t = k ≡ true → t .mark ≡ false → G x
@@ -235,7 +236,6 @@ abbrev Unclosing : Stream → Option Call → Type 0
 Unclosing x m = m ≡ some (Call.outputClosed x) → ⊥
 
 unclosed : (m : Option Call) (r : Answer) (x : Stream) (ds : List Done) → Unclosing x m → Has (closed-by x) (consDone m r ds) → Has (closed-by x) ds
-unfolding closed-by
 unclosed none r x ds n h = h
 unclosed (some c) r x ds n (inl e) = absurd (n (ap (λ (d : Done). some (d .call)) (sym e)))
 unclosed (some c) r x ds n (inr h) = h
@@ -254,7 +254,7 @@ read-unclosed conf now b x (Parsed.Refused y) e = none-unclosed x e
 
 closing-at : (conf : Conf) (x : Stream) (e : Entry) (r : Answer) (ds : List Done) (es : List EntryDone) → (Has (closed-by x) ds → Has (closing x) es)
     → Has (closed-by x) (consDone (made conf e) r ds) → Has (closing x) (record { entry = e; answer = r } ∷ es)
-unfolding made closed-by
+unfolding made
 closing-at conf x (call c) r ds es g (inl e) = inl (ap (λ (d : Done). record { entry = call (d .call); answer = d .answer }) e)
 closing-at conf x (call c) r ds es g (inr h) = inr (g h)
 closing-at conf x (readRecord now channel b) r ds es g h =
@@ -287,25 +287,22 @@ module _ (conf : Conf) (now : ℕ) (bytes lengths : List ℕ) (op : Opens conf n
   uncut es e o x h u = sym (w .marks es e o h x) ∙ u
 
   -- the state and the account of the calls of a list
-  state : List Entry → State
+  abbrev state : List Entry → State
   state es = afterAll (begun conf now bytes lengths) (callsOf conf es)
 
-  plain : List Entry → Account
+  abbrev plain : List Entry → Account
   plain es = plainOf conf now bytes lengths (callsOf conf es)
 
   to-plain : (es : List Entry) → entryAccount conf now bytes lengths es ≡ plain es
-  unfolding plain
   to-plain es = same-account conf now bytes lengths op es ∙ plain-account conf now bytes lengths op (callsOf conf es)
 
   terminal-call : (es : List Entry) (e : Entry) → isTerminal (answered conf now bytes lengths es e) ≡ true
       → (c : Call) × (made conf e ≡ some c) × (isTerminal (answer (state es) c) ≡ true)
-  unfolding state
   terminal-call es e h =
       let q = at-terminal conf now bytes lengths op es e h in
       (q .0, q .3, sym (ap isTerminal (q .2 ∙ same-answer conf now bytes lengths op (callsOf conf es) (q .0))) ∙ h)
 
   own-at : (es : List Entry) (x : Stream) → one x (plain es .rep .closed) ≡ true → tallyOf x (plain es) .mark ≡ false → Has (closing x) (runEntries (Step.opened conf now bytes lengths) es)
-  unfolding plain
   own-at es x =
       list-own (λ (y : Stream). Has (closing y) (runEntries (Step.opened conf now bytes lengths) es)) (callsOf conf es) (begun conf now bytes lengths) (start conf now)
       (λ y m. closing-in conf y (runEntries (Step.opened conf now bytes lengths) es)
@@ -313,7 +310,6 @@ module _ (conf : Conf) (now : ℕ) (bytes lengths : List ℕ) (op : Opens conf n
       (start-own _ conf now) x
 
   final-at : (es : List Entry) (e : Entry) (ds : List Entry) (c : Call) → made conf e ≡ some c → isTerminal (answer (state es) c) ≡ true → All (Same (plain es)) (plain (es ++ (e ∷ ds)))
-  unfolding plain state
   final-at es e ds c m h =
       subst⁻¹ (All (Same (plain es)))
       (ap (λ (cs : List Call). account (start conf now) (run (begun conf now bytes lengths) cs)) (calls-append conf es (e ∷ ds) ∙ ap (λ (k : Option Call). callsOf conf es ++ consCall k (callsOf conf ds)) m)
@@ -321,7 +317,6 @@ module _ (conf : Conf) (now : ℕ) (bytes lengths : List ℕ) (op : Opens conf n
       (terminal-same (plain es) c (callsOf conf ds) (state es) (plain es) h (λ x. (refl, refl)))
 
   pub turn : Turn conf now bytes lengths
-  unfolding plain state
   turn = record {
     rows = λ es e o x h u. uncut-sent (tallied conf now bytes lengths es x) (w .joined es x) (uncut es e o x h u);
     own = λ es e o x h u. (let q = terminal-call es e (ap isTerminal h) in

@@ -161,7 +161,7 @@ isFencedR (Requested d) = false
 isFencedR Settled = false
 isFencedR Fenced = true
 
--- launch and exit are reported, both streams are closed and settling is Settled
+-- launch and exit are reported, each stream is closed and settling is Settled
 abbrev pub cleanedR : Replay → Bool
 cleanedR r = r .launch && r .exit && every (r .closed) && isSettledR (r .settling)
 
