@@ -10,9 +10,11 @@ use Rattle.exec.specs.declared.Limits.{Limits}
 use Rattle.exec.specs.declared.Refusal.{Refusal}
 use Rattle.exec.specs.declared.Reply.{Reply}
 use Rattle.exec.specs.declared.Reply.the-variants as Reply
+use Rattle.exec.specs.declared.Stream.{Stream}
 use Rattle.exec.specs.declared.Unit as units
 use Rattle.exec.specs.declared.Unit.the-variants.{Bytes, Frames}
 use Rattle.exec.specs.Limits.{isValid}
+use Rattle.exec.specs.Outcome.{isTruncated}
 use Rattle.credit.specs.Need.{byteNeed, lengthNeedAs, lengthNeed}
 use Rattle.stdio.specs.declared.input.Input.{Input}
 use Rattle.runner.specs.declared.runner.Runner.{Runner}
@@ -88,7 +90,7 @@ goes s c h =
     and-both (inRange (s .runner) && isValid (s .runner .limits)) (enough s c)
     (and-both (inRange (s .runner)) (isValid (s .runner .limits)) (in-range (s .lengths) (s .runner) r) (h .limits))
     (enough-all c s (le-leb (byteNeed (s .runner .limits)) (length (s .bytes)) (h .sound .roomy))
-    (le-leb (lengthNeed (s .runner .limits)) (length (s .lengths)) (slots-by (s .runner .limits .input .unit) (s .runner .limits) (s .lengths) (s .runner .input) (r .4 .0))))
+    (le-leb (lengthNeed (s .runner .limits)) (length (s .lengths)) (slots-by (s .runner .limits .input .unit) (s .runner .limits) (s .lengths) (s .runner .input) (r .2 .0))))
 
 pub fine-next : (c : Call) (s : State) → Fine s → Fine (next s c)
 fine-next c s h = record {
@@ -159,7 +161,7 @@ module _ (conf : Conf) (now : ℕ) (bytes lengths : List ℕ) (op : Opens conf n
   pub same-run : (cs : List Call) → Step.run (Step.opened conf now bytes lengths) cs ≡ run (begun conf now bytes lengths) cs
   same-run cs = ap (λ (s : State). Step.run s cs) (open-same conf now bytes lengths op) ∙ run-same cs (begun conf now bytes lengths) f0
 
-  same-account : (cs : List Call) → accountOf conf now bytes lengths cs ≡ plainOf conf now bytes lengths cs
+  pub same-account : (cs : List Call) → accountOf conf now bytes lengths cs ≡ plainOf conf now bytes lengths cs
   same-account cs = ap (λ (ds : List Done). account (start conf now) ds) (same-run cs)
 
   pub same-answer : (cs : List Call) (c : Call) → Step.answer (Step.after (Step.opened conf now bytes lengths) cs) c ≡ answer (afterAll (begun conf now bytes lengths) cs) c
@@ -183,7 +185,7 @@ module _ (conf : Conf) (now : ℕ) (bytes lengths : List ℕ) (op : Opens conf n
   demand3 = record {
     joined = λ cs x. subst⁻¹ (λ (a : Account). IsPrefix (tallyOf x a .sent) (tallyOf x a .taken)) (same-account cs) (Lists.joined conf now bytes lengths lt cs x);
     once = λ cs c ds e. subst⁻¹ Silent (same-rest cs c ds) (Lists.once (afterAll (begun conf now bytes lengths) cs) c ds (sym (ap isTerminal (same-answer cs c)) ∙ e));
-    marks = λ cs c o e. subst⁻¹ (λ (a : Account). (o .«stdout_truncated» ≡ cut (a .t0)) × (o .«stderr_truncated» ≡ cut (a .t1))) (same-account cs)
+    marks = λ cs c o e. subst⁻¹ (λ (a : Account). (x : Stream) → isTruncated o x ≡ cut (tallyOf x a)) (same-account cs)
         (Lists.marks-at _ _ c o (Lists.open-course conf now bytes lengths lt cs) (sym (same-answer cs c) ∙ e));
     first = λ cs t k c e. (let p = Five.first t k c (afterAll (begun conf now bytes lengths) cs) (sym (same-answer cs _) ∙ e) in
         subst⁻¹ (λ (a : Account). tickA t a .rep .begun ≡ false) (same-account cs) (Lists.course-begun t _ _ (p .0) (Lists.open-course conf now bytes lengths lt cs) ∙ p .1));

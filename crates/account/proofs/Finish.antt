@@ -16,7 +16,6 @@ use Rattle.runner.specs.declared.answer.Request.the-variants as Request
 use Rattle.runner.specs.declared.message.Wish.{Wish}
 use Rattle.runner.specs.declared.message.Wish.the-variants as Wish
 use Rattle.exec.specs.declared.Stream.{Stream}
-use Rattle.exec.specs.declared.Stream.the-variants.{Stdout, Stderr}
 use Rattle.runner.specs.declared.message.Choice.{Choice}
 use Rattle.runner.specs.declared.message.Choice.the-variants as Choice
 use Rattle.runner.specs.declared.runner.Runner.{Runner}
@@ -37,8 +36,7 @@ use Rattle.account.proofs.Lives.{confOf, Frame, frame, ticked-frame, ca
 
 handed-frame : (w : Request) (s : Runner) → frame (handed w s) ≡ frame s
 handed-frame (Request.Terminate c) s = refl
-handed-frame (Request.Discard Stdout) s = refl
-handed-frame (Request.Discard Stderr) s = refl
+handed-frame (Request.Discard x) s = refl
 handed-frame Request.CloseInput s = refl
 handed-frame Request.Settle s = refl
 
@@ -60,8 +58,7 @@ pub data Framed (s t : Runner) (r : Answer) : Type 0 where
 
 sent-frame : (x : Stream) (n : ℕ) (s : Runner) → frame (outputSent x n s) ≡ frame s
 unfolding outputSent outputPaid
-sent-frame Stdout n s = refl
-sent-frame Stderr n s = refl
+sent-frame x n s = refl
 
 effect-framed : (m : Choice) (s : Runner) (bytes : List ℕ) → Framed s (effect m s) (said m s bytes)
 unfolding effect said
@@ -69,8 +66,7 @@ effect-framed Choice.None s b = kept refl
 effect-framed Choice.Credit s b = kept refl
 effect-framed Choice.Started s b = kept refl
 effect-framed Choice.InputClosed s b = kept refl
-effect-framed (Choice.End Stdout) s b = kept refl
-effect-framed (Choice.End Stderr) s b = kept refl
+effect-framed (Choice.End x) s b = kept refl
 effect-framed (Choice.Output x n) s b = kept (sent-frame x n s)
 effect-framed Choice.Terminal s b = ended refl refl refl
 
@@ -88,16 +84,11 @@ framed (Call.nextMessage buffer) s = effect-framed (choose (s .runner) (length b
 framed (Call.credit k p u) s = kept refl
 framed (Call.input k b) s = kept refl
 framed (Call.endInput k) s = kept refl
-framed (Call.output Stdout b) s = kept refl
-framed (Call.output Stderr b) s = kept refl
-framed (Call.discarded Stdout n) s = kept refl
-framed (Call.discarded Stderr n) s = kept refl
-framed (Call.outputClosed Stdout) s = kept refl
-framed (Call.outputClosed Stderr) s = kept refl
-framed (Call.outputFailed Stdout) s = kept refl
-framed (Call.outputFailed Stderr) s = kept refl
-framed (Call.outputHungUp Stdout) s = kept refl
-framed (Call.outputHungUp Stderr) s = kept refl
+framed (Call.output x b) s = kept refl
+framed (Call.discarded x n) s = kept refl
+framed (Call.outputClosed x) s = kept refl
+framed (Call.outputFailed x) s = kept refl
+framed (Call.outputHungUp x) s = kept refl
 framed (Call.inputWritten n) s = kept refl
 framed (Call.settled x) s = kept refl
 framed (Call.readAllowance x) s = kept refl
@@ -236,7 +227,7 @@ said-none : (m : Choice) (s : Runner) (b : List ℕ) → m ≡ Choice.None → i
 unfolding said
 said-none m s b e = rw e refl
 
-finished-none : (n : ℕ) (s : Runner) → s .flags .finished ≡ true → choose s n ≡ Choice.None
+pub finished-none : (n : ℕ) (s : Runner) → s .flags .finished ≡ true → choose s n ≡ Choice.None
 unfolding choose order ifElse
 finished-none n s f = rw f refl
 

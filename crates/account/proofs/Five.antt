@@ -44,12 +44,11 @@ use Rattle.account.specs.Step.{State, receivedAs}
 use Rattle.account.proofs.Plain.{said, next, answer, afterAll, run}
 use Rattle.account.proofs.Stages.{graceIf, terminateIf, giveUpIf, stage1, stage2, stage3, stage4, tickIf, tick-is, cancelIf, late, cancelNext}
 use Rattle.account.specs.Claim.{isTerminal, anyTerminal, messages, counts}
-use Rattle.account.proofs.Streams.{blocked-by}
 use Rattle.account.proofs.Lives.{tick-fin, ticked-frame, cancel-frame, Frame}
 use Rattle.account.proofs.Finish.{ends-by}
 use Rattle.account.proofs.Timing.{low-next, low-timeout, low-grace, low-settle, low-abandon}
 use Rattle.account.proofs.Flags.{or-false-l, or-false-r}
-use Rattle.account.proofs.Phase.{Either, left, right, Dry, AllKnown, Phase, left-over, cleaned-known, known-given, bit}
+use Rattle.account.proofs.Phase.{Either, left, right, Dry, AllKnown, Phase, left-over, cleaned-known, known-given, dry-given, dry-grace, bit}
 
 -- ---- the two phases
 
@@ -85,24 +84,24 @@ After s = Phase Gone s
 
 -- ---- the late tick
 
-dry-grace : (b : Bool) (s : Runner) → Dry s → Dry (graceIf b s)
+dry-if : (b : Bool) (s : Runner) → Dry s → Dry (graceIf b s)
 unfolding endGrace
-dry-grace false s d = d
-dry-grace true s d = (record { none = refl; stop = blocked-by ((out0 s) .closed) ((out0 s) .discarding) }, record { none = refl; stop = blocked-by ((out1 s) .closed) ((out1 s) .discarding) })
+dry-if false s d = d
+dry-if true s d = dry-grace s
 
 dry-now : (s : Runner) → Dry (graceIf true s)
 unfolding endGrace
-dry-now s = (record { none = refl; stop = blocked-by ((out0 s) .closed) ((out0 s) .discarding) }, record { none = refl; stop = blocked-by ((out1 s) .closed) ((out1 s) .discarding) })
+dry-now s = dry-grace s
 
 dry-stage : (sum now : ℕ) (s : Runner) → sum ≤ now → Either (Soon sum (s .clocks .«grace_until»)) (Dry s) → Dry (stage2 now s)
 dry-stage sum now s l (left p) = subst⁻¹ (λ (b : Bool). Dry (graceIf b s)) (soon-due sum now (s .clocks .«grace_until») l p) (dry-now s)
-dry-stage sum now s l (right d) = dry-grace (due (s .clocks .«grace_until») now) s d
+dry-stage sum now s l (right d) = dry-if (due (s .clocks .«grace_until») now) s d
 
 dry-giveUp : (b c : Bool) (s : Runner) → Dry s → Dry (giveUpIf b c s)
 unfolding giveUp
 dry-giveUp false c s d = d
 dry-giveUp true true s d = d
-dry-giveUp true false s d = (record { none = refl; stop = refl }, record { none = refl; stop = refl })
+dry-giveUp true false s d = dry-given s
 
 known-giveUp : (b c : Bool) (s : Runner) → AllKnown s → AllKnown (giveUpIf b c s)
 unfolding giveUp
@@ -202,11 +201,10 @@ before-cancel sum now c k s e l m =
 
 no-send : (s : Runner) (n : ℕ) (x : Stream) → Dry s → sendableOf s n x ≡ 0
 unfolding sendableOf
-no-send s n x d = go (s .limits .output .unit) (min (min (outOf x s .queued) (s .limits .chunk)) n) (none x)
+no-send s n x d = go (s .limits .output .unit) (min (min (outOf x s .queued) (s .limits .chunk)) n) none
   where
-    none : (x : Stream) → min (min (outOf x s .queued) (s .limits .chunk)) n ≡ 0
-    none Stdout = let z = ltb-false 0 ((out0 s) .queued) (d .0 .none) in omega arith
-    none Stderr = let z = ltb-false 0 ((out1 s) .queued) (d .1 .none) in omega arith
+    none : min (min (outOf x s .queued) (s .limits .chunk)) n ≡ 0
+    none = let z = ltb-false 0 (outOf x s .queued) (d x .none) in omega arith
 
     go : (u : Units.Unit) (w : ℕ) → w ≡ 0 → sendable u (creditAt (poolOf (s .limits) x) (s .credits) .available) w ≡ 0
     go Bytes w e = rw e (omega arith)
@@ -227,7 +225,7 @@ choose-late : (s : Runner) (n : ℕ) (d : Dry s) (k : AllKnown s) → s .flags .
     → choose s n ≡ late-order (s .flags .detached) (s .flags .«started_message») (s .input .«closed_message») (out0 s .ended) (out1 s .ended) (streamAt (s .turn)) (s .flags .credited)
 unfolding choose isReady
 choose-late s n d k f i =
-    rw (no-send s n (streamAt (s .turn)) d, no-send s n (other (streamAt (s .turn))) d, f, i, k .launch, k .exit, k .closed0, k .closed1, k .settled, d .0 .none, d .1 .none) refl
+    rw (no-send s n (streamAt (s .turn)) d, no-send s n (other (streamAt (s .turn))) d, f, i, k .launch, k .exit, k .closed Stdout, k .closed Stderr, k .settled, d Stdout .none, d Stderr .none) refl
 
 pub data Progress (s : Runner) (n : ℕ) : Type 0 where
   terminal : choose s n ≡ Choice.Terminal → Progress s n

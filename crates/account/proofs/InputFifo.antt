@@ -13,7 +13,6 @@ use Rattle.exec.specs.declared.Admission.the-variants as Admission
 use Rattle.exec.specs.declared.Cause.the-variants.{Dropped, Reset, Disconnected}
 use Rattle.exec.specs.declared.Limits.{Limits}
 use Rattle.exec.specs.declared.Stream.{Stream}
-use Rattle.exec.specs.declared.Stream.the-variants.{Stdout, Stderr}
 use Rattle.exec.specs.Key.{admits}
 use Rattle.exec.specs.Limits.{inputBytes as inboxSize}
 use Rattle.ring.specs.Ring.{firstRun}
@@ -24,7 +23,7 @@ use Rattle.credit.specs.Range.{inboxFits}
 use Rattle.credit.specs.RangeLaws as Fits
 use Rattle.credit.specs.Sender.{creditFits}
 use Rattle.stdio.specs.declared.input.Input.{Input}
-use Rattle.stdio.specs.Input.{pendingInput, receiveAnswer, asked-of, isPaid, isKept, receiveInput, receiveBytes, closeWhenTaken, isTaken, peerEnds, popIn, endInput, writtenInput}
+use Rattle.stdio.specs.Input.{pendingInput, receiveAnswer, asked-of, isKept, receiveInput, receiveBytes, closeWhenTaken, isTaken, peerEnds, popIn, endInput, writtenInput}
 use Rattle.stdio.specs.Output.{keeps as keepsOf, keeps-fit}
 use Rattle.stdio.specs.Outputs.{outputsFit}
 use Rattle.runner.specs.declared.answer.Request.the-variants as Request
@@ -36,7 +35,7 @@ use Rattle.runner.specs.declared.runner.Runner.{Runner}
 use Rattle.runner.specs.Life.{closeRunnerInput, ticked, cancelNext, launchedNext, exitedNext, settledNext, detachNext}
 use Rattle.runner.specs.Message.{choose, effect, outputSent, outputPaid, wish, wishEffect}
 use Rattle.runner.specs.Range.{inRange, fresh}
-use Rattle.runner.specs.State.{out0, out1, credit0, credit1}
+use Rattle.runner.specs.State.{outOf, base, credit0, credit1}
 use Rattle.runner.specs.Streams.{pendingOf, isShut, room, outputNext, outputBytes, discardedNext, closedNext, failedNext, hungUpNext, creditNext, inputAnswer, inputNext, inputBytes, endNext, writtenNext}
 use Rattle.account.specs.Call as Call
 use Rattle.account.specs.Call.{Conf, Call, Answer}
@@ -47,11 +46,12 @@ use Rattle.account.specs.InputClaim.{isApplied, front, handedBy, handed,
 use Rattle.account.proofs.Plain.{next, answer, begun}
 use Rattle.account.proofs.Rings.{ring-split}
 use Rattle.account.proofs.Streams.{keeps-less}
+use Rattle.account.proofs.Sides.{base-behind}
 use Rattle.account.proofs.Range.{lent, in-range}
 use Rattle.account.proofs.Finish.{framed, framed-conf}
+use Rattle.account.proofs.EachCall.{kept-room}
 use Rattle.account.proofs.Demand.{Fine, fine-next, next-same, answer-same, fine-open, opens-by, open-same, same-after, same-answer}
 use Rattle.account.proofs.InputMoves.{Moves, same, shut, close, ticks, launches, exits, detaches, cancels}
-use Rattle.account.proofs.InputRange.{paid, room-by}
 use Rattle.account.proofs.Flags.{and-l, and-r}
 use lib.Seq.{take-length}
 
@@ -89,7 +89,7 @@ within s h =
     let o : Bool = outputsFit (r .limits .chunk) (r .outputs) && (creditFits (credit0 (r .credits)) && creditFits (credit1 (r .credits))) in
     let i : Bool = inboxFits (r .limits) (r .input .window) (r .input .inbox) in
     let f : i ≡ true = and-r o i (and-l (o && i) (leb (r .turn) 1) (in-range (s .lengths) r (h .sound .ranged))) in
-    record { area = h .sound .roomy; begins = h .sound .ranged .4 .1; most = Fits.in-range (r .limits) (r .input .window) (r .input .inbox) f .most }
+    record { area = h .sound .roomy; begins = h .sound .ranged .2 .1; most = Fits.in-range (r .limits) (r .input .window) (r .input .inbox) f .most }
 
 -- ---- bytes from the peer
 
@@ -107,13 +107,6 @@ receive-flow l i b st true e w m =
     let z = write-read (inboxBase l) (inboxSize l) (i .inbox .start) (i .inbox .length) b (length b) st a (omega arith) (omega arith) (m refl) in
     rw e (on (sym (z ∙ ap (λ (x : List ℕ). queue l i st ++ x) (take-length b))) (λ c. (c, refl)))
 
-kept-room : (b : List ℕ) (s : State) → Fine s → isKept (s .runner .limits) (s .runner .input) (length b) ≡ true
-    → s .runner .input .inbox .length + length b ≤ inboxSize (s .runner .limits)
-kept-room b s h e =
-    let r : Runner = s .runner in
-    let p = paid (r .limits) (r .input) (length b) (and-l (isPaid (r .limits) (r .input) (length b)) (not (r .input .closed)) e) in
-    room-by (r .limits .input .unit) (r .limits) (s .lengths) (r .input) (length b) (h .sound .ranged .4 .0) (p .small) (p .enough)
-
 input-flow : (a : Admission) (s : State) (b : List ℕ) (f : Bool) → s .runner .flags .finished ≡ f → Fine s
     → Flow (s .runner .limits) (s .runner .input) (inputNext a (s .runner) (length b) .input) (s .bytes) (inputBytes a (s .runner) b (s .bytes)) []
     (cond (isApplied (receivedAs (inputAnswer a (s .runner) (length b)))) b [])
@@ -123,7 +116,7 @@ input-flow Admission.Stale s b f e h = still (s .runner .limits) (s .runner .inp
 input-flow Admission.Own s b true e h = rw e (still (s .runner .limits) (s .runner .input) (s .bytes))
 input-flow Admission.Own s b false e h =
     let l = s .runner .limits in let i = s .runner .input in
-    rw (e, applied-is l i (length b)) (receive-flow l i b (s .bytes) (isKept l i (length b)) refl (within s h) (kept-room b s h))
+    rw (e, applied-is l i (length b)) (receive-flow l i b (s .bytes) (isKept l i (length b)) refl (within s h) (kept-room b s (h .sound .ranged)))
 
 -- ---- bytes to the workload
 
@@ -159,23 +152,14 @@ end-flow Admission.Own r st false e = rw e (ended-flow (r .limits) (r .input) st
 output-flow : (x : Stream) (b : List ℕ) (s : State) → Fine s
     → Flow (s .runner .limits) (s .runner .input) (s .runner .input) (s .bytes) (outputBytes (s .runner) x b (s .bytes)) [] []
 unfolding outputBytes
-output-flow Stdout b s h =
+output-flow x b s h =
     let r = s .runner in let c : ℕ = r .limits .chunk in let w = within s h in
-    let k : ℕ = keepsOf (isShut Stdout r) (out0 r .discarding) (room Stdout r) (length b) in
-    let has = keeps-less (isShut Stdout r) (out0 r .discarding) (room Stdout r) (length b) in
-    let kr = keeps-fit (isShut Stdout r) (out0 r .discarding) (room Stdout r) (length b) in
-    let i0 = h .sound .ranged .0 .inside in let w0 = h .sound .ranged .0 .within in let a = w .area in let g = w .begins in
-    let z = write-other 0 c (out0 r .start) (out0 r .queued) b k (s .bytes) (omega arith) (omega arith) has (omega arith)
-    (2 * c) (inboxSize (r .limits)) (r .input .inbox .start) (r .input .inbox .length) a (omega arith) (w .most) (inr (omega arith)) in
-    on (append-nil (queue (r .limits) (r .input) (s .bytes)) ∙ sym z) (λ e. (e, refl))
-output-flow Stderr b s h =
-    let r = s .runner in let c : ℕ = r .limits .chunk in let w = within s h in
-    let k : ℕ = keepsOf (isShut Stderr r) (out1 r .discarding) (room Stderr r) (length b) in
-    let has = keeps-less (isShut Stderr r) (out1 r .discarding) (room Stderr r) (length b) in
-    let kr = keeps-fit (isShut Stderr r) (out1 r .discarding) (room Stderr r) (length b) in
-    let i1 = h .sound .ranged .1 .inside in let w1 = h .sound .ranged .1 .within in let a = w .area in let g = w .begins in
-    let z = write-other c c (out1 r .start) (out1 r .queued) b k (s .bytes) (omega arith) (omega arith) has (omega arith)
-    (2 * c) (inboxSize (r .limits)) (r .input .inbox .start) (r .input .inbox .length) a (omega arith) (w .most) (inr (omega arith)) in
+    let k : ℕ = keepsOf (isShut x r) (outOf x r .discarding) (room x r) (length b) in
+    let has = keeps-less (isShut x r) (outOf x r .discarding) (room x r) (length b) in
+    let kr = keeps-fit (isShut x r) (outOf x r .discarding) (room x r) (length b) in
+    let i = h .sound .ranged .0 x .inside in let m = h .sound .ranged .0 x .within in let a = w .area in let g = w .begins in let d = base-behind x c in
+    let z = write-other (base x c) c (outOf x r .start) (outOf x r .queued) b k (s .bytes) (omega arith) (omega arith) has (omega arith)
+    (2 * c) (inboxSize (r .limits)) (r .input .inbox .start) (r .input .inbox .length) a (omega arith) (w .most) (inr d) in
     on (append-nil (queue (r .limits) (r .input) (s .bytes)) ∙ sym z) (λ e. (e, refl))
 
 -- ---- messages and requests

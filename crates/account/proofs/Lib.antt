@@ -1,9 +1,11 @@
--- The proof of demand 3, file by file.
+-- The proof of demand 3 and of what is claimed beside it, file by file.
 pub mod Plain
 pub mod Guarded
 pub mod Flags
 pub mod Rings
 pub mod Streams
+pub mod Sides
+pub mod Keeps
 pub mod Stages
 pub mod Lives
 pub mod Choices
@@ -23,4 +25,5 @@ pub mod Session
 pub mod Tight
 pub mod InputFifo
 pub mod Records
+pub mod Turn
 pub mod Refused

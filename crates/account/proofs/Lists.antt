@@ -6,13 +6,10 @@ use Prim.Native.Nat.{ℕ, _+_, _≤_, _<_}
 use native.Mathlib.Omega.{arith}
 use lib.Dec.{ltb}
 use lib.ListN.{length, take}
-use Rattle.exec.specs.declared.Admission.{Admission}
-use Rattle.exec.specs.declared.Admission.the-variants as Admission
 use Rattle.exec.specs.declared.Outcome.{Outcome}
 use Rattle.exec.specs.declared.Stream.{Stream}
 use Rattle.exec.specs.declared.Stream.the-variants.{Stdout, Stderr}
-use Rattle.exec.specs.Key.{admits}
-use Rattle.exec.specs.Time.{due}
+use Rattle.exec.specs.Outcome.{isTruncated}
 use Rattle.ring.specs.RingLaws.{read-none}
 use Rattle.lifecycle.specs.Life.{exitKnown, isFenced, isSettled}
 use Rattle.stdio.specs.declared.output.Output.{Output}
@@ -20,15 +17,17 @@ use Rattle.stdio.specs.Output.{newOutput, isDone, isDelivered}
 use Rattle.runner.specs.declared.runner.Runner.{Runner}
 use Rattle.runner.specs.Life.{awaitsLaunch, ticked, isReady, outcomeOf}
 use Rattle.runner.specs.Range as Range
-use Rattle.runner.specs.State.{out0, out1}
+use Rattle.runner.specs.State.{out0, out1, outOf, base}
 use Rattle.account.specs.Call as Call
 use Rattle.account.specs.Call.{Conf, Call, Answer}
 use Rattle.account.specs.Step.{State}
 use Rattle.account.specs.Account
-use Rattle.account.specs.Account.{Replay, mk, add, hear, account, start, tallyOf, cut}
+use Rattle.account.specs.Account.{Replay, Tally, add, account, start, tallyOf, cut, count}
 use Rattle.account.specs.Claim.{IsPrefix, isMessage, isTerminal, Silent}
 use Rattle.account.proofs.Plain.{next, answer, afterAll, run, begun}
 use Rattle.account.proofs.Streams.{Good, cut-is}
+use Rattle.account.proofs.Sides.{out-alike, one-per, base-behind}
+use Rattle.account.proofs.Keeps.{add-keeps}
 use Rattle.account.proofs.Range.{RangedS, range-next, Lent, opened-range}
 use Rattle.account.proofs.Finish.{Ends, ends, ends-answer, ends-fin, no-more, silent, fin-stays, chosen-ready}
 use Rattle.account.proofs.Lives.{tick-inv}
@@ -39,100 +38,20 @@ use Rattle.account.proofs.EachCall.{InvS, Roomy, step-inv, roomy-next}
 -- ---- after Terminal: sent stays, taken grows at most
 
 abbrev pub Prefixes : Account.Account → Type 0
-Prefixes a = IsPrefix (a .t0 .sent) (a .t0 .taken) × IsPrefix (a .t1 .sent) (a .t1 .taken)
-
-giveUp-pre : (b c : Bool) (a : Account.Account) → Prefixes a → Prefixes (Account.giveUpA b c a)
-unfolding Account.giveUpA
-giveUp-pre false c a h = h
-giveUp-pre true true a h = h
-giveUp-pre true false a h = h
-
-streams-pre : (b : Bool) (a : Account.Account) → Prefixes a → Prefixes (Account.abandonStreamsA b a)
-unfolding Account.abandonStreamsA
-streams-pre false a h = h
-streams-pre true a h = h
-
-abandon-pre : (b : Bool) (a : Account.Account) → Prefixes a → Prefixes (Account.abandonA b a)
-unfolding Account.abandonA
-abandon-pre false a h = h
-abandon-pre true a h = streams-pre (Account.isFencedR (Account.leaveR (a .rep) .settling)) (mk (Account.leaveR (a .rep)) (a .t0) (a .t1)) h
-
-tick-pre : (now : ℕ) (a : Account.Account) → Prefixes a → Prefixes (Account.tickA now a)
-unfolding Account.tickA
-tick-pre now a h =
-    let a1 : Account.Account = Account.tick1 now a in let a3 : Account.Account = Account.tick3 now a1 in let a4 : Account.Account = Account.tick4 now a3 in
-    abandon-pre (due (a4 .rep .abandon) now) a4 (giveUp-pre (due (a3 .rep .giveUp) now) (Account.cleanedR (a3 .rep)) a3 h)
-
-cancel-pre : (k : Admission) (now : ℕ) (a : Account.Account) → Prefixes a → Prefixes (Account.cancelA k now a)
-unfolding Account.cancelA
-cancel-pre Admission.Own now a h = tick-pre now a h
-cancel-pre Admission.Stale now a h = h
-cancel-pre (Admission.Refused x) now a h = h
-
-detach-pre : (now : ℕ) (a : Account.Account) → Prefixes a → Prefixes (Account.detachA now a)
-unfolding Account.detachA
-detach-pre now a h = tick-pre now a h
-
-exit-pre : (now : ℕ) (a : Account.Account) → Prefixes a → Prefixes (Account.exitA now a)
-unfolding Account.exitA
-exit-pre now a h = tick-pre now (mk (Account.noTimeoutR (a .rep)) (a .t0) (a .t1)) h
-
-hear-pre : (r : Answer) (a : Account.Account) → isMessage r ≡ false → Prefixes a → Prefixes (hear r a)
-hear-pre Call.Ok a e h = h
-hear-pre Call.Applied a e h = h
-hear-pre Call.Stale a e h = h
-hear-pre Call.Late a e h = h
-hear-pre (Call.Refused n) a e h = h
-hear-pre (Call.Taken n) a e h = h
-hear-pre (Call.Pending b) a e h = h
-hear-pre (Call.Value n) a e h = h
-hear-pre (Call.Time d) a e h = h
-hear-pre (Call.Truth b) a e h = h
-hear-pre (Call.Asks r) a e h = h
-hear-pre (Call.Says m) a e h = absurd (true≢false e)
-hear-pre Call.Nothing a e h = h
-hear-pre (Call.IsKey k) a e h = h
-hear-pre (Call.AreLimits l) a e h = h
+Prefixes a = (x : Stream) → IsPrefix (tallyOf x a .sent) (tallyOf x a .taken)
 
 longer : (s t b : List ℕ) → IsPrefix s t → IsPrefix s (t ++ b)
 longer s t b h = (h .0 ++ b, rw (h .1) (append-assoc s (h .0) b))
 
 add-pre : (c : Call) (r : Answer) (a : Account.Account) → isMessage r ≡ false → Prefixes a → Prefixes (add a c r)
-unfolding add
-add-pre (Call.credit k p u) r a e h = h
-add-pre (Call.input k b) r a e h = h
-add-pre (Call.endInput k) r a e h = h
-add-pre (Call.cancel now k c) r a e h = cancel-pre (admits (a .rep .conf .key) k) now a h
-add-pre (Call.launched x) r a e h = h
-add-pre (Call.output Stdout b) r a e h = (longer (a .t0 .sent) (a .t0 .taken) (take (Account.count r) b) (h .0), h .1)
-add-pre (Call.output Stderr b) r a e h = (h .0, longer (a .t1 .sent) (a .t1 .taken) (take (Account.count r) b) (h .1))
-add-pre (Call.discarded Stdout n) r a e h = h
-add-pre (Call.discarded Stderr n) r a e h = h
-add-pre (Call.outputClosed x) r a e h = h
-add-pre (Call.outputFailed Stdout) r a e h = h
-add-pre (Call.outputFailed Stderr) r a e h = h
-add-pre (Call.outputHungUp x) r a e h = h
-add-pre (Call.inputWritten n) r a e h = h
-add-pre Call.inputClosed r a e h = h
-add-pre (Call.exited now x) r a e h = exit-pre now a h
-add-pre (Call.settled ok) r a e h = h
-add-pre (Call.dropped now) r a e h = detach-pre now a h
-add-pre (Call.reset now) r a e h = detach-pre now a h
-add-pre (Call.disconnect now) r a e h = detach-pre now a h
-add-pre (Call.tick now) r a e h = tick-pre now a h
-add-pre Call.nextRequest r a e h = h
-add-pre (Call.nextMessage n) r a e h = hear-pre r a e h
-add-pre (Call.readAllowance x) r a e h = h
-add-pre Call.pendingInput r a e h = h
-add-pre Call.deadline r a e h = h
-add-pre Call.isFinished r a e h = h
-add-pre Call.isDetached r a e h = h
-add-pre Call.awaitsSettlement r a e h = h
-add-pre Call.buffered r a e h = h
-add-pre Call.highWater r a e h = h
-add-pre Call.memoryBound r a e h = h
-add-pre Call.key r a e h = h
-add-pre Call.limits r a e h = h
+add-pre c r a e h = add-keeps (λ (x : Stream) (k : Bool) (t : Tally). IsPrefix (t .sent) (t .taken)) c r (record {
+  marks = λ x b k t p. p;
+  lost = λ x k t p. p;
+  fails = λ x k t d p. p;
+  closes = λ x k t d p. p;
+  takes = λ x b k t d p. longer (t .sent) (t .taken) (take (count r) b) p;
+  sends = λ x b k t d p. absurd (true≢false (sym (ap isMessage d) ∙ e));
+}) a h
 
 -- ---- over the list
 
@@ -151,7 +70,7 @@ whole-prefix : (q sent taken : List ℕ) (rest : List ℕ) → taken ≡ (sent +
 whole-prefix q sent taken rest e = (q ++ rest, e ∙ append-assoc sent q rest)
 
 inv-prefixes : (s : State) (a : Account.Account) → InvS s a → Prefixes a
-inv-prefixes s a h = (whole-prefix _ (a .t0 .sent) (a .t0 .taken) (h .1 .0 .rest) (h .1 .0 .whole), whole-prefix _ (a .t1 .sent) (a .t1 .taken) (h .2 .0 .rest) (h .2 .0 .whole))
+inv-prefixes s a h = λ x. whole-prefix _ (tallyOf x a .sent) (tallyOf x a .taken) (h .1 x .0 .rest) (h .1 x .0 .whole)
 
 pub course-prefixes : (s : State) (a : Account.Account) → Course s a → Prefixes a
 course-prefixes s a (running f r h) = inv-prefixes s a h
@@ -187,14 +106,19 @@ sound-open c now bytes lengths o = record { ranged = opened-range c now bytes le
 pub open-course : (c : Conf) (now : ℕ) (bytes lengths : List ℕ) → Lent (c .limits) bytes lengths → (cs : List Call) → Course (afterAll (begun c now bytes lengths) cs) (plainOf c now bytes lengths cs)
 unfolding Range.fresh start
 open-course c now bytes lengths o cs = list-course cs (begun c now bytes lengths) (start c now)
-    (running refl (sound-open c now bytes lengths o) (refl, fresh bytes 0 (c .limits .chunk) (o .chunk) (let z = o .room in omega arith), fresh bytes (c .limits .chunk) (c .limits .chunk) (o .chunk) (let z = o .room in omega arith)))
+    (running refl (sound-open c now bytes lengths o) (refl, at-open))
+  where
+    n : ℕ
+    n = c .limits .chunk
+
+    at-open : (x : Stream) → Good bytes (base x n) n (outOf x (Range.fresh (c .key) (c .limits) (c .timers) now)) (tallyOf x (start c now))
+    at-open x = rw (out-alike newOutput x, one-per (λ (y : Stream). Account.none) x) (fresh bytes (base x n) n (o .chunk) (let z = o .room in let b = base-behind x n in omega arith))
 
 -- ---- parts one to three
 
 module _ (conf : Conf) (now : ℕ) (bytes lengths : List ℕ) (op : Lent (conf .limits) bytes lengths) where
   pub joined : (cs : List Call) (x : Stream) → IsPrefix (tallyOf x (plainOf conf now bytes lengths cs) .sent) (tallyOf x (plainOf conf now bytes lengths cs) .taken)
-  joined cs Stdout = course-prefixes (afterAll (begun conf now bytes lengths) cs) (plainOf conf now bytes lengths cs) (open-course conf now bytes lengths op cs) .0
-  joined cs Stderr = course-prefixes (afterAll (begun conf now bytes lengths) cs) (plainOf conf now bytes lengths cs) (open-course conf now bytes lengths op cs) .1
+  joined cs x = course-prefixes (afterAll (begun conf now bytes lengths) cs) (plainOf conf now bytes lengths cs) (open-course conf now bytes lengths op cs) x
 
 pub once : (s : State) (c : Call) (ds : List Call) → isTerminal (answer s c) ≡ true → Silent (run (next s c) ds)
 once s c ds e = silent ds _ (ends-fin _ c (ends c _ e))
@@ -202,27 +126,35 @@ once s c ds e = silent ds _ (ends-fin _ c (ends c _ e))
 emptied : (o : Output) (b : Bool) → (isDone o && b) ≡ true → ltb 0 (o .queued) ≡ false
 emptied o b e = not-true (ltb 0 (o .queued)) (and-r (o .closed) (not (ltb 0 (o .queued))) (and-l (isDone o) b e))
 
-ready-empty : (s : Runner) → isReady s ≡ true → (ltb 0 (out0 s .queued) ≡ false) × (ltb 0 (out1 s .queued) ≡ false)
+pub ready-delivered : (s : Runner) → isReady s ≡ true → (x : Stream) → isDelivered (s .flags .detached) (outOf x s) ≡ true
 unfolding isReady
-ready-empty s e =
-    let r = five (not (awaitsLaunch s)) (exitKnown (s .life .exit)) (isDelivered (s .flags .detached) (out0 s)) (isDelivered (s .flags .detached) (out1 s)) (isSettled (s .life .settling) || isFenced (s .life .settling)) e in
-    (emptied (out0 s) (out0 s .ended || s .flags .detached) (r .2), emptied (out1 s) (out1 s .ended || s .flags .detached) (r .3))
+ready-delivered s e Stdout = five (not (awaitsLaunch s)) (exitKnown (s .life .exit)) (isDelivered (s .flags .detached) (out0 s)) (isDelivered (s .flags .detached) (out1 s)) (isSettled (s .life .settling) || isFenced (s .life .settling)) e .2
+ready-delivered s e Stderr = five (not (awaitsLaunch s)) (exitKnown (s .life .exit)) (isDelivered (s .flags .detached) (out0 s)) (isDelivered (s .flags .detached) (out1 s)) (isSettled (s .life .settling) || isFenced (s .life .settling)) e .3
+
+ready-empty : (s : Runner) → isReady s ≡ true → (x : Stream) → ltb 0 (outOf x s .queued) ≡ false
+ready-empty s e x = emptied (outOf x s) (outOf x s .ended || s .flags .detached) (ready-delivered s e x)
+
+-- what the outcome says of a stream is its mark
+told-cut : (s : Runner) (x : Stream) → isTruncated (outcomeOf s) x ≡ outOf x s .truncated
+unfolding outcomeOf
+told-cut s Stdout = refl
+told-cut s Stderr = refl
 
 told : {o p : Outcome} → Call.Says (Call.Terminal o) ≡ Call.Says (Call.Terminal p) → o ≡ p
 told e = cc
 
 -- what Terminal reports, while the runner has not finished
 pub marks-at : (s : State) (a : Account.Account) (c : Call) (o : Outcome) → Course s a → answer s c ≡ Call.Says (Call.Terminal o)
-    → (o .«stdout_truncated» ≡ cut (a .t0)) × (o .«stderr_truncated» ≡ cut (a .t1))
+    → (x : Stream) → isTruncated o x ≡ cut (tallyOf x a)
 unfolding outcomeOf
-marks-at s a c o (over f h) e = absurd (true≢false (sym (ap isMessage e) ∙ no-more c s f))
-marks-at s a c o (running f r h) e =
+marks-at s a c o (over f h) e x = absurd (true≢false (sym (ap isMessage e) ∙ no-more c s f))
+marks-at s a c o (running f r h) e x =
     let d : Ends s c = ends c s (rw e refl) in
     let q = ready-empty (s .runner) (chosen-ready (length (d .buffer)) (s .runner) (d .chosen)) in
     let w : answer s c ≡ Call.Says (Call.Terminal (outcomeOf (s .runner))) = ends-answer s c d in
     let same : o ≡ outcomeOf (s .runner) = told (sym e ∙ w) in
     let n : ℕ = s .runner .limits .chunk in
-    (ap (λ (o : Outcome). o .«stdout_truncated») same ∙ cut-is (s .bytes) 0 n (out0 (s .runner)) (a .t0) (h .1) (q .0), ap (λ (o : Outcome). o .«stderr_truncated») same ∙ cut-is (s .bytes) n n (out1 (s .runner)) (a .t1) (h .2) (q .1))
+    ap (λ (o : Outcome). isTruncated o x) same ∙ told-cut (s .runner) x ∙ cut-is (s .bytes) (base x n) n (outOf x (s .runner)) (tallyOf x a) (h .1 x) (q x)
 
 -- the first of the three events, by the account
 pub course-begun : (t : ℕ) (s : State) (a : Account.Account) → s .runner .flags .finished ≡ false → Course s a → Account.tickA t a .rep .begun ≡ ticked (s .runner) t .clocks .terminated

@@ -12,20 +12,24 @@ use Rattle.lifecycle.specs.declared.life.Exit.the-variants as Exit
 use Rattle.exec.specs.declared.MaybeStatus.{MaybeStatus}
 use Rattle.exec.specs.declared.Settlement.{Settlement}
 use Rattle.exec.specs.declared.Settlement.the-variants as Settlement
+use Rattle.exec.specs.declared.Stream.{Stream}
 use Rattle.lifecycle.specs.declared.life.Settling.{Settling}
 use Rattle.lifecycle.specs.declared.life.Settling.the-variants as Settling
 use Rattle.runner.specs.declared.runner.Runner.{Runner}
 use Rattle.exec.specs.declared.Deadline.the-variants.{Never}
+use Rattle.exec.specs.Each.{per, both}
 use Rattle.exec.specs.Time.{after, due}
 use Rattle.lifecycle.specs.Life.{launchKnown, exitKnown, orLost, isFenced, isSettled, expired, settleWith}
 use Rattle.lifecycle.specs.Setters.{setTimeoutAt}
+use Rattle.stdio.specs.Output.{graceEnded, givenUp, abandoned}
 use Rattle.runner.specs.Life as Life
 use Rattle.runner.specs.Life.{awaitsLaunch, isCleanedUp, closeRunnerInput, endGrace, giveUp, abandonLaunch, abandonOpenStreams, beginTermination, passGrace, terminate, dropLaunch, ticked, noteExit, noteExitOnce, exitedNext, detached, giveUpSoon, cutOff, cutOffOnce, detachNext}
-use Rattle.runner.specs.State.{withClocks, out0, out1}
+use Rattle.runner.specs.State.{withClocks, outOf, base}
 use Rattle.account.specs.Call.{Conf}
 use Rattle.account.specs.Account
-use Rattle.account.specs.Account.{Account, Replay, Tally, mk, beginIf, begin, timeoutR, noTimeoutR, overdueR, settlingR, isSettledR, isFencedR, cleanedR, giveUpA, leaveR, abandonStreamsA, abandonA, tick1, tick3, tick4, tick5, tickA, cancelA, detachedR, detachR, detachA, exitR, exitA, reportedR}
+use Rattle.account.specs.Account.{Account, Replay, Tally, tallyOf, unlessClosed, mk, beginIf, begin, timeoutR, noTimeoutR, overdueR, settlingR, isSettledR, isFencedR, cleanedR, giveUpA, leaveR, abandonStreamsA, abandonA, tick1, tick3, tick4, tick5, tickA, cancelA, detachedR, detachR, detachA, exitR, exitA, reportedR}
 use Rattle.account.proofs.Streams.{Good, end-grace, given-up, abandoned-by}
+use Rattle.account.proofs.Sides.{out-each, one-both, one-per}
 use Rattle.account.proofs.Stages.{graceIf, terminateIf, timeoutIf, giveUpIf, dropLaunchIf, abandonStreamsIf, abandonIf, stage1, stage2, stage3, stage4, stage5, tickIf, tick-is, cancelIf, late, detachIf, exitedIf, cancelNext}
 
 abbrev pub asReplay : Settling → Account.Settling
@@ -85,21 +89,16 @@ rep s = record {
   exit = exitKnown (s .life .exit);
   settling = asReplay (s .life .settling);
   detached = s .flags .detached;
-  closed0 = (out0 s) .closed;
-  hung0 = (out0 s) .«hung_up»;
-  closed1 = (out1 s) .closed;
-  hung1 = (out1 s) .«hung_up»;
+  closed = per (λ (x : Stream). outOf x s .closed);
+  hung = per (λ (x : Stream). outOf x s .«hung_up»);
 }
 
--- A product over what the state shows: a call that leaves that alone keeps it as it stands.
-abbrev pub Good0 : List ℕ → Runner → Tally → Type 0
-Good0 st s t = Good st 0 (s .limits .chunk) (out0 s) t
-
-abbrev pub Good1 : List ℕ → Runner → Tally → Type 0
-Good1 st s t = Good st (s .limits .chunk) (s .limits .chunk) (out1 s) t
+-- what is kept of a stream, whose ring stands in the store
+abbrev pub GoodAt : List ℕ → Runner → Stream → Tally → Type 0
+GoodAt st s x t = Good st (base x (s .limits .chunk)) (s .limits .chunk) (outOf x s) t
 
 abbrev pub Inv : List ℕ → Runner → Account → Type 0
-Inv st s a = (a .rep ≡ rep s) × Good0 st s (a .t0) × Good1 st s (a .t1)
+Inv st s a = (a .rep ≡ rep s) × ((x : Stream) → GoodAt st s x (tallyOf x a))
 
 left-if : (b : Bool) (s : Runner) → awaitsLaunch s ≡ b → leaveR (rep s) ≡ rep (dropLaunchIf b s)
 unfolding abandonLaunch
@@ -206,48 +205,51 @@ exited-frame now x s =
 
 module _ (st : List ℕ) where
   -- to show something of the account, show it where the replay is the state's own
-  pub along : (P : Account → Type 0) (s : Runner) (a : Account) → Inv st s a → P (mk (rep s) (a .t0) (a .t1)) → P a
-  along P s a h p = subst⁻¹ (λ (r : Replay). P (mk r (a .t0) (a .t1))) (h .0) p
+  pub along : (P : Account → Type 0) (s : Runner) (a : Account) → Inv st s a → P (mk (rep s) (a .tallies)) → P a
+  along P s a h p = subst⁻¹ (λ (r : Replay). P (mk r (a .tallies))) (h .0) p
 
   abbrev pub home : Runner → Account → Account
-  home s a = mk (rep s) (a .t0) (a .t1)
+  home s a = mk (rep s) (a .tallies)
 
   abbrev pub at-home : (s : Runner) (a : Account) → Inv st s a → Inv st s (home s a)
-  at-home s a h = (refl, h .1, h .2)
+  at-home s a h = (refl, h .1)
 
   pub grace-inv : (b : Bool) (s : Runner) (a : Account) → Inv st s a → Inv st (graceIf b s) a
   unfolding endGrace
   grace-inv false s a h = h
-  grace-inv true s a h = (h .0, end-grace st 0 (s .limits .chunk) (out0 s) (a .t0) (h .1), end-grace st (s .limits .chunk) (s .limits .chunk) (out1 s) (a .t1) (h .2))
+  grace-inv true s a h = (h .0, λ x. rw (out-each graceEnded (s .outputs) x) (end-grace st (base x (s .limits .chunk)) (s .limits .chunk) (outOf x s) (tallyOf x a) (h .1 x)))
 
-  terminateIf-inv : (b : Bool) (now : ℕ) (c : Cause) (s : Runner) (a : Account) → Inv st s a → Inv st (terminateIf b now c s) (mk (beginIf b now (a .rep)) (a .t0) (a .t1))
+  terminateIf-inv : (b : Bool) (now : ℕ) (c : Cause) (s : Runner) (a : Account) → Inv st s a → Inv st (terminateIf b now c s) (mk (beginIf b now (a .rep)) (a .tallies))
   unfolding beginTermination passGrace beginIf
   terminateIf-inv true now c s a h = h
   terminateIf-inv false now c s a h =
-      grace-inv (due (after now (s .timers .grace)) now) (beginTermination s now c) (mk (beginIf false now (a .rep)) (a .t0) (a .t1)) (ap (beginIf false now) (h .0), h .1, h .2)
+      grace-inv (due (after now (s .timers .grace)) now) (beginTermination s now c) (mk (beginIf false now (a .rep)) (a .tallies)) (ap (beginIf false now) (h .0), h .1)
 
-  pub terminate-inv : (now : ℕ) (c : Cause) (s : Runner) (a : Account) → Inv st s a → Inv st (terminate s now c) (mk (begin now (a .rep)) (a .t0) (a .t1))
+  pub terminate-inv : (now : ℕ) (c : Cause) (s : Runner) (a : Account) → Inv st s a → Inv st (terminate s now c) (mk (begin now (a .rep)) (a .tallies))
   unfolding terminate
   terminate-inv now c s a h =
-      along (λ (b : Account). Inv st (terminate s now c) (mk (begin now (b .rep)) (b .t0) (b .t1))) s a h (terminateIf-inv (s .clocks .terminated) now c s (home s a) (at-home s a h))
+      along (λ (b : Account). Inv st (terminate s now c) (mk (begin now (b .rep)) (b .tallies))) s a h (terminateIf-inv (s .clocks .terminated) now c s (home s a) (at-home s a h))
 
-  timeoutIf-inv : (b : Bool) (now : ℕ) (s : Runner) (a : Account) → Inv st s a → Inv st (timeoutIf b now s) (mk (timeoutR b now (a .rep)) (a .t0) (a .t1))
+  timeoutIf-inv : (b : Bool) (now : ℕ) (s : Runner) (a : Account) → Inv st s a → Inv st (timeoutIf b now s) (mk (timeoutR b now (a .rep)) (a .tallies))
   unfolding timeoutR
   timeoutIf-inv false now s a h = h
-  timeoutIf-inv true now s a h = terminate-inv now Cause.TimedOut (withClocks (setTimeoutAt Never (s .clocks)) s) (mk (noTimeoutR (a .rep)) (a .t0) (a .t1)) (ap noTimeoutR (h .0), h .1, h .2)
+  timeoutIf-inv true now s a h = terminate-inv now Cause.TimedOut (withClocks (setTimeoutAt Never (s .clocks)) s) (mk (noTimeoutR (a .rep)) (a .tallies)) (ap noTimeoutR (h .0), h .1)
 
   stage1-inv : (now : ℕ) (s : Runner) (a : Account) → Inv st s a → Inv st (stage1 now s) (tick1 now a)
   stage1-inv now s a h = along (λ (b : Account). Inv st (stage1 now s) (tick1 now b)) s a h (timeoutIf-inv (due (s .clocks .«timeout_at») now) now s (home s a) (at-home s a h))
 
   stage3-inv : (now : ℕ) (s : Runner) (a : Account) → Inv st s a → Inv st (stage3 now s) (tick3 now a)
   stage3-inv now s a h = along (λ (b : Account). Inv st (stage3 now s) (tick3 now b)) s a h
-      (ap (λ (x : Account.Settling). settlingR x (rep s)) (overdue-same now (s .life .settling)), h .1, h .2)
+      (ap (λ (x : Account.Settling). settlingR x (rep s)) (overdue-same now (s .life .settling)), h .1)
 
   giveUpIf-inv : (b c : Bool) (s : Runner) (a : Account) → Inv st s a → Inv st (giveUpIf b c s) (giveUpA b c (home s a))
   unfolding giveUp giveUpA
   giveUpIf-inv false c s a h = at-home s a h
-  giveUpIf-inv true true s a h = (refl, h .1, h .2)
-  giveUpIf-inv true false s a h = (rw (given-exit (s .life .exit)) refl, given-up st 0 (s .limits .chunk) (out0 s) (a .t0) (h .1), given-up st (s .limits .chunk) (s .limits .chunk) (out1 s) (a .t1) (h .2))
+  giveUpIf-inv true true s a h = (refl, h .1)
+  giveUpIf-inv true false s a h = (
+    rw (given-exit (s .life .exit)) refl,
+    λ x. rw (out-each givenUp (s .outputs) x, one-both unlessClosed (rep s .closed) (a .tallies) x, one-per (λ (y : Stream). outOf y s .closed) x) (given-up st (base x (s .limits .chunk)) (s .limits .chunk) (outOf x s) (tallyOf x a) (h .1 x)),
+  )
 
   cleaned-same : (s : Runner) → cleanedR (rep s) ≡ isCleanedUp s
   cleaned-same s = rw settled-same refl
@@ -259,8 +261,8 @@ module _ (st : List ℕ) where
 
   left-if-kept : (b : Bool) (s : Runner) (a : Account) → Inv st s a → Inv st (dropLaunchIf b s) (home (dropLaunchIf b s) a)
   unfolding abandonLaunch
-  left-if-kept true s a h = (refl, h .1, h .2)
-  left-if-kept false s a h = (refl, h .1, h .2)
+  left-if-kept true s a h = (refl, h .1)
+  left-if-kept false s a h = (refl, h .1)
 
   left-kept : (s : Runner) (a : Account) → Inv st s a → Inv st (dropLaunch s) (home (dropLaunch s) a)
   unfolding dropLaunch
@@ -269,14 +271,17 @@ module _ (st : List ℕ) where
   streams-inv : (b : Bool) (s : Runner) (a : Account) → Inv st s a → Inv st (abandonStreamsIf b s) (abandonStreamsA b (home s a))
   unfolding abandonOpenStreams abandonStreamsA
   streams-inv false s a h = at-home s a h
-  streams-inv true s a h = (refl, abandoned-by st 0 (s .limits .chunk) (out0 s) (a .t0) (h .1), abandoned-by st (s .limits .chunk) (s .limits .chunk) (out1 s) (a .t1) (h .2))
+  streams-inv true s a h = (
+    refl,
+    λ x. rw (out-each abandoned (s .outputs) x, one-both unlessClosed (both _||_ (rep s .closed) (rep s .hung)) (a .tallies) x, one-both _||_ (rep s .closed) (rep s .hung) x, one-per (λ (y : Stream). outOf y s .closed) x, one-per (λ (y : Stream). outOf y s .«hung_up») x) (abandoned-by st (base x (s .limits .chunk)) (s .limits .chunk) (outOf x s) (tallyOf x a) (h .1 x)),
+  )
 
   abandonIf-inv : (b : Bool) (s : Runner) (a : Account) → Inv st s a → Inv st (abandonIf b s) (abandonA b (home s a))
   unfolding dropLaunch abandonLaunch abandonA
   abandonIf-inv false s a h = at-home s a h
   abandonIf-inv true s a h =
-      subst⁻¹ (λ (c : Bool). Inv st (abandonIf true s) (abandonStreamsA c (mk (leaveR (rep s)) (a .t0) (a .t1)))) (left-fenced s)
-      (subst⁻¹ (λ (r : Replay). Inv st (abandonIf true s) (abandonStreamsA (isFenced (dropLaunch s .life .settling)) (mk r (a .t0) (a .t1)))) (left-same s)
+      subst⁻¹ (λ (c : Bool). Inv st (abandonIf true s) (abandonStreamsA c (mk (leaveR (rep s)) (a .tallies)))) (left-fenced s)
+      (subst⁻¹ (λ (r : Replay). Inv st (abandonIf true s) (abandonStreamsA (isFenced (dropLaunch s .life .settling)) (mk r (a .tallies)))) (left-same s)
       (streams-inv (isFenced (dropLaunch s .life .settling)) (dropLaunch s) (home (dropLaunch s) a) (left-kept s a h)))
 
   stage5-inv : (now : ℕ) (s : Runner) (a : Account) → Inv st s a → Inv st (stage5 now s) (tick5 now a)
@@ -296,13 +301,13 @@ module _ (st : List ℕ) where
   tick-inv now s a f h = subst⁻¹ (λ (t : Runner). Inv st t (tickA now a)) (tick-is s now) (tickIf-inv (s .flags .finished) now s a f h)
 
   cancelIf-inv : (f e : Bool) (now : ℕ) (c : Cause) (s : Runner) (a : Account) → f ≡ false → s .clocks .terminated ≡ e → Inv st s a
-      → Inv st (cancelIf (f || e) now c s) (mk (begin now (a .rep)) (a .t0) (a .t1))
+      → Inv st (cancelIf (f || e) now c s) (mk (begin now (a .rep)) (a .tallies))
   unfolding terminate
   cancelIf-inv true e now c s a ff ee h = absurd (true≢false ff)
   cancelIf-inv false false now c s a ff ee h = terminate-inv now c s a h
   cancelIf-inv false true now c s a ff ee h =
       let same : terminate s now c ≡ s = ap (λ (b : Bool). terminateIf b now c s) ee in
-      subst (λ (t : Runner). Inv st t (mk (begin now (a .rep)) (a .t0) (a .t1))) same (terminate-inv now c s a h)
+      subst (λ (t : Runner). Inv st t (mk (begin now (a .rep)) (a .tallies))) same (terminate-inv now c s a h)
 
   pub cancel-inv : (k : Admission) (now : ℕ) (c : Cause) (s : Runner) (a : Account) → s .flags .finished ≡ false → Inv st s a → Inv st (cancelNext k now c s) (cancelA k now a)
   unfolding Life.cancelNext cancelA
@@ -312,33 +317,33 @@ module _ (st : List ℕ) where
   cancel-inv (Admission.Refused z) now c s a f h = h
 
   detachIf-inv : (f d : Bool) (now : ℕ) (c : Cause) (s : Runner) (a : Account) → f ≡ false → Inv st s a
-      → Inv st (detachIf f d now c s) (mk (detachR d now (a .rep)) (a .t0) (a .t1))
+      → Inv st (detachIf f d now c s) (mk (detachR d now (a .rep)) (a .tallies))
   unfolding endGrace detached giveUpSoon detachR
   detachIf-inv true d now c s a ff h = absurd (true≢false ff)
   detachIf-inv false true now c s a ff h = h
   detachIf-inv false false now c s a ff h =
       let t : Runner = terminate s now c in
-      let g : Inv st t (mk (begin now (a .rep)) (a .t0) (a .t1)) = terminate-inv now c s a h in
-      (ap (detachedR now) (g .0), end-grace st 0 (t .limits .chunk) (out0 t) (a .t0) (g .1), end-grace st (t .limits .chunk) (t .limits .chunk) (out1 t) (a .t1) (g .2))
+      let g : Inv st t (mk (begin now (a .rep)) (a .tallies)) = terminate-inv now c s a h in
+      (ap (detachedR now) (g .0), λ x. rw (out-each graceEnded (t .outputs) x) (end-grace st (base x (t .limits .chunk)) (t .limits .chunk) (outOf x t) (tallyOf x a) (g .1 x)))
 
   pub detach-inv : (now : ℕ) (c : Cause) (s : Runner) (a : Account) → s .flags .finished ≡ false → Inv st s a → Inv st (detachNext s now c) (detachA now a)
   unfolding detachNext cutOffOnce cutOff detachA
   detach-inv now c s a f h =
       let t : Runner = ticked s now in let b : Account = tickA now a in let g : Inv st t b = tick-inv now s a f h in
-      along (λ (x : Account). Inv st (detachNext s now c) (mk (detachR (x .rep .detached) now (x .rep)) (x .t0) (x .t1))) t b g
+      along (λ (x : Account). Inv st (detachNext s now c) (mk (detachR (x .rep .detached) now (x .rep)) (x .tallies))) t b g
       (detachIf-inv (t .flags .finished) (t .flags .detached) now c t (home t b) (tick-fin now s f) (at-home t b g))
 
-  exitedIf-inv : (e g : Bool) (now : ℕ) (x : MaybeStatus) (s : Runner) (a : Account) → Inv st s a → Inv st (exitedIf e g now x s) (mk (exitR (e || g) now (a .rep)) (a .t0) (a .t1))
+  exitedIf-inv : (e g : Bool) (now : ℕ) (x : MaybeStatus) (s : Runner) (a : Account) → Inv st s a → Inv st (exitedIf e g now x s) (mk (exitR (e || g) now (a .rep)) (a .tallies))
   unfolding noteExit closeRunnerInput exitR
   exitedIf-inv true g now x s a h = h
   exitedIf-inv false true now x s a h = h
-  exitedIf-inv false false now x s a h = (ap (exitR false now) (h .0), h .1, h .2)
+  exitedIf-inv false false now x s a h = (ap (exitR false now) (h .0), h .1)
 
   pub exited-inv : (now : ℕ) (x : MaybeStatus) (s : Runner) (a : Account) → s .flags .finished ≡ false → Inv st s a → Inv st (exitedNext s now x) (exitA now a)
   unfolding exitedNext noteExitOnce exitA
   exited-inv now x s a f h =
-      let s′ : Runner = withClocks (setTimeoutAt Never (s .clocks)) s in let a′ : Account = mk (noTimeoutR (a .rep)) (a .t0) (a .t1) in
+      let s′ : Runner = withClocks (setTimeoutAt Never (s .clocks)) s in let a′ : Account = mk (noTimeoutR (a .rep)) (a .tallies) in
       let t : Runner = ticked s′ now in let b : Account = tickA now a′ in
-      let g : Inv st t b = tick-inv now s′ a′ f (ap noTimeoutR (h .0), h .1, h .2) in
-      along (λ (y : Account). Inv st (exitedNext s now x) (mk (exitR (y .rep .exit || y .rep .gaveUp) now (y .rep)) (y .t0) (y .t1))) t b g
+      let g : Inv st t b = tick-inv now s′ a′ f (ap noTimeoutR (h .0), h .1) in
+      along (λ (y : Account). Inv st (exitedNext s now x) (mk (exitR (y .rep .exit || y .rep .gaveUp) now (y .rep)) (y .tallies))) t b g
       (exitedIf-inv (exitKnown (t .life .exit)) (t .flags .«gave_up») now x t (home t b) (at-home t b g))

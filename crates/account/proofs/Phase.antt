@@ -1,12 +1,14 @@
 -- The phase that an Applied cancel begins: what holds until give-up and after it, the messages left, and what a change of a part must keep.
 use mathlib.Core.Bool.{Bool, true, false, cond, not, _&&_, _||_, true≢false, false≢true}
-use mathlib.Core.Path.{_≡_, refl, sym, _∙_}
+use mathlib.Core.Path.{_≡_, refl, sym, ap, _∙_}
 use Prim.Native.Nat.{ℕ, _+_, _-_, _≤_}
 use native.Mathlib.Omega.{arith}
 use native.Mathlib.Nat.{le-refl, add-zero}
 use lib.Dec.{ltb}
 use borrow.Author.Tests.{ltb-false, le-ltb}
 use Rattle.exec.specs.declared.Settlement.{Settlement}
+use Rattle.exec.specs.declared.Stream.{Stream}
+use Rattle.exec.specs.declared.Stream.the-variants.{Stdout, Stderr}
 use Rattle.stdio.specs.declared.input.Input.{Input}
 use Rattle.stdio.specs.declared.output.Output.{Output}
 use Rattle.lifecycle.specs.declared.life.Settling.{Settling}
@@ -16,9 +18,11 @@ use Rattle.exec.specs.declared.Deadline.{Deadline}
 use Rattle.lifecycle.specs.Life.{launchKnown, exitKnown, isSettled, expired, settleWith}
 use Rattle.stdio.specs.Input as In
 use Rattle.stdio.specs.Input.{closeWhenTaken, peerEnds, endInput}
-use Rattle.stdio.specs.Output.{closedOut, failedOut, hungUp, lostOut, endedOut, askedOut, sentOut, keeps, intake}
-use Rattle.runner.specs.State.{out0, out1}
-use Rattle.runner.specs.Life.{awaitsLaunch, isCleanedUp, giveUp, dropLaunch}
+use Rattle.stdio.specs.Output.{graceEnded, givenUp, closedOut, failedOut, hungUp, lostOut, endedOut, askedOut, sentOut, keeps, intake}
+use Rattle.runner.specs.Life.{awaitsLaunch, isCleanedUp, endGrace, giveUp, dropLaunch}
+use Rattle.runner.specs.State.{out0, out1, outOf}
+use Rattle.account.proofs.Streams.{blocked-by}
+use Rattle.account.proofs.Sides.{out-each}
 use Rattle.account.proofs.Stages.{dropLaunchIf, over}
 use Rattle.account.proofs.Lives.{given-exit}
 use Rattle.account.proofs.Flags.{or-right, five}
@@ -41,19 +45,21 @@ pub record Drained (k : ℕ) (closed discarding : Bool) : Type 0 where
   pub none : ltb 0 k ≡ false
   pub stop : (closed || discarding) ≡ true
 
+abbrev pub Empty : Stream → Output → Type 0
+Empty x o = Drained (o .queued) (o .closed) (o .discarding)
+
 abbrev pub Dry : Runner → Type 0
-Dry s = Drained ((out0 s) .queued) ((out0 s) .closed) ((out0 s) .discarding) × Drained ((out1 s) .queued) ((out1 s) .closed) ((out1 s) .discarding)
+Dry s = (x : Stream) → Empty x (outOf x s)
 
 -- nothing is waited for any more
-pub record Known (aw ex c0 c1 ov : Bool) : Type 0 where
+pub record Known (aw ex : Bool) (c : Stream → Bool) (ov : Bool) : Type 0 where
   pub launch : aw ≡ false
   pub exit : ex ≡ true
-  pub closed0 : c0 ≡ true
-  pub closed1 : c1 ≡ true
+  pub closed : (x : Stream) → c x ≡ true
   pub settled : ov ≡ true
 
 abbrev pub AllKnown : Runner → Type 0
-AllKnown s = Known (awaitsLaunch s) (exitKnown (s .life .exit)) ((out0 s) .closed) ((out1 s) .closed) (over (s .life .settling))
+AllKnown s = Known (awaitsLaunch s) (exitKnown (s .life .exit)) (λ (x : Stream). outOf x s .closed) (over (s .life .settling))
 
 -- The phase: the input is closed, the termination begun, and each of the two deadlines stands as P says or has done its work.
 -- With P d = "d is a time at or before the sum" this is the phase before give-up, with P d = ⊥ the phase after it.
@@ -64,9 +70,13 @@ abbrev pub bit : Bool → ℕ
 bit true = 1
 bit false = 0
 
+-- the Ends that are not told
+abbrev pub untold : Runner → ℕ
+untold s = bit (not (out0 s .ended)) + bit (not (out1 s .ended))
+
 -- the messages that may still come before Terminal
 abbrev pub left-over : Runner → ℕ
-left-over s = bit (s .flags .«started_message») + bit (s .input .«closed_message») + bit (not ((out0 s) .ended)) + bit (not ((out1 s) .ended))
+left-over s = bit (s .flags .«started_message») + bit (s .input .«closed_message») + untold s
 
 pub over-overdue : (now : ℕ) (x : Settling) → over x ≡ true → over (expired x now) ≡ true
 over-overdue now Settling.Idle e = e
@@ -101,17 +111,29 @@ cleaned-known s e =
     record {
       launch = no-wait l (not (s .flags .«gave_up»)) (not (s .flags .«launch_abandoned»)) (p .0);
       exit = p .1;
-      closed0 = p .2;
-      closed1 = p .3;
+      closed = shut;
       settled = settled-over (s .life .settling) (p .4);
     }
+  where
+    shut : (x : Stream) → outOf x s .closed ≡ true
+    shut Stdout = five (launchKnown (s .life .launch)) (exitKnown (s .life .exit)) (out0 s .closed) (out1 s .closed) (isSettled (s .life .settling)) e .2
+    shut Stderr = five (launchKnown (s .life .launch)) (exitKnown (s .life .exit)) (out0 s .closed) (out1 s .closed) (isSettled (s .life .settling)) e .3
 
 pub known-given : (s : Runner) → AllKnown (giveUp s)
 unfolding giveUp
-known-given s = record { launch = and-none (not (launchKnown (s .life .launch))) (not (s .flags .«launch_abandoned»)); exit = given-exit (s .life .exit); closed0 = refl; closed1 = refl; settled = refl }
+known-given s = record { launch = and-none (not (launchKnown (s .life .launch))) (not (s .flags .«launch_abandoned»)); exit = given-exit (s .life .exit); closed = λ x. ap (λ (o : Output). o .closed) (out-each givenUp (s .outputs) x); settled = refl }
 
-pub dry-given : {d0 d1 : Bool} → Drained 0 true d0 × Drained 0 true d1
-dry-given = (record { none = refl; stop = refl }, record { none = refl; stop = refl })
+pub known-grace : (s : Runner) → AllKnown s → AllKnown (endGrace s)
+unfolding endGrace
+known-grace s d = record { launch = d .launch; exit = d .exit; closed = λ x. ap (λ (o : Output). o .closed) (out-each graceEnded (s .outputs) x) ∙ d .closed x; settled = d .settled }
+
+pub dry-grace : (s : Runner) → Dry (endGrace s)
+unfolding endGrace
+dry-grace s x = rw (out-each graceEnded (s .outputs) x) (record { none = refl; stop = blocked-by (outOf x s .closed) (outOf x s .discarding) })
+
+pub dry-given : (s : Runner) → Dry (giveUp s)
+unfolding giveUp
+dry-given s x = rw (out-each givenUp (s .outputs) x) (record { none = refl; stop = refl })
 
 known-left-if : (b : Bool) (s : Runner) → awaitsLaunch s ≡ b → AllKnown s → AllKnown (dropLaunchIf b s)
 known-left-if true s e d = absurd (true≢false (sym e ∙ d .launch))

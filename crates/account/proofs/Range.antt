@@ -24,6 +24,7 @@ use Rattle.exec.specs.declared.Unit as units
 use Rattle.exec.specs.declared.Unit.the-variants.{Bytes, Frames}
 use Rattle.exec.specs.Key.{admits}
 use Rattle.exec.specs.Limits.{cost, bytesWith, inputBytes, isValid, outputPool, poolOf}
+use Rattle.exec.specs.Stream.{index}
 use Rattle.exec.specs.Time.{due}
 use Rattle.ring.specs.Ring.{wrap}
 use Rattle.ring.specs.RingLaws.{wrap-lt, read-none}
@@ -37,7 +38,7 @@ use Rattle.credit.specs.Sender.{grantable, grant, spent}
 use Rattle.lifecycle.specs.Life.{isFenced}
 use Rattle.stdio.specs.declared.input.Input.{Input}
 use Rattle.stdio.specs.declared.output.Output.{Output}
-use Rattle.stdio.specs.Output.{keeps, keeps-fit, outputFits}
+use Rattle.stdio.specs.Output.{newOutput, graceEnded, givenUp, abandoned, sentOut, endedOut, askedOut, lostOut, closedOut, failedOut, hungUp, keeps, keeps-fit, outputFits}
 use Rattle.runner.specs.declared.answer.Request.the-variants as Request
 use Rattle.runner.specs.declared.message.Choice.{Choice}
 use Rattle.runner.specs.declared.message.Choice.the-variants as Choice
@@ -47,7 +48,7 @@ use Rattle.runner.specs.declared.runner.Runner.{Runner}
 use Rattle.runner.specs.Life.{awaitsLaunch, isCleanedUp, isLate, isOver, closeRunnerInput, endGrace, giveUp, abandonLaunch, abandonOpenStreams, beginTermination, passGrace, terminate, passTimeout, passSettlement, giveUpUnlessClean, passGiveUp, dropLaunch, dropStreams, passAbandonment, fire, ticked, timeoutCleared, cancelNext, noteStarted, noteLaunch, launchedNext, noteExit, noteExitOnce, exitedNext, settledNext, detached, giveUpSoon, cutOff, cutOffOnce, detachNext}
 use Rattle.runner.specs.Message.{choose, outputPaid, outputSent, effect, wish, wishEffect}
 use Rattle.runner.specs.Range.{inRange, bytesDo, lengthsDo, opens, fresh}
-use Rattle.runner.specs.State.{out0, out1, outOf, credit0, credit1, creditAt, putCredit}
+use Rattle.runner.specs.State.{out0, out1, outOf, at, other, credit0, credit1, creditAt, putCredit}
 use Rattle.runner.specs.Streams as Streams
 use Rattle.runner.specs.Streams.{isShut, creditsIn, creditsAfter, creditNext, isTaken, inputNext, inputLengths, endNext, writtenNext, outputNext, discardedNext, closedNext, failedNext, hungUpNext}
 use Rattle.account.specs.Call as Call
@@ -55,6 +56,7 @@ use Rattle.account.specs.Call.{Conf, Call}
 use Rattle.account.specs.Step.{State}
 use Rattle.account.proofs.Plain.{next, begun, afterAll}
 use Rattle.account.proofs.Streams.{Fits}
+use Rattle.account.proofs.Sides.{out-each, out-alike, on-out}
 use Rattle.account.proofs.Choices.{Sent, choose-sent}
 use Rattle.account.proofs.Flags.{and-both, or-left}
 use Rattle.account.proofs.InputRange.{none, sum-most, areaAs, waiting, Held, HeldIn, InRange, waiting-length, holds-by, close-range, written-range, input-if, end-if, granted-by}
@@ -64,7 +66,7 @@ use Rattle.account.proofs.InputRange.{none, sum-most, areaAs, waiting, 
 abbrev pub Within : Credit → Type 0
 Within c = c .available ≤ c .window
 
-abbrev WithinBoth : List Credit → Type 0
+abbrev pub WithinBoth : List Credit → Type 0
 WithinBoth cs = Within (credit0 cs) × Within (credit1 cs)
 
 grant-range : (c : Credit) (u : ℕ) → Within c → Within (grant c u .credit)
@@ -104,10 +106,12 @@ credits-range Admission.Own p f u cs h = credits-in p f u cs h
 
 -- ---- the state
 
+-- a queue within its ring
+abbrev Queue : ℕ → Stream → Output → Type 0
+Queue n x o = Fits n (o .start) (o .queued)
+
 abbrev pub Ranged : List ℕ → Runner → Type 0
-Ranged lengths s =
-    Fits (s .limits .chunk) (out0 s .start) (out0 s .queued) × Fits (s .limits .chunk) (out1 s .start) (out1 s .queued)
-    × Within (credit0 (s .credits)) × Within (credit1 (s .credits)) × InRange (s .limits) lengths (s .input) × (s .turn ≤ 1)
+Ranged lengths s = ((x : Stream) → Queue (s .limits .chunk) x (outOf x s)) × WithinBoth (s .credits) × InRange (s .limits) lengths (s .input) × (s .turn ≤ 1)
 
 emptied : (n s k : ℕ) → Fits n s k → Fits n 0 0
 emptied n s k h = record { inside = (let z = h .inside in omega arith); within = omega arith }
@@ -125,7 +129,7 @@ module _ (ls : List ℕ) where
 
   end-grace-range : (s : Runner) → Ranged ls s → Ranged ls (endGrace s)
   unfolding endGrace
-  end-grace-range s h = (emptied _ _ _ (h .0), emptied _ _ _ (h .1), h .2, h .3, h .4, h .5)
+  end-grace-range s h = (λ x. rw (out-each graceEnded (s .outputs) x) (emptied _ _ _ (h .0 x)), h .1, h .2, h .3)
 
   grace-range : (now : ℕ) (s : Runner) → Ranged ls s → Ranged ls (passGrace s now)
   unfolding passGrace
@@ -133,7 +137,7 @@ module _ (ls : List ℕ) where
 
   begin-range : (now : ℕ) (c : Cause) (s : Runner) → Ranged ls s → Ranged ls (beginTermination s now c)
   unfolding beginTermination
-  begin-range now c s h = (h .0, h .1, h .2, h .3, close-range (s .limits) ls (s .input) (s .flags .detached) (h .4), h .5)
+  begin-range now c s h = (h .0, h .1, close-range (s .limits) ls (s .input) (s .flags .detached) (h .2), h .3)
 
   terminate-range : (now : ℕ) (c : Cause) (s : Runner) → Ranged ls s → Ranged ls (terminate s now c)
   unfolding terminate
@@ -151,7 +155,7 @@ module _ (ls : List ℕ) where
 
   given-up-range : (s : Runner) → Ranged ls s → Ranged ls (giveUp s)
   unfolding giveUp
-  given-up-range s h = (emptied _ _ _ (h .0), emptied _ _ _ (h .1), h .2, h .3, h .4, h .5)
+  given-up-range s h = (λ x. rw (out-each givenUp (s .outputs) x) (emptied _ _ _ (h .0 x)), h .1, h .2, h .3)
 
   give-up-range : (now : ℕ) (s : Runner) → Ranged ls s → Ranged ls (passGiveUp s now)
   unfolding passGiveUp giveUpUnlessClean
@@ -164,7 +168,7 @@ module _ (ls : List ℕ) where
 
   streams-range : (s : Runner) → Ranged ls s → Ranged ls (dropStreams s)
   unfolding dropStreams abandonOpenStreams
-  streams-range s h = either (isFenced (s .life .settling)) (abandonOpenStreams s) s h h
+  streams-range s h = either (isFenced (s .life .settling)) (abandonOpenStreams s) s (λ x. rw (out-each abandoned (s .outputs) x) (h .0 x), h .1, h .2, h .3) h
 
   abandon-range : (now : ℕ) (s : Runner) → Ranged ls s → Ranged ls (passAbandonment s now)
   unfolding passAbandonment
@@ -204,7 +208,7 @@ module _ (ls : List ℕ) where
 
   closed-range : (s : Runner) → Ranged ls s → Ranged ls (closeRunnerInput s)
   unfolding closeRunnerInput
-  closed-range s h = (h .0, h .1, h .2, h .3, close-range (s .limits) ls (s .input) (s .flags .detached) (h .4), h .5)
+  closed-range s h = (h .0, h .1, close-range (s .limits) ls (s .input) (s .flags .detached) (h .2), h .3)
 
   noted-range : (now : ℕ) (x : MaybeStatus) (s : Runner) → Ranged ls s → Ranged ls (noteExit s now x)
   unfolding noteExit
@@ -228,23 +232,32 @@ module _ (ls : List ℕ) where
   unfolding outputPaid
   paid-range x n s h =
       put-range (poolOf (s .limits) x) (λ (c : Credit). spent c (cost (s .limits .output .unit) n)) (s .credits)
-      (λ c w. spent-range c (cost (s .limits .output .unit) n) w) (h .2, h .3)
+      (λ c w. spent-range c (cost (s .limits .output .unit) n) w) (h .1)
 
   output-range : (x : Stream) (n : ℕ) (s : Runner) → n ≤ outOf x s .queued → Ranged ls s → Ranged ls (outputSent x n s)
   unfolding outputSent outputPaid
-  output-range Stdout n s l h =
-      let c = paid-range Stdout n s h in (sent-range _ n _ _ l (h .0), h .1, c .0, c .1, h .4, omega arith)
-  output-range Stderr n s l h =
-      let c = paid-range Stderr n s h in (h .0, sent-range _ n _ _ l (h .1), c .0, c .1, h .4, omega arith)
+  output-range x n s l h = (
+    on-out (Queue (s .limits .chunk)) x (sentOut (s .limits .chunk) n (outOf x s)) (s .outputs) (sent-range _ n _ _ l (h .0 x)) (λ y e. h .0 y),
+    paid-range x n s h,
+    h .2,
+    turn-range x,
+  )
+    where
+      turn-range : (y : Stream) → index (other y) ≤ 1
+      turn-range Stdout = omega arith
+      turn-range Stderr = omega arith
+
+  -- an output whose queue stays as it was
+  queue-kept : (x : Stream) (f : Output → Output) (s : Runner) → f (outOf x s) .start ≡ outOf x s .start → f (outOf x s) .queued ≡ outOf x s .queued → Ranged ls s → Ranged ls (at x f s)
+  queue-kept x f s e g h = (on-out (Queue (s .limits .chunk)) x (f (outOf x s)) (s .outputs) (rw (e, g) (h .0 x)) (λ y d. h .0 y), h .1, h .2, h .3)
 
   effect-range : (m : Choice) (s : Runner) → Sent s m → Ranged ls s → Ranged ls (effect m s)
   unfolding effect
   effect-range Choice.None s l h = h
-  effect-range Choice.Credit s l h = (h .0, h .1, h .2, h .3, (granted-by (s .limits .input .unit) (s .limits) ls (s .input) (h .4 .0), h .4 .1), h .5)
+  effect-range Choice.Credit s l h = (h .0, h .1, (granted-by (s .limits .input .unit) (s .limits) ls (s .input) (h .2 .0), h .2 .1), h .3)
   effect-range Choice.Started s l h = h
   effect-range Choice.InputClosed s l h = h
-  effect-range (Choice.End Stdout) s l h = h
-  effect-range (Choice.End Stderr) s l h = h
+  effect-range (Choice.End x) s l h = queue-kept x endedOut s refl refl h
   effect-range (Choice.Output x n) s l h = output-range x n s (l .sound) h
   effect-range Choice.Terminal s l h = h
 
@@ -252,8 +265,7 @@ module _ (ls : List ℕ) where
   unfolding wishEffect
   handed-range Wish.None s h = h
   handed-range (Wish.Request (Request.Terminate c)) s h = h
-  handed-range (Wish.Request (Request.Discard Stdout)) s h = h
-  handed-range (Wish.Request (Request.Discard Stderr)) s h = h
+  handed-range (Wish.Request (Request.Discard x)) s h = queue-kept x askedOut s refl refl h
   handed-range (Wish.Request Request.CloseInput) s h = h
   handed-range (Wish.Request Request.Settle) s h = h
 
@@ -264,29 +276,26 @@ pub range-next : (c : Call) (s : State) → RangedS s → RangedS (next s c)
 unfolding next creditNext inputNext inputLengths endNext outputNext discardedNext closedNext failedNext hungUpNext writtenNext Streams.writtenLengths settledNext
 range-next (Call.credit k p u) s h =
     let r : Runner = s .runner in
-    let c = credits-range (admits (r .key) k) (outputPool (r .limits .shared) p) (r .flags .finished) u (r .credits) (h .2, h .3) in
-    (h .0, h .1, c .0, c .1, h .4, h .5)
+    let c = credits-range (admits (r .key) k) (outputPool (r .limits .shared) p) (r .flags .finished) u (r .credits) (h .1) in
+    (h .0, c, h .2, h .3)
 range-next (Call.input k b) s h =
     let r : Runner = s .runner in
-    (h .0, h .1, h .2, h .3, input-if (isTaken (admits (r .key) k) r) (r .limits) (s .lengths) (length b) (r .input) (h .4), h .5)
-range-next (Call.endInput k) s h = (h .0, h .1, h .2, h .3, end-if (isTaken (admits (s .runner .key) k) (s .runner)) (s .runner .limits) (s .lengths) (s .runner .input) (h .4), h .5)
+    (h .0, h .1, input-if (isTaken (admits (r .key) k) r) (r .limits) (s .lengths) (length b) (r .input) (h .2), h .3)
+range-next (Call.endInput k) s h = (h .0, h .1, end-if (isTaken (admits (s .runner .key) k) (s .runner)) (s .runner .limits) (s .lengths) (s .runner .input) (h .2), h .3)
 range-next (Call.cancel now k c) s h = cancel-range (s .lengths) (admits (s .runner .key) k) now c (s .runner) h
 range-next (Call.launched x) s h = launched-range (s .lengths) x (s .runner) h
-range-next (Call.output Stdout b) s h =
-    let r : Runner = s .runner in
-    (kept-range (r .limits .chunk) (out0 r .start) (out0 r .queued) (isShut Stdout r) (out0 r .discarding) (length b) (h .0), h .1, h .2, h .3, h .4, h .5)
-range-next (Call.output Stderr b) s h =
-    let r : Runner = s .runner in
-    (h .0, kept-range (r .limits .chunk) (out1 r .start) (out1 r .queued) (isShut Stderr r) (out1 r .discarding) (length b) (h .1), h .2, h .3, h .4, h .5)
-range-next (Call.discarded Stdout n) s h = h
-range-next (Call.discarded Stderr n) s h = h
-range-next (Call.outputClosed Stdout) s h = h
-range-next (Call.outputClosed Stderr) s h = h
-range-next (Call.outputFailed Stdout) s h = h
-range-next (Call.outputFailed Stderr) s h = h
-range-next (Call.outputHungUp Stdout) s h = h
-range-next (Call.outputHungUp Stderr) s h = h
-range-next (Call.inputWritten n) s h = (h .0, h .1, h .2, h .3, written-range (s .runner .limits) (s .lengths) n (s .runner .input) (h .4), h .5)
+range-next (Call.output x b) s h =
+    let r : Runner = s .runner in (
+      on-out (Queue (r .limits .chunk)) x _ (r .outputs) (kept-range (r .limits .chunk) (outOf x r .start) (outOf x r .queued) (isShut x r) (outOf x r .discarding) (length b) (h .0 x)) (λ y e. h .0 y),
+      h .1,
+      h .2,
+      h .3,
+    )
+range-next (Call.discarded x n) s h = queue-kept (s .lengths) x (lostOut (ltb 0 n)) (s .runner) refl refl h
+range-next (Call.outputClosed x) s h = queue-kept (s .lengths) x closedOut (s .runner) refl refl h
+range-next (Call.outputFailed x) s h = queue-kept (s .lengths) x failedOut (s .runner) refl refl h
+range-next (Call.outputHungUp x) s h = queue-kept (s .lengths) x hungUp (s .runner) refl refl h
+range-next (Call.inputWritten n) s h = (h .0, h .1, written-range (s .runner .limits) (s .lengths) n (s .runner .input) (h .2), h .3)
 range-next Call.inputClosed s h = closed-range (s .lengths) (s .runner) h
 range-next (Call.exited now x) s h = exited-range (s .lengths) now x (s .runner) h
 range-next (Call.settled x) s h = h
@@ -346,10 +355,8 @@ pub opened-range : (c : Conf) (now : ℕ) (bytes lengths : List ℕ) → Lent (c
 unfolding fresh
 opened-range c now bytes lengths o =
     let l : Limits = c .limits in (
-      record { inside = o .chunk; within = omega arith },
-      record { inside = o .chunk; within = omega arith },
-      omega arith,
-      omega arith,
+      (λ x. rw (out-alike newOutput x) (record { inside = o .chunk; within = omega arith })),
+      (omega arith, omega arith),
       (open-by (l .input .unit) l lengths (o .size) (o .slots), area-some (l .input .unit) l (o .chunk) (o .size)),
       omega arith,
     )
@@ -383,8 +390,8 @@ unfolding inRange
 in-range lengths s h =
     and-both _ _
     (and-both _ _
-    (and-both _ _ (and-both _ _ (out-ok (s .limits .chunk) (out0 s) (h .0)) (out-ok (s .limits .chunk) (out1 s) (h .1)))
-    (and-both _ _ (le-leb (credit0 (s .credits) .available) (credit0 (s .credits) .window) (h .2)) (le-leb (credit1 (s .credits) .available) (credit1 (s .credits) .window) (h .3))))
-    (and-both _ _ (and-both _ _ (ring-ok (s .input .inbox .start) (inputBytes (s .limits)) (h .4 .1)) (le-leb (s .input .inbox .length) (inputBytes (s .limits)) (holds-by (s .limits .input .unit) (s .limits) lengths (s .input) (h .4 .0))))
-    (units-ok (s .limits .input .unit) (s .limits) lengths (s .input) (h .4 .0))))
-    (le-leb (s .turn) 1 (h .5))
+    (and-both _ _ (and-both _ _ (out-ok (s .limits .chunk) (out0 s) (h .0 Stdout)) (out-ok (s .limits .chunk) (out1 s) (h .0 Stderr)))
+    (and-both _ _ (le-leb (credit0 (s .credits) .available) (credit0 (s .credits) .window) (h .1 .0)) (le-leb (credit1 (s .credits) .available) (credit1 (s .credits) .window) (h .1 .1))))
+    (and-both _ _ (and-both _ _ (ring-ok (s .input .inbox .start) (inputBytes (s .limits)) (h .2 .1)) (le-leb (s .input .inbox .length) (inputBytes (s .limits)) (holds-by (s .limits .input .unit) (s .limits) lengths (s .input) (h .2 .0))))
+    (units-ok (s .limits .input .unit) (s .limits) lengths (s .input) (h .2 .0))))
+    (le-leb (s .turn) 1 (h .3))

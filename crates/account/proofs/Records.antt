@@ -20,6 +20,7 @@ use Rattle.exec.specs.declared.Reply.{Reply}
 use Rattle.exec.specs.declared.Reply.the-variants as Reply
 use Rattle.exec.specs.declared.Stream.{Stream}
 use Rattle.exec.specs.declared.Stream.the-variants.{Stdout, Stderr}
+use Rattle.exec.specs.Outcome.{isTruncated}
 use Rattle.exec.specs.Refusal.{number}
 use Rattle.runner.specs.declared.answer.Message.the-variants as Message
 use Rattle.runner.specs.declared.answer.Said.the-variants as Said
@@ -265,7 +266,7 @@ module _ (conf : Conf) where
       same-after es (nextEntry s e) (good-entry conf e s h)
       ∙ after-by (made conf e) s (nextEntry s e) (answerEntry s e) (callsOf conf es) (does conf e s h)
 
-  same-dones : (es : List Entry) (s : State) → Good conf s → donesOf conf (runEntries s es) ≡ Step.run s (callsOf conf es)
+  pub same-dones : (es : List Entry) (s : State) → Good conf s → donesOf conf (runEntries s es) ≡ Step.run s (callsOf conf es)
   same-dones [] s h = refl
   same-dones (e ∷ es) s h =
       ap (consDone (made conf e) (answerEntry s e)) (same-dones es (nextEntry s e) (good-entry conf e s h))
@@ -287,16 +288,16 @@ module _ (conf : Conf) where
   calls-cons none xs ys = refl
   calls-cons (some c) xs ys = refl
 
-  calls-append : (xs ys : List Entry) → callsOf conf (xs ++ ys) ≡ callsOf conf xs ++ callsOf conf ys
+  pub calls-append : (xs ys : List Entry) → callsOf conf (xs ++ ys) ≡ callsOf conf xs ++ callsOf conf ys
   calls-append [] ys = refl
   calls-append (e ∷ xs) ys = ap (consCall (made conf e)) (calls-append xs ys) ∙ calls-cons (made conf e) (callsOf conf xs) (callsOf conf ys)
 
 -- an answer that is Terminal is a call's
 terminal-made : (m : Option Call) (s after : State) (a : Answer) → Does m s after a → isTerminal a ≡ true
-    → (c : Call) × (after ≡ Step.next s c) × (a ≡ Step.answer s c)
+    → (c : Call) × (after ≡ Step.next s c) × (a ≡ Step.answer s c) × (m ≡ some c)
 unfolding Does
 terminal-made none s after a d h = absurd (false≢true (sym (ap isTerminal (d .answered)) ∙ h))
-terminal-made (some c) s after a d h = (c, d .0, d .1)
+terminal-made (some c) s after a d h = (c, d .0, d .1, refl)
 
 unmade-as : (m : Option Call) (s after : State) (a : Answer) → m ≡ none → Does m s after a → (after ≡ s) × ((n : ℕ) × (a ≡ Call.Refused n))
 unfolding Does
@@ -329,7 +330,7 @@ ranged-by (some c) s after a d h = ap isStop (d .1) ∙ h c
 -- ---- the demand
 
 module _ (conf : Conf) (now : ℕ) (bytes lengths : List ℕ) (op : Opens conf now bytes lengths) where
-  good-open : Good conf (Step.opened conf now bytes lengths)
+  pub good-open : Good conf (Step.opened conf now bytes lengths)
   unfolding fresh
   good-open =
       subst⁻¹ (Good conf) (open-same conf now bytes lengths op)
@@ -349,13 +350,14 @@ module _ (conf : Conf) (now : ℕ) (bytes lengths : List ℕ) (op : Opens conf n
   d3 = demand3 conf now bytes lengths op
 
   -- what Terminal's entry did, as a call after the calls
-  at-terminal : (es : List Entry) (e : Entry) → isTerminal (answerEntry (afterEntries (Step.opened conf now bytes lengths) es) e) ≡ true
+  pub at-terminal : (es : List Entry) (e : Entry) → isTerminal (answerEntry (afterEntries (Step.opened conf now bytes lengths) es) e) ≡ true
       → (c : Call) × (nextEntry (afterEntries (Step.opened conf now bytes lengths) es) e ≡ Step.next (Step.after (Step.opened conf now bytes lengths) (callsOf conf es)) c)
       × (answerEntry (afterEntries (Step.opened conf now bytes lengths) es) e ≡ Step.answer (Step.after (Step.opened conf now bytes lengths) (callsOf conf es)) c)
+      × (made conf e ≡ some c)
   at-terminal es e h =
       let s : State = afterEntries (Step.opened conf now bytes lengths) es in
       let q = terminal-made (made conf e) s (nextEntry s e) (answerEntry s e) (does conf e s (good-at es)) h in
-      (q .0, q .1 ∙ ap (λ (t : State). Step.next t (q .0)) (to-calls es), q .2 ∙ ap (λ (t : State). Step.answer t (q .0)) (to-calls es))
+      (q .0, q .1 ∙ ap (λ (t : State). Step.next t (q .0)) (to-calls es), q .2 ∙ ap (λ (t : State). Step.answer t (q .0)) (to-calls es), q .3)
 
   cancel-at : (es : List Entry) (t : ℕ) (k : Key) (c : Cause) → answerEntry (afterEntries (Step.opened conf now bytes lengths) es) (call (Call.cancel t k c)) ≡ Call.Applied
       → Step.answer (Step.after (Step.opened conf now bytes lengths) (callsOf conf es)) (Call.cancel t k c) ≡ Call.Applied
@@ -377,7 +379,7 @@ module _ (conf : Conf) (now : ℕ) (bytes lengths : List ℕ) (op : Opens conf n
         (subst⁻¹ (λ (s : State). Silent (Step.run s (callsOf conf ds))) (q .1)
         (d3 .once (callsOf conf es) (q .0) (callsOf conf ds) (sym (ap isTerminal (q .2)) ∙ h))));
     marks = λ es e out h. (let q = at-terminal es e (ap isTerminal h) in
-        subst⁻¹ (λ (a : Account). (out .«stdout_truncated» ≡ cut (a .t0)) × (out .«stderr_truncated» ≡ cut (a .t1))) (same-account es)
+        subst⁻¹ (λ (a : Account). (x : Stream) → isTruncated out x ≡ cut (tallyOf x a)) (same-account es)
         (d3 .marks (callsOf conf es) (q .0) out (sym (q .2) ∙ h)));
     first = λ es t k c h. subst⁻¹ (λ (a : Account). tickA t a .rep .begun ≡ false) (same-account es) (d3 .first (callsOf conf es) t k c (cancel-at es t k c h));
     late = λ cs ds es t n k c h below past five.

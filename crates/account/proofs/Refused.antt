@@ -53,6 +53,7 @@ use Rattle.account.specs.Records.{Entry, call, readRecord, writeRecord, 
 use Rattle.account.specs.Refused.{TwoAccounts, among, ofCalls, ofRecords, Refusals}
 use Rattle.account.proofs.Plain as Plain
 use Rattle.account.proofs.Plain.{said}
+use Rattle.account.proofs.Flags.{either}
 use Rattle.account.proofs.Guarded.{next-is, answer-is}
 use Rattle.account.proofs.Records.{Does, admitted-so, read-by, write-by}
 
@@ -82,10 +83,6 @@ record Kept (s t : State) (n : ℕ) : Type 0 where
 
 abbrev Safe : (s t : State) → Answer → Type 0
 Safe s t a = IfRefused (Kept s t) a
-
-either : {A : Type 0} (P : A → Type 0) (b : Bool) (x y : A) → P x → P y → P (cond b x y)
-either P true x y p q = p
-either P false x y p q = q
 
 -- ---- refused by 12, 10 or 11
 

@@ -1,7 +1,6 @@
 -- Every call keeps the phase that an Applied cancel begins, and after give-up lets the messages left be no more.
-use mathlib.Core.Bool.{Bool, true, false, cond, true≢false}
-use mathlib.Core.Path.{_≡_, refl, sym, _∙_, subst⁻¹}
-use mathlib.Core.List.{[], _∷_}
+use mathlib.Core.Bool.{Bool, true, false, cond, not, true≢false}
+use mathlib.Core.Path.{_≡_, refl, sym, ap, _∙_, subst⁻¹}
 use Prim.Native.Nat.{ℕ, _≤_}
 use native.Mathlib.Omega.{arith}
 use native.Mathlib.Nat.{le-refl}
@@ -32,8 +31,8 @@ use Rattle.exec.specs.Key.{admits}
 use Rattle.lifecycle.specs.Life.{exitKnown, isFenced}
 use Rattle.lifecycle.specs.Setters.{setTimeoutAt}
 use Rattle.stdio.specs.Input.{closeInput, closeWhenTaken, popIn, endInput, receiveInput, writtenInput}
-use Rattle.stdio.specs.Output.{closedOut, failedOut, hungUp, lostOut, endedOut, askedOut, sentOut}
-use Rattle.runner.specs.State.{withClocks, withInput, withOutputs, withFlow, out0, out1, at}
+use Rattle.stdio.specs.Output.{abandoned, closedOut, failedOut, hungUp, lostOut, endedOut, askedOut, sentOut}
+use Rattle.runner.specs.State.{withClocks, withInput, withOutputs, withFlow, outOf, putOutput, at}
 use Rattle.runner.specs.Life as Life
 use Rattle.runner.specs.Life.{awaitsLaunch, isCleanedUp, closeRunnerInput, endGrace, giveUp, abandonLaunch, abandonOpenStreams, terminate, dropLaunch, ticked, noteStarted, noteLaunch, launchedNext, settledNext, noteExit, noteExitOnce, exitedNext, detached, giveUpSoon, cutOff, cutOffOnce, detachNext}
 use Rattle.runner.specs.Streams.{room, outputFilled, outputNext, discardedNext, closedNext, failedNext, hungUpNext, creditNext, isTaken, inputReceived, inputNext, endNext, writtenNext}
@@ -43,9 +42,10 @@ use Rattle.account.specs.Call.{Call}
 use Rattle.account.specs.Step.{State}
 use Rattle.account.proofs.Plain.{next}
 use Rattle.account.proofs.Stages.{graceIf, terminateIf, timeoutIf, giveUpIf, dropLaunchIf, abandonStreamsIf, abandonIf, stage1, stage2, stage3, stage4, stage5, tickIf, tick-is, cancelIf, late, detachedNow, detachIf, exitedIf, launchedIf, cancelNext}
-use Rattle.account.proofs.Streams.{blocked-by, wider}
+use Rattle.account.proofs.Streams.{wider}
+use Rattle.account.proofs.Sides.{out-each, on-out}
 use Rattle.account.proofs.Flags.{or-left}
-use Rattle.account.proofs.Phase.{Either, left, right, AllKnown, Phase, left-over, over-overdue, reported-over, cleaned-known, known-given, dry-given, InKept, OutKept, kept-asked, kept-end, kept-send, kept-discard, kept-close, kept-fail, kept-hang, kept-intake, kept-if, kept-ended, kept-written, left, right, on-right, not-right}
+use Rattle.account.proofs.Phase.{Either, left, right, Empty, bit, AllKnown, Phase, left-over, over-overdue, reported-over, cleaned-known, known-given, dry-given, dry-grace, known-grace, InKept, OutKept, kept-asked, kept-end, kept-send, kept-discard, kept-close, kept-fail, kept-hang, kept-intake, kept-if, kept-ended, kept-written, left, right, on-right, not-right}
 
 module _ (P : Deadline → Type 0) (lower : (d e : Deadline) → P d → P (earliest d e)) where
   pub record Low (s t : Runner) : Type 0 where
@@ -62,7 +62,7 @@ module _ (P : Deadline → Type 0) (lower : (d e : Deadline) → P d → P (earl
   unfolding endGrace
   low-grace false s h = same h
   low-grace true s h = record {
-    hold = (h .0, h .1, right (record { none = refl; stop = blocked-by ((out0 s) .closed) ((out0 s) .discarding) }, record { none = refl; stop = blocked-by ((out1 s) .closed) ((out1 s) .discarding) }), h .3);
+    hold = (h .0, h .1, right (dry-grace s), on-right (known-grace s) (h .3));
     less = λ n. le-refl (left-over s);
   }
 
@@ -76,7 +76,7 @@ module _ (P : Deadline → Type 0) (lower : (d e : Deadline) → P d → P (earl
 
   pub low-settle : (now : ℕ) (s : Runner) → Phase P s → Low s (stage3 now s)
   low-settle now s h = record {
-    hold = (h .0, h .1, h .2, on-right (λ d. record { launch = d .launch; exit = d .exit; closed0 = d .closed0; closed1 = d .closed1; settled = over-overdue now (s .life .settling) (d .settled) }) (h .3));
+    hold = (h .0, h .1, h .2, on-right (λ d. record { launch = d .launch; exit = d .exit; closed = d .closed; settled = over-overdue now (s .life .settling) (d .settled) }) (h .3));
     less = λ n. le-refl (left-over s);
   }
 
@@ -84,7 +84,7 @@ module _ (P : Deadline → Type 0) (lower : (d e : Deadline) → P d → P (earl
   unfolding giveUp
   low-giveUp false c s e h = same h
   low-giveUp true true s e h = record { hold = (h .0, h .1, h .2, right (cleaned-known s e)); less = λ n. le-refl (left-over s) }
-  low-giveUp true false s e h = record { hold = (h .0, h .1, right dry-given, right (known-given s)); less = λ n. le-refl (left-over s) }
+  low-giveUp true false s e h = record { hold = (h .0, h .1, right (dry-given s), right (known-given s)); less = λ n. le-refl (left-over s) }
 
   low-left-if : (b : Bool) (s : Runner) → awaitsLaunch s ≡ b → Phase P s → Low s (dropLaunchIf b s)
   unfolding abandonLaunch
@@ -102,11 +102,8 @@ module _ (P : Deadline → Type 0) (lower : (d e : Deadline) → P d → P (earl
     hold = (
       h .0,
       h .1,
-      on-right (λ d. (
-        record { none = d .0 .none; stop = wider ((out0 s) .closed) ((out0 s) .«hung_up») ((out0 s) .discarding) (d .0 .stop) },
-        record { none = d .1 .none; stop = wider ((out1 s) .closed) ((out1 s) .«hung_up») ((out1 s) .discarding) (d .1 .stop) },
-      )) (h .2),
-      on-right (λ d. record { launch = d .launch; exit = d .exit; closed0 = or-left ((out0 s) .closed) _ (d .closed0); closed1 = or-left ((out1 s) .closed) _ (d .closed1); settled = d .settled }) (h .3),
+      on-right (λ d x. rw (out-each abandoned (s .outputs) x) (record { none = d x .none; stop = wider (outOf x s .closed) (outOf x s .«hung_up») (outOf x s .discarding) (d x .stop) })) (h .2),
+      on-right (λ d. record { launch = d .launch; exit = d .exit; closed = λ x. ap (λ (o : Output). o .closed) (out-each abandoned (s .outputs) x) ∙ or-left (outOf x s .closed) _ (d .closed x); settled = d .settled }) (h .3),
     );
     less = λ n. le-refl (left-over s);
   }
@@ -144,13 +141,13 @@ module _ (P : Deadline → Type 0) (lower : (d e : Deadline) → P d → P (earl
   low-detachedNow : (now : ℕ) (s : Runner) → Phase P s → Low s (detachedNow now s)
   unfolding endGrace detached giveUpSoon
   low-detachedNow now s h = record {
-    hold = (h .0, h .1, right (record { none = refl; stop = blocked-by ((out0 s) .closed) ((out0 s) .discarding) }, record { none = refl; stop = blocked-by ((out1 s) .closed) ((out1 s) .discarding) }), go (h .3));
+    hold = (h .0, h .1, right (dry-grace s), go (h .3));
     less = λ n. omega arith;
   }
     where
       go : Either (P (s .clocks .«give_up_at»)) (AllKnown s) → Either (P (detachedNow now s .clocks .«give_up_at»)) (AllKnown (detachedNow now s))
       go (left p) = left (lower _ _ p)
-      go (right d) = right d
+      go (right d) = right (known-grace s d)
 
   pub low-detachIf : (f d : Bool) (now : ℕ) (c : Cause) (s : Runner) → Phase P s → Low s (detachIf f d now c s)
   low-detachIf true d now c s h = same h
@@ -201,31 +198,23 @@ module _ (P : Deadline → Type 0) (lower : (d e : Deadline) → P d → P (earl
   low-input s j k h = record { hold = (k .0, h .1, h .2, h .3); less = λ n. rw (k .1) (le-refl (left-over s)) }
 
   -- one output changed: what it must keep
-  low-out0 : (s : Runner) (o : Output) → OutKept (out0 s) o → Phase P s → Low s (withOutputs (o ∷ out1 s ∷ []) s)
-  low-out0 s o k h = record {
+  low-out : (x : Stream) (s : Runner) (o : Output) → OutKept (outOf x s) o → Phase P s → Low s (withOutputs (putOutput x o (s .outputs)) s)
+  low-out x s o k h = record {
     hold = (
       h .0,
       h .1,
-      on-right (λ d. (k .drained (d .0), d .1)) (h .2),
-      on-right (λ d. record { launch = d .launch; exit = d .exit; closed0 = k .closed (d .closed0); closed1 = d .closed1; settled = d .settled }) (h .3),
+      on-right (λ d. on-out Empty x o (s .outputs) (k .drained (d x)) (λ y e. d y)) (h .2),
+      on-right (λ d. record { launch = d .launch; exit = d .exit; closed = on-out (λ (y : Stream) (p : Output). p .closed ≡ true) x o (s .outputs) (k .closed (d .closed x)) (λ y e. d .closed y); settled = d .settled }) (h .3),
     );
-    less = λ n. (let z = k .msg in omega arith);
+    less = λ n. fewer-untold x s o (k .msg);
   }
-
-  low-out1 : (s : Runner) (o : Output) → OutKept (out1 s) o → Phase P s → Low s (withOutputs (out0 s ∷ o ∷ []) s)
-  low-out1 s o k h = record {
-    hold = (
-      h .0,
-      h .1,
-      on-right (λ d. (d .0, k .drained (d .1))) (h .2),
-      on-right (λ d. record { launch = d .launch; exit = d .exit; closed0 = d .closed0; closed1 = k .closed (d .closed1); settled = d .settled }) (h .3),
-    );
-    less = λ n. (let z = k .msg in omega arith);
-  }
+    where
+      fewer-untold : (x : Stream) (s : Runner) (o : Output) → bit (not (o .ended)) ≤ bit (not (outOf x s .ended)) → left-over (withOutputs (putOutput x o (s .outputs)) s) ≤ left-over s
+      fewer-untold Stdout s o m = omega arith
+      fewer-untold Stderr s o m = omega arith
 
   low-at : (x : Stream) (f : Output → Output) (s : Runner) → ((o : Output) → OutKept o (f o)) → Phase P s → Low s (at x f s)
-  low-at Stdout f s k h = low-out0 s (f (out0 s)) (k (out0 s)) h
-  low-at Stderr f s k h = low-out1 s (f (out1 s)) (k (out1 s)) h
+  low-at x f s k h = low-out x s (f (outOf x s)) (k (outOf x s)) h
 
   low-handed : (q : Request) (s : Runner) → Phase P s → Low s (handed q s)
   low-handed (Request.Terminate c) s h = record { hold = h; less = λ n. le-refl (left-over s) }
@@ -280,12 +269,9 @@ module _ (P : Deadline → Type 0) (lower : (d e : Deadline) → P d → P (earl
       (kept-if (isTaken (admits (r .key) k) r) (r .input) (endInput (r .input)) (r .input) (kept-ended (r .input) (h .0)) (h .0, refl)) h
   low-next (Call.cancel now k c) s h = low-cancel (admits (s .runner .key) k) now c (s .runner) h
   low-next (Call.launched x) s h = low-launchedIf (awaitsLaunch (s .runner)) x (s .runner) refl h
-  low-next (Call.output Stdout b) s h =
+  low-next (Call.output x b) s h =
       let r : Runner = s .runner in
-      low-high r (outputFilled r Stdout (length b)) _ (low-out0 r _ (kept-intake (r .flags .«gave_up») (room Stdout r) (length b) (out0 r)) h)
-  low-next (Call.output Stderr b) s h =
-      let r : Runner = s .runner in
-      low-high r (outputFilled r Stderr (length b)) _ (low-out1 r _ (kept-intake (r .flags .«gave_up») (room Stderr r) (length b) (out1 r)) h)
+      low-high r (outputFilled r x (length b)) _ (low-out x r _ (kept-intake (r .flags .«gave_up») (room x r) (length b) (outOf x r)) h)
   low-next (Call.discarded x n) s h = low-at x (lostOut (ltb 0 n)) (s .runner) (kept-discard (ltb 0 n)) h
   low-next (Call.outputClosed x) s h = low-at x closedOut (s .runner) kept-close h
   low-next (Call.outputFailed x) s h = low-at x failedOut (s .runner) kept-fail h
@@ -296,7 +282,7 @@ module _ (P : Deadline → Type 0) (lower : (d e : Deadline) → P d → P (earl
   low-next Call.inputClosed s h = low-close (s .runner) h
   low-next (Call.exited now x) s h = low-exited now x (s .runner) h
   low-next (Call.settled x) s h = record {
-    hold = (h .0, h .1, h .2, on-right (λ d. record { launch = d .launch; exit = d .exit; closed0 = d .closed0; closed1 = d .closed1; settled = reported-over (s .runner .life .settling) x (d .settled) }) (h .3));
+    hold = (h .0, h .1, h .2, on-right (λ d. record { launch = d .launch; exit = d .exit; closed = d .closed; settled = reported-over (s .runner .life .settling) x (d .settled) }) (h .3));
     less = λ n. le-refl (left-over (s .runner));
   }
   low-next (Call.dropped now) s h = low-detach now Cause.Dropped (s .runner) h

@@ -163,7 +163,7 @@ units-step (Call.outputFailed x) s over e h = omega arith
 units-step (Call.outputHungUp x) s over e h = omega arith
 units-step Call.pendingInput s over e h = omega arith
 units-step (Call.inputWritten n) s over e h =
-    omega (arith, written-by (s .runner .limits) (s .lengths) (s .runner .input) n (s .runner .input .closed) refl (h .sound .ranged .4 .0))
+    omega (arith, written-by (s .runner .limits) (s .lengths) (s .runner .input) n (s .runner .input .closed) refl (h .sound .ranged .2 .0))
 units-step Call.inputClosed s over e h = rw (next-same s Call.inputClosed h) (moved (s .runner) (closeRunnerInput (s .runner)) (close (s .runner)))
 units-step (Call.exited now x) s over e h = rw (next-same s (Call.exited now x) h) (moved (s .runner) (exitedNext (s .runner) now x) (exits (s .runner) now x))
 units-step (Call.settled x) s over e h = omega arith

@@ -12,7 +12,7 @@ use Rattle.exec.specs.declared.Deadline.the-variants.{Never}
 use Rattle.exec.specs.declared.Settlement.{Settlement}
 use Rattle.exec.specs.declared.Settlement.the-variants as Settlement
 use Rattle.exec.specs.declared.Stream.{Stream}
-use Rattle.exec.specs.declared.Stream.the-variants.{Stdout, Stderr}
+use Rattle.exec.specs.Each.{Each, one, onOne, alike, both, every}
 use Rattle.exec.specs.Key.{admits}
 use Rattle.exec.specs.Time.{after, then, earliest, due, timeoutAt}
 use Rattle.account.specs.Call.{Conf, Done, Call, key, limits, credit, input, endInput, cancel, launched, readAllowance, output, discarded, outputClosed, outputFailed, outputHungUp, pendingInput, inputWritten, inputClosed, exited, settled, dropped, reset, disconnect, tick, deadline, nextRequest, nextMessage, isFinished, isDetached, awaitsSettlement, memoryBound, buffered, highWater, Answer, Ok, Applied, Stale, Late, Refused, Taken, Pending, Value, Time, Truth, Asks, Says, IsKey, AreLimits, Nothing, Message, Credit, Started, Output, End, InputClosed, Terminal}
@@ -37,10 +37,8 @@ pub record Replay : Type 0 where
   pub exit : Bool  -- the exit is reported, or set missing by give-up
   pub settling : Settling
   pub detached : Bool
-  pub closed0 : Bool
-  pub hung0 : Bool
-  pub closed1 : Bool
-  pub hung1 : Bool
+  pub closed : Each Bool
+  pub hung : Each Bool
 
 pub record Tally : Type 0 where
   pub taken : List ℕ
@@ -49,18 +47,20 @@ pub record Tally : Type 0 where
 
 pub record Account : Type 0 where
   pub rep : Replay
-  pub t0 : Tally
-  pub t1 : Tally
+  pub tallies : Each Tally
 
-abbrev pub mk : Replay → Tally → Tally → Account
-mk r a b = record { rep = r; t0 = a; t1 = b }
+abbrev pub mk : Replay → Each Tally → Account
+mk r ts = record { rep = r; tallies = ts }
 
 abbrev pub marked : Bool → Tally → Tally
 marked b t = record { taken = t .taken; sent = t .sent; mark = b || t .mark }
 
+-- a stream that is not closed is marked
+abbrev pub unlessClosed : (closed : Bool) → Tally → Tally
+unlessClosed closed t = marked (not closed) t
+
 abbrev pub onTally : Stream → (Tally → Tally) → Account → Account
-onTally Stdout f a = mk (a .rep) (f (a .t0)) (a .t1)
-onTally Stderr f a = mk (a .rep) (a .t0) (f (a .t1))
+onTally x f a = mk (a .rep) (onOne x f (a .tallies))
 
 -- ---- the replay with some of its fields set
 
@@ -78,10 +78,8 @@ withTimes timeout begun giveUp abandon r = record {
   exit = r .exit;
   settling = r .settling;
   detached = r .detached;
-  closed0 = r .closed0;
-  hung0 = r .hung0;
-  closed1 = r .closed1;
-  hung1 = r .hung1;
+  closed = r .closed;
+  hung = r .hung;
 }
 
 -- what is known of the workload
@@ -98,15 +96,13 @@ withWork launch gaveUp left exit settling detached r = record {
   exit = exit;
   settling = settling;
   detached = detached;
-  closed0 = r .closed0;
-  hung0 = r .hung0;
-  closed1 = r .closed1;
-  hung1 = r .hung1;
+  closed = r .closed;
+  hung = r .hung;
 }
 
 -- the streams
-abbrev pub withStreams : (closed0 hung0 closed1 hung1 : Bool) → Replay → Replay
-withStreams closed0 hung0 closed1 hung1 r = record {
+abbrev pub withStreams : (closed hung : Each Bool) → Replay → Replay
+withStreams closed hung r = record {
   conf = r .conf;
   timeout = r .timeout;
   begun = r .begun;
@@ -118,10 +114,8 @@ withStreams closed0 hung0 closed1 hung1 r = record {
   exit = r .exit;
   settling = r .settling;
   detached = r .detached;
-  closed0 = closed0;
-  hung0 = hung0;
-  closed1 = closed1;
-  hung1 = hung1;
+  closed = closed;
+  hung = hung;
 }
 
 abbrev pub settlingR : Settling → Replay → Replay
@@ -167,20 +161,20 @@ isFencedR (Requested d) = false
 isFencedR Settled = false
 isFencedR Fenced = true
 
--- launch and exit are reported, both streams are closed and settling is Settled
+-- launch and exit are reported, each stream is closed and settling is Settled
 abbrev pub cleanedR : Replay → Bool
-cleanedR r = r .launch && r .exit && (r .closed0 && r .closed1) && isSettledR (r .settling)
+cleanedR r = r .launch && r .exit && every (r .closed) && isSettledR (r .settling)
 
 -- give-up does nothing if all is cleaned up; otherwise it closes and marks each stream still open, and fences settling
 unfoldable pub giveUpA : (due clean : Bool) → Account → Account
 giveUpA false clean a = a
-giveUpA true true a = mk (giveUpR Never (a .rep)) (a .t0) (a .t1)
+giveUpA true true a = mk (giveUpR Never (a .rep)) (a .tallies)
 giveUpA true false a =
     mk
     (withTimes (a .rep .timeout) (a .rep .begun) Never (a .rep .abandon)
     (withWork (a .rep .launch) true (a .rep .left) true Fenced (a .rep .detached)
-    (withStreams true (a .rep .hung0) true (a .rep .hung1) (a .rep))))
-    (marked (not (a .rep .closed0)) (a .t0)) (marked (not (a .rep .closed1)) (a .t1))
+    (withStreams (alike true) (a .rep .hung) (a .rep))))
+    (both unlessClosed (a .rep .closed) (a .tallies))
 
 -- the launch is still waited for
 abbrev pub waitsR : Replay → Bool
@@ -201,19 +195,19 @@ abandonStreamsA false a = a
 abandonStreamsA true a =
     mk
     (withTimes (a .rep .timeout) (a .rep .begun) (a .rep .giveUp) Never
-    (withStreams (a .rep .closed0 || not (a .rep .hung0)) (a .rep .hung0) (a .rep .closed1 || not (a .rep .hung1)) (a .rep .hung1) (a .rep)))
-    (marked (not (a .rep .closed0 || a .rep .hung0)) (a .t0)) (marked (not (a .rep .closed1 || a .rep .hung1)) (a .t1))
+    (withStreams (both (λ (c h : Bool). c || not h) (a .rep .closed) (a .rep .hung)) (a .rep .hung) (a .rep)))
+    (both unlessClosed (both _||_ (a .rep .closed) (a .rep .hung)) (a .tallies))
 
 unfoldable pub abandonA : (due : Bool) → Account → Account
 abandonA false a = a
-abandonA true a = abandonStreamsA (isFencedR (leaveR (a .rep) .settling)) (mk (leaveR (a .rep)) (a .t0) (a .t1))
+abandonA true a = abandonStreamsA (isFencedR (leaveR (a .rep) .settling)) (mk (leaveR (a .rep)) (a .tallies))
 
 -- tick: timeout, settlement, give-up, abandonment (the end of grace closes no stream)
 abbrev pub tick1 : ℕ → Account → Account
-tick1 now a = mk (timeoutR (due (a .rep .timeout) now) now (a .rep)) (a .t0) (a .t1)
+tick1 now a = mk (timeoutR (due (a .rep .timeout) now) now (a .rep)) (a .tallies)
 
 abbrev pub tick3 : ℕ → Account → Account
-tick3 now a = mk (settlingR (overdueR now (a .rep .settling)) (a .rep)) (a .t0) (a .t1)
+tick3 now a = mk (settlingR (overdueR now (a .rep .settling)) (a .rep)) (a .tallies)
 
 abbrev pub tick4 : ℕ → Account → Account
 tick4 now a = giveUpA (due (a .rep .giveUp) now) (cleanedR (a .rep)) a
@@ -226,7 +220,7 @@ tickA now a = tick5 now (tick4 now (tick3 now (tick1 now a)))
 
 -- a cancel ticks, and begins a termination unless one began: only under the execution's own key
 unfoldable pub cancelA : Admission → ℕ → Account → Account
-cancelA Admission.Own now a = let b = tickA now a in mk (begin now (b .rep)) (b .t0) (b .t1)
+cancelA Admission.Own now a = let b = tickA now a in mk (begin now (b .rep)) (b .tallies)
 cancelA Admission.Stale now a = a
 cancelA (Admission.Refused x) now a = a
 
@@ -241,7 +235,7 @@ detachR true now r = r
 detachR false now r = detachedR now (begin now r)
 
 unfoldable pub detachA : ℕ → Account → Account
-detachA now a = let b = tickA now a in mk (detachR (b .rep .detached) now (b .rep)) (b .t0) (b .t1)
+detachA now a = let b = tickA now a in mk (detachR (b .rep .detached) now (b .rep)) (b .tallies)
 
 -- an exit clears the timeout, ticks, and sets the settlement time and abandonment a grace after it
 unfoldable pub exitR : (known : Bool) → ℕ → Replay → Replay
@@ -252,8 +246,8 @@ exitR false now r =
 
 unfoldable pub exitA : ℕ → Account → Account
 exitA now a =
-    let b = tickA now (mk (noTimeoutR (a .rep)) (a .t0) (a .t1)) in
-    mk (exitR (b .rep .exit || b .rep .gaveUp) now (b .rep)) (b .t0) (b .t1)
+    let b = tickA now (mk (noTimeoutR (a .rep)) (a .tallies)) in
+    mk (exitR (b .rep .exit || b .rep .gaveUp) now (b .rep)) (b .tallies)
 
 -- a settlement that is awaited, as it is reported
 abbrev pub reportedR : Settling → Settlement → Settling
@@ -268,12 +262,10 @@ abbrev pub launchR : Replay → Replay
 launchR r = withWork (waitsR r || r .launch) (r .gaveUp) (r .left) (r .exit) (r .settling) (r .detached) r
 
 abbrev pub closeR : Stream → Replay → Replay
-closeR Stdout r = withStreams true (r .hung0) (r .closed1) (r .hung1) r
-closeR Stderr r = withStreams (r .closed0) (r .hung0) true (r .hung1) r
+closeR x r = withStreams (onOne x (λ (c : Bool). true) (r .closed)) (r .hung) r
 
 abbrev pub hangR : Stream → Replay → Replay
-hangR Stdout r = withStreams (r .closed0) true (r .closed1) (r .hung1) r
-hangR Stderr r = withStreams (r .closed0) (r .hung0) (r .closed1) true r
+hangR x r = withStreams (r .closed) (onOne x (λ (h : Bool). true) (r .hung)) r
 
 -- ---- what a call and its answer add
 
@@ -325,38 +317,60 @@ hear (IsKey k) a = a
 hear (AreLimits l) a = a
 hear Nothing a = a
 
+-- what a call adds that is not refused
+unfoldable pub adds : Account → Call → Answer → Account
+adds a (credit k p u) r = a
+adds a (input k b) r = a
+adds a (endInput k) r = a
+adds a (cancel now k c) r = cancelA (admits (a .rep .conf .key) k) now a
+adds a (launched x) r = mk (launchR (a .rep)) (a .tallies)
+adds a (output x b) r = onTally x (takenBy (take (count r) b)) a
+adds a (discarded x n) r = onTally x (marked (ltb 0 n)) a
+adds a (outputClosed x) r = mk (closeR x (a .rep)) (a .tallies)
+adds a (outputFailed x) r = onTally x (marked true) (mk (closeR x (a .rep)) (a .tallies))
+adds a (outputHungUp x) r = mk (hangR x (a .rep)) (a .tallies)
+adds a (inputWritten n) r = a
+adds a inputClosed r = a
+adds a (exited now x) r = exitA now a
+adds a (settled ok) r = mk (settlingR (reportedR (a .rep .settling) ok) (a .rep)) (a .tallies)
+adds a (dropped now) r = detachA now a
+adds a (reset now) r = detachA now a
+adds a (disconnect now) r = detachA now a
+adds a (tick now) r = tickA now a
+adds a nextRequest r = a
+adds a (nextMessage n) r = hear r a
+adds a (readAllowance x) r = a
+adds a pendingInput r = a
+adds a deadline r = a
+adds a isFinished r = a
+adds a isDetached r = a
+adds a awaitsSettlement r = a
+adds a buffered r = a
+adds a highWater r = a
+adds a memoryBound r = a
+adds a key r = a
+adds a limits r = a
+
+abbrev pub isRefused : Answer → Bool
+isRefused Ok = false
+isRefused Applied = false
+isRefused Stale = false
+isRefused Late = false
+isRefused (Refused n) = true
+isRefused (Taken n) = false
+isRefused (Pending b) = false
+isRefused (Value n) = false
+isRefused (Time d) = false
+isRefused (Truth b) = false
+isRefused (Asks r) = false
+isRefused (Says m) = false
+isRefused (IsKey k) = false
+isRefused (AreLimits l) = false
+isRefused Nothing = false
+
+-- a refused call adds nothing
 unfoldable pub add : Account → Call → Answer → Account
-add a (credit k p u) r = a
-add a (input k b) r = a
-add a (endInput k) r = a
-add a (cancel now k c) r = cancelA (admits (a .rep .conf .key) k) now a
-add a (launched x) r = mk (launchR (a .rep)) (a .t0) (a .t1)
-add a (output x b) r = onTally x (takenBy (take (count r) b)) a
-add a (discarded x n) r = onTally x (marked (ltb 0 n)) a
-add a (outputClosed x) r = mk (closeR x (a .rep)) (a .t0) (a .t1)
-add a (outputFailed x) r = onTally x (marked true) (mk (closeR x (a .rep)) (a .t0) (a .t1))
-add a (outputHungUp x) r = mk (hangR x (a .rep)) (a .t0) (a .t1)
-add a (inputWritten n) r = a
-add a inputClosed r = a
-add a (exited now x) r = exitA now a
-add a (settled ok) r = mk (settlingR (reportedR (a .rep .settling) ok) (a .rep)) (a .t0) (a .t1)
-add a (dropped now) r = detachA now a
-add a (reset now) r = detachA now a
-add a (disconnect now) r = detachA now a
-add a (tick now) r = tickA now a
-add a nextRequest r = a
-add a (nextMessage n) r = hear r a
-add a (readAllowance x) r = a
-add a pendingInput r = a
-add a deadline r = a
-add a isFinished r = a
-add a isDetached r = a
-add a awaitsSettlement r = a
-add a buffered r = a
-add a highWater r = a
-add a memoryBound r = a
-add a key r = a
-add a limits r = a
+add a c r = cond (isRefused r) a (adds a c r)
 
 abbrev pub none : Tally
 none = record { taken = []; sent = []; mark = false }
@@ -375,19 +389,16 @@ start c now = mk (record {
   exit = false;
   settling = Idle;
   detached = false;
-  closed0 = false;
-  hung0 = false;
-  closed1 = false;
-  hung1 = false;
-}) none none
+  closed = alike false;
+  hung = alike false;
+}) (alike none)
 
 abbrev pub account : Account → List Done → Account
 account a [] = a
 account a (d ∷ ds) = account (add a (d .call) (d .answer)) ds
 
 abbrev pub tallyOf : Stream → Account → Tally
-tallyOf Stdout a = a .t0
-tallyOf Stderr a = a .t1
+tallyOf x a = one x (a .tallies)
 
 -- truncated, by the account
 unfoldable pub cut : Tally → Bool

@@ -9,6 +9,7 @@ use Rattle.exec.specs.declared.Key.{Key}
 use Rattle.exec.specs.declared.Outcome.{Outcome}
 use Rattle.exec.specs.declared.Reply.the-variants as Reply
 use Rattle.exec.specs.declared.Stream.{Stream}
+use Rattle.exec.specs.Outcome.{isTruncated}
 use Rattle.runner.specs.Calls as Calls
 use Rattle.account.specs.Call.{Conf, Done, Call, key, limits, credit, input, endInput, cancel, launched, readAllowance, output, discarded, outputClosed, outputFailed, outputHungUp, pendingInput, inputWritten, inputClosed, exited, settled, dropped, reset, disconnect, tick, deadline, nextRequest, nextMessage, isFinished, isDetached, awaitsSettlement, memoryBound, buffered, highWater, Answer, Ok, Applied, Stale, Late, Refused, Taken, Pending, Value, Time, Truth, Asks, Says, IsKey, AreLimits, Nothing, Message, Credit, Started, Output, End, InputClosed, Terminal}
 use Rattle.account.specs.Step.{next, answer, opened, after, run}
@@ -140,7 +141,7 @@ pub record Demand3 (conf : Conf) (now : ℕ) (bytes lengths : List ℕ) : Type 0
       → Silent (run (next (after (opened conf now bytes lengths) cs) c) ds)
   -- Terminal marks a stream exactly when the account before it does
   pub marks : (cs : List Call) (c : Call) (o : Outcome) → answer (after (opened conf now bytes lengths) cs) c ≡ Says (Terminal o)
-      → (o .«stdout_truncated» ≡ cut (accountOf conf now bytes lengths cs .t0)) × (o .«stderr_truncated» ≡ cut (accountOf conf now bytes lengths cs .t1))
+      → (x : Stream) → isTruncated o x ≡ cut (tallyOf x (accountOf conf now bytes lengths cs))
   -- an Applied cancel is itself the first of the three events: none had come before it, nor in its own tick
   pub first : (cs : List Call) (t : ℕ) (k : Key) (c : Cause) → answer (after (opened conf now bytes lengths) cs) (cancel t k c) ≡ Applied
       → tickA t (accountOf conf now bytes lengths cs) .rep .begun ≡ false

@@ -1,4 +1,4 @@
--- Demand 3: the calls, what they leave, the account, and the claim.
+-- Demand 3: the calls, what they leave, the account, and the claim; and what is claimed beside it.
 pub mod Call
 pub mod Step
 pub mod Account
@@ -7,4 +7,5 @@ pub mod Units
 pub mod LateClaim
 pub mod InputClaim
 pub mod Records
+pub mod TurnClaim
 pub mod Refused

@@ -13,6 +13,7 @@ use Rattle.exec.specs.declared.Outcome.{Outcome}
 use Rattle.exec.specs.declared.Pool.the-variants as Pool
 use Rattle.exec.specs.declared.Receipt.the-variants as Receipt
 use Rattle.exec.specs.declared.Stream.{Stream}
+use Rattle.exec.specs.Outcome.{isTruncated}
 use Rattle.exec.specs.Refusal.{number}
 use Rattle.runner.specs.declared.answer.Message as Messages
 use Rattle.runner.specs.declared.answer.Message.the-variants as Message
@@ -152,7 +153,7 @@ pub record Whole (conf : Conf) (now : ℕ) (bytes lengths : List ℕ) : Type 0 w
       → SilentIn (runEntries (nextEntry (afterEntries (opened conf now bytes lengths) es) e) ds)
   -- Terminal marks a stream exactly when the account before it does
   pub marks : (es : List Entry) (e : Entry) (o : Outcome) → answerEntry (afterEntries (opened conf now bytes lengths) es) e ≡ Call.Says (Call.Terminal o)
-      → (o .«stdout_truncated» ≡ cut (entryAccount conf now bytes lengths es .t0)) × (o .«stderr_truncated» ≡ cut (entryAccount conf now bytes lengths es .t1))
+      → (x : Stream) → isTruncated o x ≡ cut (tallyOf x (entryAccount conf now bytes lengths es))
   -- an Applied cancel is itself the first of the three events: none had come before it, nor in its own tick
   pub first : (es : List Entry) (t : ℕ) (k : Key) (c : Cause) → answerEntry (afterEntries (opened conf now bytes lengths) es) (call (Call.cancel t k c)) ≡ Call.Applied
       → tickA t (entryAccount conf now bytes lengths es) .rep .begun ≡ false
