@@ -3,11 +3,11 @@ use mathlib.Core.Path.{_≡_, refl}
 use mathlib.Core.Bool.{false}
 use Prim.Native.Nat.{_-_, _^_}
 use Rattle.exec.specs.declared.Limits.{Limits}
-use Rattle.exec.specs.Limits.{bytesWindow, framesWindow, bytesWith, limitsOf}
+use Rattle.exec.specs.Limits.{bytesWindow, framesWindow, bytesWith, limitsFor}
 use Rattle.credit.specs.Need.{byteNeed}
 
 abbrev framesOf : Limits
-framesOf = limitsOf (2 ^ 32 - 1) (framesWindow (2 ^ 32 - 1)) (bytesWindow 8) false
+framesOf = limitsFor (2 ^ 32 - 1) (framesWindow (2 ^ 32 - 1)) (bytesWindow 8) false
 
 -- the largest need is the largest number of 64 bits
 largest : byteNeed framesOf ≡ 2 ^ 64 - 1

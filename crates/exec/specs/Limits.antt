@@ -43,20 +43,20 @@ abbrev pub isValid : Limits → Bool
 isValid l = (ltb 0 (l .chunk) && ltb 0 (l .input .size)) && ltb 0 (l .output .size)
 
 -- limits of any numbers, valid or not
-abbrev pub limitsOf : (chunk : ℕ) (input output : Window) (shared : Bool) → Limits
-limitsOf chunk input output shared = record { chunk = chunk; input = input; output = output; shared = shared }
+abbrev pub limitsFor : (chunk : ℕ) (input output : Window) (shared : Bool) → Limits
+limitsFor chunk input output shared = record { chunk = chunk; input = input; output = output; shared = shared }
 
 -- limits that are none
 abbrev pub noLimits : Limits
-noLimits = limitsOf 0 (bytesWindow 0) (bytesWindow 0) false
+noLimits = limitsFor 0 (bytesWindow 0) (bytesWindow 0) false
 
 unfoldable pub newLimits : ℕ → Window → Window → NewLimits
 newLimits chunk input output =
-    let l : Limits = limitsOf chunk input output false in
+    let l : Limits = limitsFor chunk input output false in
     cond (isValid l) (NewLimits.Made l) (NewLimits.Refused Refusal.NoLimits)
 
 abbrev pub sharedOutput : Limits → Limits
-sharedOutput l = limitsOf (l .chunk) (l .input) (l .output) true
+sharedOutput l = limitsFor (l .chunk) (l .input) (l .output) true
 
 -- with shared, pool Output alone is good; without it, Stdout and Stderr are; Input never is
 abbrev pub outputPool : Bool → Pool → PoolIndex

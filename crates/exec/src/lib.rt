@@ -4,14 +4,14 @@ ghost use mathlib.Core.Path.{_≡_};
 ghost use mathlib.Core.Bool.{cond};
 ghost use lib.ListN.{length};
 ghost use Rattle.exec.specs.Key.{newKey, admits};
-ghost use Rattle.exec.specs.Stream.{index};
+ghost use Rattle.exec.specs.Stream.{index, isStdout, isStderr, pick, following};
 ghost use Rattle.exec.specs.Limits.{
   bytesWindow,
   framesWindow,
   cost,
   bytesWith,
   isValid,
-  limitsOf,
+  limitsFor,
   noLimits,
   newLimits,
   sharedOutput,
@@ -77,6 +77,44 @@ pub enum Stream {
 impl Stream {
     // Both streams, in the order in which they are served.
     pub const ALL: [Stream; 2] = [Stream::Stdout, Stream::Stderr];
+
+    pub fn is_stdout(self) -> bool
+        ensures { λ r. ⌜ r ≡ isStdout self ⌝ }
+    {
+        match self {
+            Stream::Stdout => true,
+            Stream::Stderr => false,
+        }
+    }
+
+    pub fn is_stderr(self) -> bool
+        ensures { λ r. ⌜ r ≡ isStderr self ⌝ }
+    {
+        match self {
+            Stream::Stdout => false,
+            Stream::Stderr => true,
+        }
+    }
+
+    // The stream that has its turn after this one.
+    pub fn following(self) -> Stream
+        ensures { λ r. ⌜ r ≡ following self ⌝ }
+    {
+        match self {
+            Stream::Stdout => Stream::Stderr,
+            Stream::Stderr => Stream::Stdout,
+        }
+    }
+
+    // The number of this stream among what each has.
+    pub fn pick(self, stdout: u32, stderr: u32) -> u32
+        ensures { λ r. ⌜ r ≡ pick self stdout stderr ⌝ }
+    {
+        match self {
+            Stream::Stdout => stdout,
+            Stream::Stderr => stderr,
+        }
+    }
 
     // The stream's position in ALL.
     pub fn index(self) -> usize
@@ -193,7 +231,7 @@ impl Limits {
 
     // Limits of any numbers, valid or not: `open` looks at them.
     pub fn of(chunk: u32, input: Window, output: Window, shared: bool) -> Limits
-        ensures { λ r. ⌜ r ≡ limitsOf chunk input output shared ⌝ }
+        ensures { λ r. ⌜ r ≡ limitsFor chunk input output shared ⌝ }
     {
         Limits {
             chunk,

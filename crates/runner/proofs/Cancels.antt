@@ -8,14 +8,15 @@ use Rattle.exec.specs.declared.Key.{Key}
 use Rattle.exec.specs.declared.Receipt.the-variants.{Applied, Stale, Late}
 use Rattle.exec.specs.declared.Received.the-variants.{Receipt, Refused}
 use Rattle.exec.specs.declared.Refusal.{Refusal}
+use Rattle.exec.specs.declared.Reply.the-variants as Reply
 use Rattle.exec.specs.Key.{admits}
 use Rattle.runner.specs.declared.answer.Hearing.{Hearing}
 use Rattle.runner.specs.declared.runner.Runner.{Runner}
 use Rattle.runner.specs.Calls.{cancel}
 use Rattle.runner.specs.Life.{ticked, terminate, isLate, cancelled, cancelAnswer, cancelNext}
-use Rattle.runner.specs.Range.{isGood}
+use Rattle.runner.specs.Range.{stop}
 
-module _ (r : Runner) (now : ℕ) (k : Key) (cause : Cause) (good : isGood r true ≡ true) where
+module _ (r : Runner) (now : ℕ) (k : Key) (cause : Cause) (good : stop r true ≡ Reply.Ok) where
   pub of-another : (x : Refusal) → admits (r .key) k ≡ Admission.Refused x → record { runner = r; received = Refused x } ≡ cancel r now k cause
   unfolding cancel cancelAnswer cancelNext
   of-another x a = rw (good, a)

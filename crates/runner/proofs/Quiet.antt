@@ -19,7 +19,8 @@ use Rattle.runner.specs.declared.answer.Noting.{Noting}
 use Rattle.runner.specs.declared.runner.Runner.{Runner}
 use Rattle.runner.specs.Calls.{noting, tick}
 use Rattle.runner.specs.Life.{awaitsLaunch, isCleanedUp, endGrace, giveUp, abandonLaunch, abandonOpenStreams, beginTermination, terminate, giveUpUnlessClean, dropLaunch, dropStreams, fire, ticked, anyDue, passTimeout, passGrace, passSettlement, passGiveUp, passAbandonment}
-use Rattle.runner.specs.Range.{isGood, stop}
+use Rattle.runner.specs.Range.{stop}
+use Rattle.runner.specs.RangeLaws.{stopIf}
 use Rattle.runner.specs.State.{with, withClocks, withLife}
 use Rattle.runner.proofs.Branch.{no}
 
@@ -154,21 +155,21 @@ in-fire r now =
 
 -- ---- tick, from its tests and what they found
 
-module _ (r : Runner) (now : ℕ) (good due : Bool) (x : Reply) (hg : good ≡ isGood r true) (hd : due ≡ anyDue r now) where
-  pub tick-due : (r′ : Runner) (cs : Clocks) (l : Life) → (good && due) ≡ true → x ≡ cond good Reply.Ok (Reply.Refused (stop r))
+module _ (r : Runner) (now : ℕ) (good due : Bool) (x : Reply) (hg : stop r true ≡ stopIf good r) (hd : due ≡ anyDue r now) where
+  pub tick-due : (r′ : Runner) (cs : Clocks) (l : Life) → (good && due) ≡ true → x ≡ stopIf good r
       → r′ ≡ fire r now → cs ≡ r′ .clocks → l ≡ r′ .life
       → _≡_ {A = Noting} (record { runner = with cs l (r′ .flags) (r′ .input) (r′ .outputs) r; reply = x }) (tick r now)
-  unfolding tick
+  unfolding tick stopIf
   tick-due r′ cs l t hx e hc hl =
       let b = both good due t in
-      rw (hc, hl, hx, e, ← hg, b .0, in-fire r now, busy r now (sym hd ∙ b .1))
+      rw (hc, hl, hx, e, hg, b .0, in-fire r now, busy r now (sym hd ∙ b .1))
 
-  pub tick-quiet : (good && due) ≡ false → x ≡ cond good Reply.Ok (Reply.Refused (stop r))
+  pub tick-quiet : (good && due) ≡ false → x ≡ stopIf good r
       → _≡_ {A = Noting} (record { runner = r; reply = x }) (tick r now)
-  unfolding tick
-  tick-quiet f hx = rw (hx, ← hg) (by good due f (λ e. quiet r now (sym hd ∙ e)))
+  unfolding tick stopIf
+  tick-quiet f hx = rw (hx, hg) (by good due f (λ e. quiet r now (sym hd ∙ e)))
     where
       by : (good due : Bool) → (good && due) ≡ false → (due ≡ false → r ≡ ticked r now)
-          → _≡_ {A = Noting} (record { runner = r; reply = cond good Reply.Ok (Reply.Refused (stop r)) }) (noting good (ticked r now) r)
+          → _≡_ {A = Noting} (record { runner = r; reply = stopIf good r }) (noting (stopIf good r) (ticked r now) r)
       by true due f h = ap (λ (next : Runner). record { runner = next; reply = Reply.Ok }) (h f)
       by false due f h = refl

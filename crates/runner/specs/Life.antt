@@ -16,6 +16,7 @@ use Rattle.exec.specs.declared.Receipt.the-variants.{Applied, Stale, Late}
 use Rattle.exec.specs.declared.Received.{Received}
 use Rattle.exec.specs.declared.Received.the-variants.{Receipt, Refused}
 use Rattle.exec.specs.declared.Settlement.{Settlement}
+use Rattle.exec.specs.declared.Stream.the-variants.{Stdout, Stderr}
 use Rattle.exec.specs.Time.{after, then, due}
 use Rattle.lifecycle.specs.declared.life.Launch.the-variants as Launch
 use Rattle.lifecycle.specs.declared.life.Settling.the-variants.{Fenced}
@@ -24,20 +25,20 @@ use Rattle.lifecycle.specs.Life.{launchKnown, exitKnown, isFenced, isSettled, s
 use Rattle.lifecycle.specs.Setters.{setTimeoutAt, setGraceUntil, setGiveUpAt, setAbandonAt, setLaunch, setSettling}
 use Rattle.stdio.specs.Input.{closeInput, messageTold}
 use Rattle.stdio.specs.Output.{graceEnded, givenUp, abandoned}
-use Rattle.stdio.specs.Outputs.{eachOutput, bothClosed, anyHeld, bothDelivered}
+use Rattle.stdio.specs.Outputs.{eachOutput, allClosed, anyHeld, allDelivered}
 use Rattle.runner.specs.declared.answer.Hearing.{Hearing}
 use Rattle.runner.specs.declared.runner.Runner.{Runner}
-use Rattle.runner.specs.State.{with, withClocks, withLife, flagsOf, out0, out1}
+use Rattle.runner.specs.State.{with, withClocks, withLife, flagsOf, outOf}
 
 -- the launch result is still waited for: it has not arrived, and the runner has not given up on it
 abbrev pub awaitsLaunch : Runner → Bool
 awaitsLaunch r =
     (not (launchKnown (r .life .launch)) && not (r .flags .«gave_up»)) && not (r .flags .«launch_abandoned»)
 
--- launch and exit are reported, both streams are closed and settling is Settled
+-- launch and exit are reported, every stream is closed and settling is Settled
 abbrev pub isCleanedUp : Runner → Bool
 isCleanedUp r =
-    ((launchKnown (r .life .launch) && exitKnown (r .life .exit)) && bothClosed (r .outputs))
+    ((launchKnown (r .life .launch) && exitKnown (r .life .exit)) && allClosed (r .outputs))
     && isSettled (r .life .settling)
 
 unfoldable pub closeRunnerInput : Runner → Runner
@@ -46,12 +47,12 @@ closeRunnerInput r =
 
 -- ---- the end of grace, give-up and abandonment
 
--- ended grace drops both queues, and asks to discard each stream that is still open
+-- ended grace drops every queue, and asks to discard each stream that is still open
 unfoldable pub endGrace : Runner → Runner
 endGrace r =
     with (setGraceUntil Never (r .clocks)) (r .life) (r .flags) (r .input) (eachOutput graceEnded (r .outputs)) r
 
--- drops both queues, closes and marks each stream still open, sets a missing exit to no status, and fences settling
+-- drops every queue, closes and marks each stream still open, sets a missing exit to no status, and fences settling
 unfoldable pub giveUp : Runner → Runner
 giveUp r =
     with (stopWaiting (r .clocks)) (lifeGivenUp (r .life))
@@ -196,8 +197,8 @@ settledNext r s = withLife (lifeSettled (r .life) s) r
 -- ---- detachment: grace ends then and there, and give-up is a settlement time from now at the latest
 
 -- nothing more is told
-unfoldable pub detached : Runner → Runner
-detached r =
+unfoldable pub silenced : Runner → Runner
+silenced r =
     with (r .clocks) (r .life)
     (flagsOf false (r .flags .«settle_request») (r .flags .«gave_up») (r .flags .«launch_abandoned») true (r .flags .credited) (r .flags .finished))
     (messageTold (r .input)) (r .outputs) r
@@ -206,7 +207,7 @@ unfoldable pub giveUpSoon : Runner → ℕ → Runner
 giveUpSoon r now = withClocks (giveUpBy (r .clocks) now (r .timers .settlement)) r
 
 unfoldable pub cutOff : Runner → ℕ → Cause → Runner
-cutOff r now cause = giveUpSoon (endGrace (detached (terminate r now cause))) now
+cutOff r now cause = giveUpSoon (endGrace (silenced (terminate r now cause))) now
 
 unfoldable pub cutOffOnce : Runner → ℕ → Cause → Runner
 cutOffOnce r now cause = cond (r .flags .finished || r .flags .detached) r (cutOff r now cause)
@@ -218,8 +219,8 @@ detachNext r now cause = cutOffOnce (ticked r now) now cause
 
 unfoldable pub isReady : Runner → Bool
 isReady r =
-    ((not (awaitsLaunch r) && exitKnown (r .life .exit)) && bothDelivered (r .outputs) (r .flags .detached))
+    ((not (awaitsLaunch r) && exitKnown (r .life .exit)) && allDelivered (r .outputs) (r .flags .detached))
     && (isSettled (r .life .settling) || isFenced (r .life .settling))
 
 unfoldable pub outcomeOf : Runner → Outcome
-outcomeOf r = lifeOutcome (r .life) (out0 r .truncated) (out1 r .truncated)
+outcomeOf r = lifeOutcome (r .life) (outOf Stdout r .truncated) (outOf Stderr r .truncated)

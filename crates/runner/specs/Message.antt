@@ -9,7 +9,7 @@ use Rattle.exec.specs.declared.MaybeCause.the-variants as MaybeCause
 use Rattle.exec.specs.declared.Stream.{Stream}
 use Rattle.exec.specs.declared.Stream.the-variants.{Stdout, Stderr}
 use Rattle.exec.specs.Limits.{cost, poolOf}
-use Rattle.exec.specs.Stream.{index, streamAt}
+use Rattle.exec.specs.Stream.{index, streamAt, following}
 use Rattle.ring.specs.Ring.{ringRead}
 use Rattle.credit.specs.Sender.{sendable, spent}
 use Rattle.lifecycle.specs.declared.flags.Flags.{Flags}
@@ -30,8 +30,8 @@ use Rattle.runner.specs.declared.message.Wish.the-variants as Wish
 use Rattle.runner.specs.declared.runner.Runner.{Runner}
 use Rattle.runner.specs.Choose.{ifElse}
 use Rattle.runner.specs.Life.{awaitsLaunch, isReady, outcomeOf}
-use Rattle.runner.specs.Range.{stop}
-use Rattle.runner.specs.State.{withLife, withFlags, withInput, withFlow, flagsOf, out0, out1, outOf, at, other, base, creditAt, putCredit}
+use Rattle.runner.specs.RangeLaws.{stopped}
+use Rattle.runner.specs.State.{withLife, withFlags, withInput, withFlow, flagsOf, outOf, at, base, creditAt, putCredit}
 
 -- the flags that a message moves
 abbrev pub messageFlags : (started credited finished : Bool) → Flags → Flags
@@ -52,7 +52,7 @@ untold r x = isDone (outOf x r) && not (outOf x r .ended)
 
 -- the order of messages: Credit unless the last message was one; then Started, InputClosed and, unless the launch is still
 -- awaited, End, Output by turns; then Credit; then Terminal. Once detached, only Terminal.
--- (x is the stream whose turn it is, n1 and n2 what it and the other can send)
+-- (x is the stream whose turn it is, n1 and n2 what it and the one that follows can send)
 unfoldable pub order : (finished detached can credited started closed awaits end0 end1 ready : Bool) (x : Stream) (n1 n2 : ℕ) → Choice
 order finished detached can credited started closed awaits end0 end1 ready x n1 n2 =
     ifElse finished Choice.None
@@ -63,7 +63,7 @@ order finished detached can credited started closed awaits end0 end1 ready x n1 
     (ifElse (not awaits && end0) (Choice.End Stdout)
     (ifElse (not awaits && end1) (Choice.End Stderr)
     (ifElse (not awaits && ltb 0 n1) (Choice.Output x n1)
-    (ifElse (not awaits && ltb 0 n2) (Choice.Output (other x) n2)
+    (ifElse (not awaits && ltb 0 n2) (Choice.Output (following x) n2)
     (ifElse can Choice.Credit
     (ifElse ready Choice.Terminal Choice.None))))))))))
 
@@ -71,7 +71,7 @@ unfoldable pub choose : Runner → (buffer : ℕ) → Choice
 choose r buffer =
     order (r .flags .finished) (r .flags .detached) (canGrant (r .input)) (r .flags .credited)
     (r .flags .«started_message») (r .input .«closed_message») (awaitsLaunch r) (untold r Stdout) (untold r Stderr) (isReady r)
-    (streamAt (r .turn)) (sendableOf r buffer (streamAt (r .turn))) (sendableOf r buffer (other (streamAt (r .turn))))
+    (streamAt (r .turn)) (sendableOf r buffer (streamAt (r .turn))) (sendableOf r buffer (following (streamAt (r .turn))))
 
 -- ---- its effect
 
@@ -79,12 +79,12 @@ choose r buffer =
 abbrev pub plain : Runner → Runner
 plain r = withFlags (messageFlags (r .flags .«started_message») false (r .flags .finished) (r .flags)) r
 
--- the cost of n bytes of a stream leaves the account of its pool; the other stream has its turn next
+-- the cost of n bytes of a stream leaves the account of its pool; the stream that follows has its turn next
 unfoldable pub outputPaid : Stream → ℕ → Runner → Runner
 outputPaid x n r =
     withFlow
     (putCredit (poolOf (r .limits) x) (spent (creditAt (poolOf (r .limits) x) (r .credits)) (cost (r .limits .output .unit) n)) (r .credits))
-    (index (other x)) (messageFlags (r .flags .«started_message») false (r .flags .finished) (r .flags)) (r .«high_water») r
+    (index (following x)) (messageFlags (r .flags .«started_message») false (r .flags .finished) (r .flags)) (r .«high_water») r
 
 -- and the bytes leave its queue
 unfoldable pub outputSent : Stream → ℕ → Runner → Runner
@@ -151,7 +151,7 @@ abbrev pub choiceOf : (good : Bool) → Runner → (buffer : ℕ) → Choice
 choiceOf good r buffer = cond good (choose r buffer) Choice.None
 
 abbrev pub answerOf : (good : Bool) → Choice → Runner → Said
-answerOf good c r = cond good (saidFor c r) (Said.Refused (stop r))
+answerOf good c r = cond good (saidFor c r) (Said.Refused (stopped r))
 
 -- what next_message leaves: its answer with the state, and the buffer
 pub record MessageAfter : Type 0 where
@@ -172,7 +172,7 @@ wishFor MaybeCause.None discard0 discard1 close settle =
 
 unfoldable pub wish : Runner → Wish
 wish r =
-    wishFor (r .life .«terminate_request») (out0 r .«discard_requested») (out1 r .«discard_requested»)
+    wishFor (r .life .«terminate_request») (outOf Stdout r .«discard_requested») (outOf Stderr r .«discard_requested»)
     (r .input .«close_requested») (r .flags .«settle_request»)
 
 abbrev pub handed : Request → Runner → Runner

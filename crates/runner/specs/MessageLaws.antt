@@ -1,7 +1,7 @@
 -- What is known of an output message that was chosen: it has bytes, they are queued and fit the buffer, and credit has their cost.
 use mathlib.Core.Path.{_≡_, refl}
 use mathlib.Core.Bool.{Bool, true, false, not, cond, _&&_}
-use Prim.Native.Nat.{ℕ, _+_, _*_, _≤_, _<_, min}
+use Prim.Native.Nat.{ℕ, _+_, _≤_, _<_, min}
 use native.Mathlib.Omega.{arith}
 use mathlib.Core.List.{List}
 use lib.Dec.{ltb}
@@ -12,7 +12,7 @@ use Rattle.exec.specs.declared.Stream.the-variants.{Stdout, Stderr}
 use Rattle.exec.specs.declared.Unit as Units
 use Rattle.exec.specs.declared.Unit.the-variants.{Bytes, Frames}
 use Rattle.exec.specs.Limits.{cost, poolOf}
-use Rattle.exec.specs.Stream.{streamAt}
+use Rattle.exec.specs.Stream.{streamAt, pick, picked, following}
 use Rattle.credit.specs.Need.{byteNeed}
 use Rattle.credit.specs.RangeLaws.{both}
 use Rattle.credit.specs.Sender.{sendable}
@@ -23,8 +23,8 @@ use Rattle.runner.specs.Choose.{ifElse}
 use Rattle.stdio.specs.Input.{canGrant}
 use Rattle.runner.specs.Life.{awaitsLaunch, isReady}
 use Rattle.runner.specs.Message.{sendableOf, untold, order, choose}
-use Rattle.runner.specs.RangeLaws.{Queued, InRange, queue-of}
-use Rattle.runner.specs.State.{outOf, other, base, creditAt}
+use Rattle.runner.specs.RangeLaws.{Queued, InRange}
+use Rattle.runner.specs.State.{outOf, base, creditAt}
 
 -- the account of its pool has the cost of n bytes
 pub record Payable (r : Runner) (x : Stream) (n : ℕ) : Type 0 where
@@ -69,7 +69,7 @@ either P true x y hx hy = hx refl
 either P false x y hx hy = hy
 
 module _ (P : Stream → ℕ → Type 0) (finished detached can credited started closed awaits end0 end1 ready : Bool) (x : Stream) (n1 n2 : ℕ)
-    (h1 : 0 < n1 → P x n1) (h2 : 0 < n2 → P (other x) n2) where
+    (h1 : 0 < n1 → P x n1) (h2 : 0 < n2 → P (following x) n2) where
   some : (n : ℕ) → (not awaits && ltb 0 n) ≡ true → 0 < n
   some n h = ltb-true 0 n (both (not awaits) (ltb 0 n) h .1)
 
@@ -98,11 +98,16 @@ chosen r buffer x n e =
     let x₁ = streamAt (r .turn) in
     let all : Of (Chosen r buffer) (choose r buffer) =
     ordered (Chosen r buffer) (r .flags .finished) (r .flags .detached) (canGrant (r .input)) (r .flags .credited) (r .flags .«started_message»)
-    (r .input .«closed_message») (awaitsLaunch r) (untold r Stdout) (untold r Stderr) (isReady r) x₁ (sendableOf r buffer x₁) (sendableOf r buffer (other x₁))
+    (r .input .«closed_message») (awaitsLaunch r) (untold r Stdout) (untold r Stderr) (isReady r) x₁ (sendableOf r buffer x₁) (sendableOf r buffer (following x₁))
     (λ h. record { bytes = refl; some-bytes = h }) (λ h. record { bytes = refl; some-bytes = h }) in
     rw (← e) at all
 
 -- ---- what a stream can send
+
+-- picked from what each can send
+pub picked-by : (r : Runner) (buffer : ℕ) (x : Stream) (stdout stderr n : ℕ) → stdout ≡ sendableOf r buffer Stdout → stderr ≡ sendableOf r buffer Stderr
+    → n ≡ pick x stdout stderr → n ≡ sendableOf r buffer x
+picked-by r buffer x stdout stderr n h0 h1 hn = rw (hn, h0, h1) (picked (sendableOf r buffer) x)
 
 -- no more than is asked of it
 pub least : (u : Units.Unit) (available m : ℕ) → sendable u available m ≤ m
@@ -122,12 +127,9 @@ affordable Frames available m h = at (ltb 0 available) refl h
     at true e p = ltb-true 0 available e
     at false e p = absurd (omega arith)
 
-base-fits : (x : Stream) (chunk rest len : ℕ) → 2 * chunk + rest ≤ len → base x chunk + chunk ≤ len
-base-fits Stdout chunk rest len h = omega arith
-base-fits Stderr chunk rest len h = omega arith
-
 pub area-of : (r : Runner) (x : Stream) (store : List ℕ) → byteNeed (r .limits) ≤ length store → base x (r .limits .chunk) + r .limits .chunk ≤ length store
-area-of r x store h = base-fits x (r .limits .chunk) _ (length store) h
+area-of r Stdout store h = omega arith
+area-of r Stderr store h = omega arith
 
 module _ (r : Runner) (x : Stream) (n : ℕ) (store buffer : List ℕ) (h : InRange r) (need : byteNeed (r .limits) ≤ length store)
     (e : Choice.Output x n ≡ choose r (length buffer)) where
@@ -145,7 +147,7 @@ module _ (r : Runner) (x : Stream) (n : ℕ) (store buffer : List ℕ) (h : InRa
       let l = least (r .limits .output .unit) (creditAt (poolOf (r .limits) x) (r .credits) .available) m in
       record {
         area = area-of r x store need;
-        queue = queue-of r x h;
+        queue = h .queue x;
         queued = omega (arith, c .bytes, l);
         fits = omega (arith, c .bytes, l);
       }

@@ -1,6 +1,6 @@
 -- What is met before a call: a state out of range (12), no limits (10), a lent store that is short (11); and open.
 use Prim.Native.Nat.{ℕ}
-use mathlib.Core.Bool.{Bool, false, cond, _&&_}
+use mathlib.Core.Bool.{Bool, false, cond, not, _&&_}
 use mathlib.Core.List.{List, [], _∷_}
 use lib.Dec.{leb}
 use lib.ListN.{length}
@@ -8,35 +8,29 @@ use Rattle.exec.specs.declared.Deadline.the-variants.{Never}
 use Rattle.exec.specs.declared.Key.{Key}
 use Rattle.exec.specs.declared.Limits.{Limits}
 use Rattle.exec.specs.declared.MaybeCause.the-variants as MaybeCause
-use Rattle.exec.specs.declared.Refusal.{Refusal}
 use Rattle.exec.specs.declared.Refusal.the-variants.{NoLimits, StoreShort, StateOutOfRange}
+use Rattle.exec.specs.declared.Reply.{Reply}
+use Rattle.exec.specs.declared.Reply.the-variants as Reply
 use Rattle.exec.specs.declared.Timers.{Timers}
-use Rattle.exec.specs.Limits.{isValid, bytesWindow}
+use Rattle.exec.specs.Limits.{isValid}
 use Rattle.exec.specs.Time.{timeoutAt}
 use Rattle.credit.specs.Need.{byteNeed, lengthNeed}
-use Rattle.credit.specs.Range.{inboxFits, inboxWithin}
-use Rattle.credit.specs.Sender.{newCredit, creditFits}
+use Rattle.credit.specs.Range.{inboxFits}
+use Rattle.credit.specs.Sender.{newCredit}
 use Rattle.lifecycle.specs.declared.life.Exit.the-variants as Exit
 use Rattle.lifecycle.specs.declared.life.Launch.the-variants as Launch
 use Rattle.lifecycle.specs.declared.life.Settling.the-variants as Settling
 use Rattle.stdio.specs.Input.{newInput}
 use Rattle.stdio.specs.Output.{newOutput}
-use Rattle.stdio.specs.Outputs.{outputsFit, outputsWithin}
+use Rattle.stdio.specs.Outputs.{outputsFit}
 use Rattle.runner.specs.declared.runner.Runner.{Runner}
-use Rattle.runner.specs.State.{flagsOf, credit0, credit1}
+use Rattle.runner.specs.State.{flagsOf, creditsFit}
 
 -- queues, starts, credit, units and turn are in their ranges
 unfoldable pub inRange : Runner → Bool
 inRange r =
-    ((outputsFit (r .limits .chunk) (r .outputs) && (creditFits (credit0 (r .credits)) && creditFits (credit1 (r .credits))))
+    ((outputsFit (r .limits .chunk) (r .outputs) && creditsFit (r .credits))
     && inboxFits (r .limits) (r .input .window) (r .input .inbox))
-    && leb (r .turn) 1
-
--- the same, of limits that are valid
-unfoldable pub within : Runner → Bool
-within r =
-    ((outputsWithin (r .limits .chunk) (r .outputs) && (creditFits (credit0 (r .credits)) && creditFits (credit1 (r .credits))))
-    && inboxWithin (r .limits .input .unit) (r .limits .input .size) (r .limits .chunk) (r .input .window) (r .input .inbox))
     && leb (r .turn) 1
 
 -- a lent store is not below its need
@@ -46,21 +40,17 @@ bytesDo l bytes = leb (byteNeed l) (length bytes)
 abbrev pub lengthsDo : Limits → List ℕ → Bool
 lengthsDo l lengths = leb (lengthNeed l) (length lengths)
 
--- neither 12 nor 10 nor, where the stores that the call is lent do, 11
-unfoldable pub isGood : Runner → (stores : Bool) → Bool
-isGood r stores = (inRange r && isValid (r .limits)) && stores
+-- what open meets: no limits (10), then, unless the lent stores do, a short store (11); Ok where it is neither
+abbrev pub openStop : Limits → (stores : Bool) → Reply
+openStop l stores =
+    cond (not (isValid l)) (Reply.Refused NoLimits)
+    (cond (not stores) (Reply.Refused StoreShort) Reply.Ok)
 
--- which of them: 12, then 10, then 11
-unfoldable pub stop : Runner → Refusal
-stop r = cond (inRange r) (cond (isValid (r .limits)) StoreShort NoLimits) StateOutOfRange
+-- what any other call meets: a state out of range (12), and then the same
+unfoldable pub stop : Runner → (stores : Bool) → Reply
+stop r stores = cond (not (inRange r)) (Reply.Refused StateOutOfRange) (openStop (r .limits) stores)
 
--- ---- open: 10, then 11
-
-unfoldable pub opens : Limits → (bytes lengths : List ℕ) → Bool
-opens l bytes lengths = isValid l && (bytesDo l bytes && lengthsDo l lengths)
-
-unfoldable pub openStop : Limits → Refusal
-openStop l = cond (isValid l) StoreShort NoLimits
+-- ---- open
 
 -- a fresh runner
 unfoldable pub fresh : Key → Limits → Timers → ℕ → Runner
@@ -89,7 +79,3 @@ fresh k l t now = record {
   turn = 0;
   «high_water» = 0;
 }
-
--- limits that are none: what a refused open hands back has them, so that every call on it is refused by 10
-abbrev pub noLimits : Limits
-noLimits = record { chunk = 0; input = bytesWindow 0; output = bytesWindow 0; shared = false }

@@ -1,21 +1,32 @@
--- A state in range, as facts, which the calls' parts ask.
+-- A state in range, as facts, which the calls' parts ask; and the code's own test of it, which is quicker.
 use Prim.Native.Nat.{ℕ, _≤_, _<_}
-use mathlib.Core.Path.{_≡_, refl}
-use mathlib.Core.Bool.{Bool, true, false, _&&_}
+use native.Mathlib.Omega.{arith}
+use mathlib.Core.Path.{_≡_, refl, sym, _∙_}
+use mathlib.Core.Bool.{Bool, true, false, cond, not, _&&_, and-true, and-false}
+use mathlib.Core.List.{List}
 use lib.Dec.{leb, ltb}
 use borrow.Author.Tests.{leb-true, ltb-true}
+use Rattle.exec.specs.declared.Limits.{Limits}
+use Rattle.exec.specs.declared.Refusal.{Refusal}
+use Rattle.exec.specs.declared.Refusal.the-variants.{NoLimits, StoreShort, StateOutOfRange}
+use Rattle.exec.specs.declared.Reply.{Reply}
+use Rattle.exec.specs.declared.Reply.the-variants as Reply
 use Rattle.exec.specs.declared.Stream.{Stream}
 use Rattle.exec.specs.declared.Stream.the-variants.{Stdout, Stderr}
 use Rattle.exec.specs.Limits.{isValid}
-use Rattle.credit.specs.Range.{inboxFits}
+use Rattle.exec.specs.Stream.{index, everyStream, every-stream}
+use Rattle.credit.specs.Range.{inboxFits, inboxWithin}
 use Rattle.credit.specs.RangeLaws as Inbox
 use Rattle.credit.specs.Sender.{creditFits}
 use Rattle.stdio.specs.declared.output.Output.{Output}
 use Rattle.stdio.specs.Output as Queue
 use Rattle.stdio.specs.Output.{outputFits, output-range}
+use Rattle.stdio.specs.Outputs.{outputIn, outputsFit, outputsWithin}
 use Rattle.runner.specs.declared.runner.Runner.{Runner}
-use Rattle.runner.specs.Range.{inRange, within, isGood}
-use Rattle.runner.specs.State.{out0, out1, outOf, credit0, credit1}
+use Rattle.runner.specs.Range.{inRange, openStop, stop}
+use Rattle.runner.specs.State.{outOf, creditAt, creditsFit}
+
+-- ---- in range
 
 -- a queue within its ring
 pub record Queued (chunk : ℕ) (o : Output) : Type 0 where
@@ -23,10 +34,8 @@ pub record Queued (chunk : ℕ) (o : Output) : Type 0 where
   pub begins : o .start ≤ chunk
 
 pub record InRange (r : Runner) : Type 0 where
-  pub stdout : Queued (r .limits .chunk) (out0 r)
-  pub stderr : Queued (r .limits .chunk) (out1 r)
-  pub first : credit0 (r .credits) .available ≤ credit0 (r .credits) .window
-  pub second : credit1 (r .credits) .available ≤ credit1 (r .credits) .window
+  pub queue : (x : Stream) → Queued (r .limits .chunk) (outOf x r)
+  pub account : (x : Stream) → creditAt (index x) (r .credits) .available ≤ creditAt (index x) (r .credits) .window
   pub input : Inbox.InRange (r .limits) (r .input .window) (r .input .inbox)
   pub turn : r .turn ≤ 1
 
@@ -37,67 +46,149 @@ pub in-range : (r : Runner) → inRange r ≡ true → InRange r
 unfolding inRange
 in-range r h =
     let chunk = r .limits .chunk in
-    let f0 = outputFits chunk (out0 r) in
-    let f1 = outputFits chunk (out1 r) in
-    let c0 = creditFits (credit0 (r .credits)) in
-    let c1 = creditFits (credit1 (r .credits)) in
-    let i = inboxFits (r .limits) (r .input .window) (r .input .inbox) in
+    let fit = outputsFit chunk (r .outputs) in
+    let paid = creditsFit (r .credits) in
+    let held = inboxFits (r .limits) (r .input .window) (r .input .inbox) in
     let t = leb (r .turn) 1 in
-    let p = Inbox.both (((f0 && f1) && (c0 && c1)) && i) t h in
-    let q = Inbox.both ((f0 && f1) && (c0 && c1)) i (p .0) in
-    let o = Inbox.both (f0 && f1) (c0 && c1) (q .0) in
-    let f = Inbox.both f0 f1 (o .0) in
-    let c = Inbox.both c0 c1 (o .1) in
+    let p = Inbox.both ((fit && paid) && held) t h in
+    let q = Inbox.both (fit && paid) held (p .0) in
+    let o = Inbox.both fit paid (q .0) in
     record {
-      stdout = queued chunk (out0 r) (f .0);
-      stderr = queued chunk (out1 r) (f .1);
-      first = leb-true (credit0 (r .credits) .available) (credit0 (r .credits) .window) (c .0);
-      second = leb-true (credit1 (r .credits) .available) (credit1 (r .credits) .window) (c .1);
+      queue = λ x. queued chunk (outOf x r) (every-stream (λ (y : Stream). outputFits chunk (outOf y r)) (o .0) x);
+      account = λ x. leb-true _ _ (every-stream (λ (y : Stream). creditFits (creditAt (index y) (r .credits))) (o .1) x);
       input = Inbox.in-range (r .limits) (r .input .window) (r .input .inbox) (q .1);
       turn = leb-true (r .turn) 1 (p .1);
     }
 
--- a stream's queue
-pub queue-of : (r : Runner) (x : Stream) → InRange r → Queued (r .limits .chunk) (outOf x r)
-queue-of r Stdout h = h .stdout
-queue-of r Stderr h = h .stderr
+-- ---- a call that meets no stop, and one that does
 
--- a call that is not refused
+-- none of 12, 10 and 11
+abbrev isGood : Runner → (stores : Bool) → Bool
+isGood r stores = (inRange r && isValid (r .limits)) && stores
+
+-- the refusal of an open that meets 10 or 11, and of a call that meets one of the three
+abbrev pub unopened : Limits → Refusal
+unopened l = cond (isValid l) StoreShort NoLimits
+
+unfoldable pub stopped : Runner → Refusal
+stopped r = cond (inRange r) (unopened (r .limits)) StateOutOfRange
+
+-- what a call meets, given whether it meets none
+unfoldable pub stopIf : (good : Bool) → Runner → Reply
+stopIf good r = cond good Reply.Ok (Reply.Refused (stopped r))
+
+module _ (r : Runner) (stores : Bool) where
+  stop-by : (b : Bool) → isGood r stores ≡ b → stop r stores ≡ stopIf b r
+  unfolding stop stopped stopIf
+  stop-by b e = by (inRange r) (isValid (r .limits)) stores e
+    where
+      by : (i v s : Bool) → ((i && v) && s) ≡ b
+          → cond (not i) (Reply.Refused StateOutOfRange) (cond (not v) (Reply.Refused NoLimits) (cond (not s) (Reply.Refused StoreShort) Reply.Ok))
+          ≡ cond b Reply.Ok (Reply.Refused (cond i (cond v StoreShort NoLimits) StateOutOfRange))
+      by true true true e = rw (← e)
+      by true true false e = rw (← e)
+      by true false s e = rw (← e)
+      by false v s e = rw (← e)
+
+  pub unstopped : inRange r ≡ true → isValid (r .limits) ≡ true → stores ≡ true → stop r stores ≡ Reply.Ok
+  unfolding stop
+  unstopped i v s = rw (i, v, s)
+
 pub record Good (r : Runner) (stores : Bool) : Type 0 where
   pub range : InRange r
   pub valid : isValid (r .limits) ≡ true
   pub stores-do : stores ≡ true
 
-pub is-good : (r : Runner) (stores : Bool) → isGood r stores ≡ true → Good r stores
-unfolding isGood
+pub is-good : (r : Runner) (stores : Bool) → stop r stores ≡ Reply.Ok → Good r stores
+unfolding stopIf
 is-good r stores h =
-    let p = Inbox.both (inRange r && isValid (r .limits)) stores h in
+    let p = Inbox.both (inRange r && isValid (r .limits)) stores (by (isGood r stores) refl) in
     let q = Inbox.both (inRange r) (isValid (r .limits)) (p .0) in
     record { range = in-range r (q .0); valid = q .1; stores-do = p .1 }
-
--- the quicker test, of limits that are valid, is the test
-within-range : (r : Runner) → 0 < r .limits .chunk → 0 < r .limits .input .size → within r ≡ inRange r
-unfolding within inRange
-within-range r hc hs =
-    rw (
-      Queue.within-fits (r .limits .chunk) (out0 r) hc,
-      Queue.within-fits (r .limits .chunk) (out1 r) hc,
-      Inbox.within-fits (r .limits) (r .input .window) (r .input .inbox) hs hc,
-    )
-
-pub good-within : (r : Runner) (stores : Bool) → ((within r && isValid (r .limits)) && stores) ≡ isGood r stores
-unfolding isGood
-good-within r stores = by (isValid (r .limits)) refl
   where
-    none : (w i : Bool) → ((w && false) && stores) ≡ ((i && false) && stores)
-    none true true = refl
-    none true false = refl
-    none false true = refl
-    none false false = refl
+    by : (b : Bool) → isGood r stores ≡ b → isGood r stores ≡ true
+    by true e = e
+    by false e = let z : Reply.Ok ≡ stopIf false r = sym h ∙ stop-by r stores false e in let n : _≡_ {A = ℕ} 0 1 = cc in absurd (omega arith)
 
-    by : (v : Bool) → isValid (r .limits) ≡ v → ((within r && v) && stores) ≡ ((inRange r && v) && stores)
-    by false h = none (within r) (inRange r)
+-- what open found
+pub open-by : (l : Limits) (stores b : Bool) → (isValid l && stores) ≡ b → openStop l stores ≡ cond b Reply.Ok (Reply.Refused (unopened l))
+open-by l stores b e = by (isValid l) stores e
+  where
+    by : (v s : Bool) → (v && s) ≡ b
+        → cond (not v) (Reply.Refused NoLimits) (cond (not s) (Reply.Refused StoreShort) Reply.Ok)
+        ≡ cond b Reply.Ok (Reply.Refused (cond v StoreShort NoLimits))
+    by true true e = rw (← e)
+    by true false e = rw (← e)
+    by false s e = rw (← e)
+
+pub is-opened : (l : Limits) (stores : Bool) → openStop l stores ≡ Reply.Ok → (isValid l ≡ true) × (stores ≡ true)
+is-opened l stores h = by (isValid l) stores h
+  where
+    by : (v s : Bool) → cond (not v) (Reply.Refused NoLimits) (cond (not s) (Reply.Refused StoreShort) Reply.Ok) ≡ Reply.Ok → (v ≡ true) × (s ≡ true)
+    by true true e = (refl, refl)
+    by true false e = let n : _≡_ {A = ℕ} 0 1 = cc in absurd (omega arith)
+    by false s e = let n : _≡_ {A = ℕ} 0 1 = cc in absurd (omega arith)
+
+-- ---- the code's test, in two halves that are each small enough to be made a part of every call (docs/DECISIONS.md, Speed)
+
+-- the outputs, the accounts and the turn, as they have to be where the limits are valid
+unfoldable pub stands : Runner → Bool
+stands r = (outputsWithin (r .limits .chunk) (r .outputs) && creditsFit (r .credits)) && leb (r .turn) 1
+
+-- the inbox likewise, the limits, and the stores
+unfoldable pub agrees : Runner → (stores : Bool) → Bool
+agrees r stores =
+    (inboxWithin (r .limits .input .unit) (r .limits .input .size) (r .limits .chunk) (r .input .window) (r .input .inbox)
+    && isValid (r .limits)) && stores
+
+regroup : (o c t i s : Bool) → (((i && true) && s) && ((o && c) && t)) ≡ (((((o && c) && i) && t) && true) && s)
+regroup true true true true s = and-true s
+regroup true true true false s = refl
+regroup true true false true s = and-false s
+regroup true true false false s = refl
+regroup true false t true s = and-false s
+regroup true false t false s = refl
+regroup false c t true s = and-false s
+regroup false c t false s = refl
+
+none : (x i s y : Bool) → (((i && false) && s) && x) ≡ ((y && false) && s)
+none x true s true = refl
+none x true s false = refl
+none x false s true = refl
+none x false s false = refl
+
+good-halves : (r : Runner) (stores : Bool) → (agrees r stores && stands r) ≡ isGood r stores
+unfolding stands agrees inRange
+good-halves r stores = by (isValid (r .limits)) refl
+  where
+    chunk : ℕ
+    chunk = r .limits .chunk
+
+    within : Bool
+    within = inboxWithin (r .limits .input .unit) (r .limits .input .size) chunk (r .input .window) (r .input .inbox)
+
+    by : (v : Bool) → isValid (r .limits) ≡ v → (((within && v) && stores) && stands r) ≡ ((inRange r && v) && stores)
+    by false h = none (stands r) within stores (inRange r)
     by true h =
-        let p = Inbox.both (ltb 0 (r .limits .chunk) && ltb 0 (r .limits .input .size)) (ltb 0 (r .limits .output .size)) h .0 in
-        let q = Inbox.both (ltb 0 (r .limits .chunk)) (ltb 0 (r .limits .input .size)) p in
-        rw (within-range r (ltb-true 0 (r .limits .chunk) (q .0)) (ltb-true 0 (r .limits .input .size) (q .1)))
+        let p = Inbox.both (ltb 0 chunk && ltb 0 (r .limits .input .size)) (ltb 0 (r .limits .output .size)) h .0 in
+        let q = Inbox.both (ltb 0 chunk) (ltb 0 (r .limits .input .size)) p in
+        let hc = ltb-true 0 chunk (q .0) in
+        rw (
+          Queue.within-fits chunk (outOf Stdout r) hc,
+          Queue.within-fits chunk (outOf Stderr r) hc,
+          Inbox.within-fits (r .limits) (r .input .window) (r .input .inbox) (ltb-true 0 (r .limits .input .size) (q .1)) hc,
+        )
+        (regroup (outputsFit chunk (r .outputs)) (creditsFit (r .credits)) (leb (r .turn) 1) (inboxFits (r .limits) (r .input .window) (r .input .inbox)) stores)
+
+-- by what the code tested, where found is whether the stores do
+module _ (r : Runner) {stores found s a : Bool} (hf : found ≡ stores) (hs : s ≡ stands r) (ha : a ≡ agrees r found) where
+  pub tested : stop r stores ≡ stopIf (a && s) r
+  tested = stop-by r stores (a && s) (sym (good-halves r stores) ∙ rw (← hf, ← hs, ← ha) refl)
+
+  pub goes : (a && s) ≡ true → stop r stores ≡ Reply.Ok
+  unfolding stopIf
+  goes h = rw (tested, h)
+
+  pub stops : (a && s) ≡ false → stop r stores ≡ Reply.Refused (stopped r)
+  unfolding stopIf
+  stops h = rw (tested, h)

@@ -5,15 +5,15 @@ use mathlib.Core.List.{List, [], _∷_}
 use lib.Dec.{eqb}
 use lib.ListN.{getD}
 use Rattle.exec.specs.declared.Stream.{Stream}
-use Rattle.exec.specs.declared.Stream.the-variants.{Stdout, Stderr}
+use Rattle.exec.specs.Stream.{index, pick, everyStream}
 use Rattle.credit.specs.declared.sender.Credit.{Credit}
-use Rattle.credit.specs.Sender.{newCredit}
+use Rattle.credit.specs.Sender.{newCredit, creditFits}
 use Rattle.lifecycle.specs.declared.clocks.Clocks.{Clocks}
 use Rattle.lifecycle.specs.declared.flags.Flags.{Flags}
 use Rattle.lifecycle.specs.declared.life.Life.{Life}
 use Rattle.stdio.specs.declared.input.Input.{Input}
 use Rattle.stdio.specs.declared.output.Output.{Output}
-use Rattle.stdio.specs.Outputs.{stdout, stderr}
+use Rattle.stdio.specs.Outputs.{outputIn, putOutput, queuedOf}
 use Rattle.runner.specs.declared.runner.Runner.{Runner}
 
 -- ---- parts set
@@ -77,41 +77,22 @@ flagsOf started settle gaveUp left detached credited finished = record {
   finished = finished;
 }
 
--- ---- the two outputs
-
-abbrev pub out0 : Runner → Output
-out0 r = stdout (r .outputs)
-
-abbrev pub out1 : Runner → Output
-out1 r = stderr (r .outputs)
-
-abbrev pub outputIn : Stream → List Output → Output
-outputIn Stdout os = stdout os
-outputIn Stderr os = stderr os
+-- ---- the outputs
 
 abbrev pub outOf : Stream → Runner → Output
 outOf x r = outputIn x (r .outputs)
 
-abbrev pub putOutput : Stream → Output → List Output → List Output
-putOutput Stdout o os = o ∷ stderr os ∷ []
-putOutput Stderr o os = stdout os ∷ o ∷ []
-
--- one stream's output changed, the other kept
+-- one stream's output changed, every other kept
 abbrev pub at : Stream → (Output → Output) → Runner → Runner
 at x f r = withOutputs (putOutput x (f (outOf x r)) (r .outputs)) r
 
-abbrev pub other : Stream → Stream
-other Stdout = Stderr
-other Stderr = Stdout
-
 -- where a stream's ring begins in the byte store: stdout's comes first
 abbrev pub base : Stream → (chunk : ℕ) → ℕ
-base Stdout chunk = 0
-base Stderr chunk = chunk
+base x chunk = pick x 0 chunk
 
--- ---- the two credit accounts
+-- ---- the credit accounts
 
--- (0 where no list holds it)
+-- (an empty one where the list is too short)
 abbrev pub credit0 : List Credit → Credit
 credit0 cs = getD cs 0 (newCredit 0)
 
@@ -125,7 +106,11 @@ creditAt i cs = cond (eqb i 0) (credit0 cs) (credit1 cs)
 abbrev pub putCredit : ℕ → Credit → List Credit → List Credit
 putCredit i c cs = cond (eqb i 0) c (credit0 cs) ∷ cond (eqb i 0) (credit1 cs) c ∷ []
 
+-- no account has more than its window
+abbrev pub creditsFit : List Credit → Bool
+creditsFit cs = everyStream (λ (x : Stream). creditFits (creditAt (index x) cs))
+
 -- ---- the bytes held
 
 abbrev pub buffered : Runner → ℕ
-buffered r = out0 r .queued + out1 r .queued + r .input .inbox .length
+buffered r = queuedOf (r .outputs) + r .input .inbox .length

@@ -25,7 +25,7 @@ use Rattle.runner.specs.declared.answer.Hearing.{Hearing}
 use Rattle.runner.specs.declared.answer.Taken.the-variants as Taken
 use Rattle.runner.specs.declared.answer.Taking.{Taking}
 use Rattle.runner.specs.declared.runner.Runner.{Runner}
-use Rattle.runner.specs.Range.{stop}
+use Rattle.runner.specs.RangeLaws.{stopped}
 use Rattle.runner.specs.State.{withInput, withFlow, outOf, at, base, creditAt, putCredit, buffered}
 
 -- ---- output: closed or given up, it takes 0; while discarding it takes all and keeps none; else min(length, chunk - queued)
@@ -55,8 +55,8 @@ outputNext r x n =
     (cond (keepsNone x r) (r .«high_water») (max (r .«high_water») (buffered (outputFilled r x n))))
     (outputFilled r x n)
 
-unfoldable pub outputBytes : Runner → Stream → (bytes store : List ℕ) → List ℕ
-outputBytes r x bytes store =
+unfoldable pub outputStore : Runner → Stream → (bytes store : List ℕ) → List ℕ
+outputStore r x bytes store =
     ringWrite (base x (r .limits .chunk)) (r .limits .chunk) (outOf x r .start) (outOf x r .queued) bytes
     (keeps (isShut x r) (outOf x r .discarding) (room x r) (length bytes)) store
 
@@ -72,7 +72,7 @@ unfoldable pub outputTook : Runner → Stream → (bytes store : List ℕ) → O
 outputTook r x bytes store =
     outputAfter
     (record { runner = outputNext r x (length bytes); taken = Taken.Bytes (outputTaken r x (length bytes)) })
-    (outputBytes r x bytes store)
+    (outputStore r x bytes store)
 
 unfoldable pub readAllowanceOf : Runner → Stream → ℕ
 readAllowanceOf r x = allowance (outOf x r) (r .flags .«gave_up») (r .limits .chunk)
@@ -102,11 +102,11 @@ creditAnswer (Admission.Refused x) p r units = Refused x
 creditAnswer Admission.Stale p r units = Receipt Stale
 creditAnswer Admission.Own p r units = creditIn p r units
 
--- the accounts after it
+-- the accounts after it: a grant that is refused leaves them
 abbrev pub creditsIn : PoolIndex → Bool → ℕ → List Credit → List Credit
 creditsIn (PoolIndex.Refused x) finished units cs = cs
 creditsIn (PoolIndex.At i) finished units cs =
-    cond finished cs (putCredit i (grant (creditAt i cs) units .credit) cs)
+    cond (not finished && grantable (creditAt i cs) units) (putCredit i (grant (creditAt i cs) units .credit) cs) cs
 
 abbrev pub creditsAfter : Admission → PoolIndex → Bool → ℕ → List Credit → List Credit
 creditsAfter (Admission.Refused x) p finished units cs = cs
@@ -132,7 +132,7 @@ metBy Admission.Stale = Receipt Stale
 metBy Admission.Own = Receipt Late
 
 abbrev pub met : (good : Bool) → Admission → Runner → Received
-met good a r = cond good (metBy a) (Refused (stop r))
+met good a r = cond good (metBy a) (Refused (stopped r))
 
 unfoldable pub inputAnswer : Admission → Runner → ℕ → Received
 inputAnswer (Admission.Refused x) r n = Refused x
@@ -153,8 +153,8 @@ inputNext a r n =
     (cond (isKept a r n) (max (r .«high_water») (buffered (inputReceived a r n))) (r .«high_water»))
     (inputReceived a r n)
 
-unfoldable pub inputBytes : Admission → Runner → (bytes store : List ℕ) → List ℕ
-inputBytes a r bytes store = cond (isTaken a r) (Input.receiveBytes (r .limits) (r .input) bytes store) store
+unfoldable pub inputStore : Admission → Runner → (bytes store : List ℕ) → List ℕ
+inputStore a r bytes store = cond (isTaken a r) (Input.receiveBytes (r .limits) (r .input) bytes store) store
 
 unfoldable pub inputLengths : Admission → Runner → ℕ → List ℕ → List ℕ
 inputLengths a r n lengths = cond (isTaken a r) (Input.receiveLengths (r .limits) (r .input) n lengths) lengths
@@ -172,13 +172,7 @@ unfoldable pub received : Admission → Runner → (bytes store lengths : List �
 received a r bytes store lengths =
     inputAfter
     (record { runner = inputNext a r (length bytes); received = inputAnswer a r (length bytes) })
-    (inputBytes a r bytes store) (inputLengths a r (length bytes) lengths)
-
-abbrev pub isApplied : Received → Bool
-isApplied (Refused x) = false
-isApplied (Receipt Applied) = true
-isApplied (Receipt Stale) = false
-isApplied (Receipt Late) = false
+    (inputStore a r bytes store) (inputLengths a r (length bytes) lengths)
 
 -- a grant's reply as the answer to its message
 abbrev pub receiptOf : Reply → Received

@@ -32,7 +32,7 @@ ghost use Rattle.runner.specs.Life.{
   timeoutCleared,
   exitedNext,
   settledNext,
-  detached,
+  silenced,
   giveUpSoon,
   cutOff,
   cutOffOnce,
@@ -52,12 +52,12 @@ use exec::Received;
 use exec::Settlement;
 use lifecycle::life::Launch;
 use lifecycle::life::Settling;
-use stdio::outputs::abandon_both;
+use stdio::outputs::abandon_each;
+use stdio::outputs::all_closed;
+use stdio::outputs::all_delivered;
 use stdio::outputs::any_held;
-use stdio::outputs::both_closed;
-use stdio::outputs::both_delivered;
-use stdio::outputs::end_grace_of_both;
-use stdio::outputs::give_up_both;
+use stdio::outputs::end_grace_of_each;
+use stdio::outputs::give_up_each;
 
 impl Runner {
     // Whether the launch result is still waited for.
@@ -78,7 +78,7 @@ impl Runner {
         let exit = life.exit;
         let settling = life.settling;
         let outputs = self.outputs;
-        ((launch.is_known() & exit.is_known()) & both_closed(outputs)) & settling.is_settled()
+        ((launch.is_known() & exit.is_known()) & all_closed(outputs)) & settling.is_settled()
     }
 
     // The workload's input closed, other than by the runner's request.
@@ -99,7 +99,7 @@ impl Runner {
         let clocks = was.set_grace_until(Deadline::Never);
         self.clocks = clocks;
         let held = self.outputs;
-        let outputs = end_grace_of_both(held);
+        let outputs = end_grace_of_each(held);
         self.outputs = outputs;
         self
     }
@@ -112,7 +112,7 @@ impl Runner {
         let clocks = was.stop_waiting();
         self.clocks = clocks;
         let held = self.outputs;
-        let outputs = give_up_both(held);
+        let outputs = give_up_each(held);
         self.outputs = outputs;
         let lived = self.life;
         let life = lived.give_up();
@@ -141,7 +141,7 @@ impl Runner {
         let clocks = was.set_abandon_at(Deadline::Never);
         self.clocks = clocks;
         let held = self.outputs;
-        let outputs = abandon_both(held);
+        let outputs = abandon_each(held);
         self.outputs = outputs;
         self
     }
@@ -450,7 +450,7 @@ impl Runner {
     }
 
     fn set_detached(mut self) -> Runner
-        ensures { λ r. ⌜ r ≡ detached self ⌝ }
+        ensures { λ r. ⌜ r ≡ silenced self ⌝ }
     {
         self.flags.detached = true;
         self.flags.started_message = false;
@@ -477,7 +477,7 @@ impl Runner {
         let exit = life.exit;
         let settling = life.settling;
         let outputs = self.outputs;
-        let delivered = both_delivered(outputs, self.flags.detached);
+        let delivered = all_delivered(outputs, self.flags.detached);
         let over = settling.is_settled() | settling.is_fenced();
         ((!self.awaits_launch() & exit.is_known()) & delivered) & over
     }

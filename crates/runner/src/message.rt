@@ -4,7 +4,7 @@ ghost use mathlib.Core.Bool.{true};
 ghost use Prim.Native.Nat.{_≤_};
 ghost use lib.ListN.{length};
 ghost use Rattle.credit.specs.Need.{byteNeed};
-ghost use Rattle.exec.specs.Stream.{index};
+ghost use Rattle.exec.specs.Stream.{index, following};
 ghost use Rattle.runner.specs.Message.{
   sendableOf,
   untold,
@@ -24,21 +24,19 @@ ghost use Rattle.runner.specs.Message.{
 };
 ghost use Rattle.runner.specs.MessageLaws.{Payable, Sendable, Sayable};
 ghost use Rattle.runner.specs.RangeLaws.{InRange};
-ghost use Rattle.runner.specs.State.{other};
 use crate::answer::Message;
 use crate::answer::Request;
 use crate::answer::Said;
 use crate::pairs::credit_at;
-use crate::pairs::other_stream;
-use crate::pairs::output_in;
 use crate::pairs::put_credit;
-use crate::pairs::put_output;
 use crate::pairs::ring_base;
 use crate::runner::Runner;
 use credit::sender::Credit;
 use exec::MaybeCause;
 use exec::Stream;
 use stdio::output::Output;
+use stdio::outputs::output_in;
+use stdio::outputs::put_output;
 
 // What the runner says next, by what its state shows.
 pub enum Choice {
@@ -57,7 +55,7 @@ pub enum Wish {
     Request(Request),
 }
 
-// The order of messages. `x` is the stream whose turn it is, n1 and n2 are what it and the other can send.
+// The order of messages. `x` is the stream whose turn it is, n1 and n2 are what it and the one that follows can send.
 fn order(
     finished: bool,
     detached: bool,
@@ -103,7 +101,7 @@ fn order(
         return Choice::Output(x, n1);
     }
     if !awaits & (0 < n2) {
-        return Choice::Output(other_stream(x), n2);
+        return Choice::Output(x.following(), n2);
     }
     if can {
         return Choice::Credit;
@@ -146,8 +144,11 @@ impl Runner {
     {
         let turn = self.turn as usize;
         let x = Stream::ALL[turn];
-        let n1 = self.sendable_of(buffer, x);
-        let n2 = self.sendable_of(buffer, other_stream(x));
+        let stdout = self.sendable_of(buffer, Stream::Stdout);
+        let stderr = self.sendable_of(buffer, Stream::Stderr);
+        let n1 = x.pick(stdout, stderr);
+        let y = x.following();
+        let n2 = y.pick(stdout, stderr);
         let end0 = self.is_untold(Stream::Stdout);
         let end1 = self.is_untold(Stream::Stderr);
         let input = self.input;
@@ -189,7 +190,7 @@ impl Runner {
         if good {
             return self.said(choice);
         }
-        Said::Refused(self.stop())
+        Said::Refused(self.stopped())
     }
 
     // What is said.
@@ -340,7 +341,7 @@ impl Runner {
 
 // The position of the stream that has its turn after this one.
 fn turn_after(stream: Stream) -> u8
-    ensures { λ r. ⌜ r ≡ index (other stream) ⌝ }
+    ensures { λ r. ⌜ r ≡ index (following stream) ⌝ }
 {
     match stream {
         Stream::Stdout => 1,

@@ -1,42 +1,10 @@
-// The two outputs and the two credit accounts, which stand side by side, by stream and by pool.
+// The rings of the streams and the credit accounts, which stand side by side, by stream and by pool.
 ghost use mathlib.Core.Path.{_≡_};
-ghost use Rattle.runner.specs.State.{outputIn, putOutput, other, base, creditAt, putCredit};
+ghost use mathlib.Core.Bool.{cond};
+ghost use mathlib.Core.List.{[], _∷_};
+ghost use Rattle.runner.specs.State.{base, creditAt, putCredit, creditsFit};
 use credit::sender::Credit;
 use exec::Stream;
-use stdio::output::Output;
-
-pub(crate) fn output_in(stream: Stream, outputs: [Output; 2]) -> Output
-    ensures { λ r. ⌜ r ≡ outputIn stream outputs ⌝ }
-{
-    match stream {
-        Stream::Stdout => outputs[0],
-        Stream::Stderr => outputs[1],
-    }
-}
-
-pub(crate) fn put_output(stream: Stream, output: Output, outputs: [Output; 2]) -> [Output; 2]
-    ensures { λ r. ⌜ r ≡ putOutput stream output outputs ⌝ }
-{
-    match stream {
-        Stream::Stdout => {
-            let stderr = outputs[1];
-            [output, stderr]
-        }
-        Stream::Stderr => {
-            let stdout = outputs[0];
-            [stdout, output]
-        }
-    }
-}
-
-pub(crate) fn other_stream(stream: Stream) -> Stream
-    ensures { λ r. ⌜ r ≡ other stream ⌝ }
-{
-    match stream {
-        Stream::Stdout => Stream::Stderr,
-        Stream::Stderr => Stream::Stdout,
-    }
-}
 
 // Where a stream's ring begins in the byte store.
 pub(crate) fn ring_base(stream: Stream, chunk: u32) -> usize
@@ -48,22 +16,37 @@ pub(crate) fn ring_base(stream: Stream, chunk: u32) -> usize
     }
 }
 
+// One of two, as in `stdio::outputs`.
+fn one_of(first: bool, a: Credit, b: Credit) -> Credit
+    ensures { λ r. ⌜ r ≡ cond first a b ⌝ }
+{
+    if first {
+        return a;
+    }
+    b
+}
+
 pub(crate) fn credit_at(index: usize, credits: [Credit; 2]) -> Credit
     ensures { λ r. ⌜ r ≡ creditAt index credits ⌝ }
 {
-    if index == 0 {
-        return credits[0];
-    }
-    credits[1]
+    let first = credits[0];
+    let second = credits[1];
+    one_of(index == 0, first, second)
 }
 
 pub(crate) fn put_credit(index: usize, credit: Credit, credits: [Credit; 2]) -> [Credit; 2]
     ensures { λ r. ⌜ r ≡ putCredit index credit credits ⌝ }
 {
-    if index == 0 {
-        let second = credits[1];
-        return [credit, second];
-    }
     let first = credits[0];
-    [first, credit]
+    let second = credits[1];
+    let front = one_of(index == 0, credit, first);
+    let back = one_of(index == 0, second, credit);
+    [front, back]
+}
+
+// Whether no account has more than its window. It takes the accounts and not their array, which would be copied whole.
+pub(crate) fn credits_fit(first: Credit, second: Credit) -> bool
+    ensures { λ r. ⌜ r ≡ creditsFit (first ∷ second ∷ []) ⌝ }
+{
+    first.fits() & second.fits()
 }

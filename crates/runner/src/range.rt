@@ -1,16 +1,16 @@
 // What is met before a call: refusals 12, 10 and 11.
 ghost use mathlib.Core.Path.{_≡_};
-ghost use mathlib.Core.Bool.{cond, false};
 ghost use lib.Dec.{leb};
 ghost use lib.ListN.{length};
 ghost use Rattle.credit.specs.Need.{byteNeed, lengthNeed};
-ghost use Rattle.runner.specs.Calls.{noting, hearing};
-ghost use Rattle.runner.specs.Range.{inRange, within, bytesDo, lengthsDo, isGood, stop};
+ghost use Rattle.runner.specs.Range.{inRange};
+ghost use Rattle.runner.specs.RangeLaws.{unopened, stopped, stopIf, stands, agrees};
 use crate::answer::Count;
 use crate::answer::Hearing;
 use crate::answer::Noting;
 use crate::answer::Truth;
 use crate::answer::When;
+use crate::pairs::credits_fit;
 use crate::runner::Runner;
 use exec::Limits;
 use exec::Received;
@@ -31,78 +31,84 @@ pub(crate) fn lengths_do(limits: Limits, lengths: usize) -> bool
     credit::need::length_need(limits) <= lengths
 }
 
+// Which of 10 and 11, of an open that meets one.
+pub(crate) fn unopened(limits: Limits) -> Refusal
+    ensures { λ r. ⌜ r ≡ unopened limits ⌝ }
+{
+    if limits.is_valid() {
+        return Refusal::StoreShort;
+    }
+    Refusal::NoLimits
+}
+
 impl Runner {
     // Whether queues, starts, credit, units and turn are in their ranges.
     pub(crate) fn in_range(self) -> bool
         ensures { λ r. ⌜ r ≡ inRange self ⌝ }
     {
         let limits = self.limits;
-        let chunk = limits.chunk;
         let outputs = self.outputs;
         let first = self.credits[0];
         let second = self.credits[1];
         let input = self.input;
         let inbox = input.inbox;
         let window = input.window;
-        ((stdio::outputs::fit(outputs, chunk) & (first.fits() & second.fits()))
+        ((stdio::outputs::fit(outputs, limits.chunk) & credits_fit(first, second))
             & inbox.fits(limits, window))
             & (self.turn <= 1)
     }
 
-    // As `in_range`, for limits that are valid.
-    fn within(self) -> bool
-        ensures { λ r. ⌜ r ≡ within self ⌝ }
+    // Whether none of the three is met, given whether the lent stores do, in two halves that each call asks with `&`: the inbox, the
+    // limits and the stores; and the outputs, the accounts and the turn, for limits that are valid. One function of both would be too
+    // large for the compiler to make it a part of every call, and would copy the runner for each. The inbox comes first: its test
+    // goes by the unit, and what was tested before it would have to be kept over the branch.
+    pub(crate) fn agrees(self, stores: bool) -> bool
+        ensures { λ r. ⌜ r ≡ agrees self stores ⌝ }
     {
         let limits = self.limits;
-        let chunk = limits.chunk;
-        let outputs = self.outputs;
-        let first = self.credits[0];
-        let second = self.credits[1];
         let input = self.input;
         let inbox = input.inbox;
         let window = input.window;
-        ((stdio::outputs::within(outputs, chunk) & (first.fits() & second.fits()))
-            & inbox.within(limits, window))
+        (inbox.within(limits, window) & limits.is_valid()) & stores
+    }
+
+    pub(crate) fn stands(self) -> bool
+        ensures { λ r. ⌜ r ≡ stands self ⌝ }
+    {
+        let limits = self.limits;
+        let outputs = self.outputs;
+        let first = self.credits[0];
+        let second = self.credits[1];
+        (stdio::outputs::within(outputs, limits.chunk) & credits_fit(first, second))
             & (self.turn <= 1)
     }
 
-    // Whether none of the three is met, given whether the lent stores do. Each call asks it, so it takes the quicker test.
-    pub(crate) fn is_good(self, stores: bool) -> bool
-        ensures { λ r. ⌜ r ≡ isGood self stores ⌝ }
-    {
-        let limits = self.limits;
-        (self.within() & limits.is_valid()) & stores
-    }
-
-    // Which of the three.
-    pub(crate) fn stop(self) -> Refusal
-        ensures { λ r. ⌜ r ≡ stop self ⌝ }
+    // Which of the three, of a call that meets one.
+    pub(crate) fn stopped(self) -> Refusal
+        ensures { λ r. ⌜ r ≡ stopped self ⌝ }
     {
         if self.in_range() {
             let limits = self.limits;
-            if limits.is_valid() {
-                return Refusal::StoreShort;
-            }
-            return Refusal::NoLimits;
+            return unopened(limits);
         }
         Refusal::StateOutOfRange
     }
 
     // The reply of a call with no result, given whether it meets none of the three.
     pub(crate) fn reply(self, good: bool) -> Reply
-        ensures { λ r. ⌜ r ≡ cond good Reply.Ok (Reply.Refused (stop self)) ⌝ }
+        ensures { λ r. ⌜ r ≡ stopIf good self ⌝ }
     {
         if good {
             return Reply::Ok;
         }
-        Reply::Refused(self.stop())
+        Reply::Refused(self.stopped())
     }
 
     // A refused call with no result.
     pub(crate) fn refused(self) -> Noting
-        ensures { λ r. ⌜ r ≡ noting false self self ⌝ }
+        ensures { λ r. ⌜ r ≡ record { runner = self; reply = Reply.Refused (stopped self) } ⌝ }
     {
-        let refusal = self.stop();
+        let refusal = self.stopped();
         Noting {
             runner: self,
             reply: Reply::Refused(refusal),
@@ -111,33 +117,33 @@ impl Runner {
 
     // A refused message of the peer's.
     pub(crate) fn unheard(self) -> Hearing
-        ensures { λ r. ⌜ r ≡ record { runner = self; received = Received.Refused (stop self) } ⌝ }
+        ensures { λ r. ⌜ r ≡ record { runner = self; received = Received.Refused (stopped self) } ⌝ }
     {
-        let refusal = self.stop();
+        let refusal = self.stopped();
         Hearing {
             runner: self,
             received: Received::Refused(refusal),
         }
     }
 
-    // Refused questions, whose answers have no runner. Each hands the runner to `stop` itself, so that a question that is not
+    // Refused questions, whose answers have no runner. Each hands the runner to `stopped` itself, so that a question that is not
     // refused copies nothing.
 
     pub(crate) fn no_count(self) -> Count
-        ensures { λ r. ⌜ r ≡ Count.Refused (stop self) ⌝ }
+        ensures { λ r. ⌜ r ≡ Count.Refused (stopped self) ⌝ }
     {
-        Count::Refused(self.stop())
+        Count::Refused(self.stopped())
     }
 
     pub(crate) fn no_truth(self) -> Truth
-        ensures { λ r. ⌜ r ≡ Truth.Refused (stop self) ⌝ }
+        ensures { λ r. ⌜ r ≡ Truth.Refused (stopped self) ⌝ }
     {
-        Truth::Refused(self.stop())
+        Truth::Refused(self.stopped())
     }
 
     pub(crate) fn no_time(self) -> When
-        ensures { λ r. ⌜ r ≡ When.Refused (stop self) ⌝ }
+        ensures { λ r. ⌜ r ≡ When.Refused (stopped self) ⌝ }
     {
-        When::Refused(self.stop())
+        When::Refused(self.stopped())
     }
 }

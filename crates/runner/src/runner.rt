@@ -39,7 +39,7 @@ ghost use Rattle.runner.specs.Calls.{
   highWater,
 };
 ghost use Rattle.runner.specs.Message.{messageAfter};
-ghost use Rattle.runner.specs.Range.{fresh, openStop};
+ghost use Rattle.runner.specs.Range.{fresh};
 ghost use Rattle.runner.specs.Streams.{inputAfter, outputAfter};
 use crate::answer::Asked;
 use crate::answer::Asking;
@@ -55,11 +55,10 @@ use crate::answer::Taking;
 use crate::answer::Truth;
 use crate::answer::When;
 use crate::message::Wish;
-use crate::pairs::output_in;
-use crate::pairs::put_output;
 use crate::pairs::ring_base;
 use crate::range::bytes_do;
 use crate::range::lengths_do;
+use crate::range::unopened;
 use crate::streams::is_dropped;
 use credit::sender::Credit;
 use exec::Admission;
@@ -73,12 +72,10 @@ use exec::MaybeStatus;
 use exec::Pool;
 use exec::Receipt;
 use exec::Received;
-use exec::Refusal;
 use exec::Reply;
 use exec::Settlement;
 use exec::Stream;
 use exec::Timers;
-use exec::Window;
 use lifecycle::clocks::Clocks;
 use lifecycle::flags::Flags;
 use lifecycle::life::Exit;
@@ -87,6 +84,8 @@ use lifecycle::life::Life;
 use lifecycle::life::Settling;
 use stdio::input::Input;
 use stdio::output::Output;
+use stdio::outputs::output_in;
+use stdio::outputs::put_output;
 
 pub struct Runner {
     pub key: Key,
@@ -130,16 +129,11 @@ impl Runner {
                 reply: Reply::Ok,
             };
         }
-        let none = Limits {
-            chunk: 0,
-            input: Window::bytes(0),
-            output: Window::bytes(0),
-            shared: false,
-        };
+        let none = Limits::none();
         let runner = Runner::fresh(key, none, timers, created);
         Noting {
             runner,
-            reply: Reply::Refused(no_open(limits)),
+            reply: Reply::Refused(unopened(limits)),
         }
     }
 
@@ -191,22 +185,22 @@ impl Runner {
     pub fn key(self) -> KeyAnswer
         ensures { λ r. ⌜ r ≡ key self ⌝ }
     {
-        if self.is_good(true) {
+        if self.agrees(true) & self.stands() {
             let key = self.key;
             return KeyAnswer::Is(key);
         }
-        KeyAnswer::Refused(self.stop())
+        KeyAnswer::Refused(self.stopped())
     }
 
     // The limits that both sides agreed on.
     pub fn limits(self) -> LimitsAnswer
         ensures { λ r. ⌜ r ≡ limits self ⌝ }
     {
-        if self.is_good(true) {
+        if self.agrees(true) & self.stands() {
             let limits = self.limits;
             return LimitsAnswer::Is(limits);
         }
-        LimitsAnswer::Refused(self.stop())
+        LimitsAnswer::Refused(self.stopped())
     }
 
     // The peer's credit for an output pool, which the limits must have. A grant of no units, or of more than are in flight, is
@@ -230,7 +224,7 @@ impl Runner {
     {
         let limits = self.limits;
         let enough = bytes_do(limits, store.len()) & lengths_do(limits, lengths.len());
-        let good = self.is_good(enough);
+        let good = self.agrees(enough) & self.stands();
         let received = if self.hears(good, key) {
             let held = self.input;
             let receiving = held.receive(limits, store, lengths, bytes);
@@ -253,7 +247,7 @@ impl Runner {
     pub fn end_input(self, key: Key) -> Hearing
         ensures { λ r. ⌜ r ≡ endInput self key ⌝ }
     {
-        if self.is_good(true) {
+        if self.agrees(true) & self.stands() {
             let own = self.key;
             return self.end_as(own.admits(key));
         }
@@ -266,7 +260,7 @@ impl Runner {
     pub fn cancel(self, now: u64, key: Key, cause: Cause) -> Hearing
         ensures { λ r. ⌜ r ≡ cancel self now key cause ⌝ }
     {
-        if self.is_good(true) {
+        if self.agrees(true) & self.stands() {
             let own = self.key;
             let admission = own.admits(key);
             match admission {
@@ -308,7 +302,7 @@ impl Runner {
     pub fn launched(self, result: LaunchResult) -> Noting
         ensures { λ r. ⌜ r ≡ launched self result ⌝ }
     {
-        if self.is_good(true) {
+        if self.agrees(true) & self.stands() {
             let runner = self.launch(result);
             return Noting {
                 runner,
@@ -322,7 +316,7 @@ impl Runner {
     pub fn read_allowance(self, stream: Stream) -> Count
         ensures { λ r. ⌜ r ≡ readAllowance self stream ⌝ }
     {
-        if self.is_good(true) {
+        if self.agrees(true) & self.stands() {
             return Count::Is(self.allowance(stream));
         }
         self.no_count()
@@ -334,7 +328,8 @@ impl Runner {
         ensures { λ r. ⌜ outputAfter r (now (store .exit)) ≡ output self stream (now (bytes .entry)) (now (store .entry)) ⌝ }
     {
         let limits = self.limits;
-        let taken = if self.is_good(bytes_do(limits, store.len())) {
+        let enough = bytes_do(limits, store.len());
+        let taken = if self.agrees(enough) & self.stands() {
             let none = self.keeps_none(stream);
             let chunk = limits.chunk;
             let outputs = self.outputs;
@@ -347,7 +342,7 @@ impl Runner {
             self.high_water = mark;
             Taken::Bytes(intake.taken)
         } else {
-            Taken::Refused(self.stop())
+            Taken::Refused(self.stopped())
         };
         Taking {
             runner: self,
@@ -359,7 +354,7 @@ impl Runner {
     pub fn discarded(self, stream: Stream, bytes: usize) -> Noting
         ensures { λ r. ⌜ r ≡ discarded self stream bytes ⌝ }
     {
-        if self.is_good(true) {
+        if self.agrees(true) & self.stands() {
             let runner = self.discard_output(stream, bytes);
             return Noting {
                 runner,
@@ -373,7 +368,7 @@ impl Runner {
     pub fn output_closed(self, stream: Stream) -> Noting
         ensures { λ r. ⌜ r ≡ outputClosed self stream ⌝ }
     {
-        if self.is_good(true) {
+        if self.agrees(true) & self.stands() {
             let runner = self.close_output(stream);
             return Noting {
                 runner,
@@ -387,7 +382,7 @@ impl Runner {
     pub fn output_failed(self, stream: Stream) -> Noting
         ensures { λ r. ⌜ r ≡ outputFailed self stream ⌝ }
     {
-        if self.is_good(true) {
+        if self.agrees(true) & self.stands() {
             let runner = self.fail_output(stream);
             return Noting {
                 runner,
@@ -401,7 +396,7 @@ impl Runner {
     pub fn output_hung_up(self, stream: Stream) -> Noting
         ensures { λ r. ⌜ r ≡ outputHungUp self stream ⌝ }
     {
-        if self.is_good(true) {
+        if self.agrees(true) & self.stands() {
             let runner = self.hang_up_output(stream);
             return Noting {
                 runner,
@@ -417,12 +412,13 @@ impl Runner {
         ensures { λ r. ⌜ pendingAfter (now r) (now (refusal .exit)) ≡ pendingInput self (now (store .entry)) ⌝ }
     {
         let limits = self.limits;
-        if self.is_good(bytes_do(limits, store.len())) {
+        let enough = bytes_do(limits, store.len());
+        if self.agrees(enough) & self.stands() {
             *refusal = 0;
             let input = self.input;
             return input.pending(limits, store);
         }
-        *refusal = self.stop().number();
+        *refusal = self.stopped().number();
         &store[0..0]
     }
 
@@ -431,7 +427,8 @@ impl Runner {
         ensures { λ r. ⌜ writtenAfter r (now (lengths .exit)) ≡ inputWritten self bytes (now (lengths .entry)) ⌝ }
     {
         let limits = self.limits;
-        let good = self.is_good(lengths_do(limits, lengths.len()));
+        let enough = lengths_do(limits, lengths.len());
+        let good = self.agrees(enough) & self.stands();
         let reply = self.reply(good);
         if good {
             let held = self.input;
@@ -448,7 +445,7 @@ impl Runner {
     pub fn input_closed(self) -> Noting
         ensures { λ r. ⌜ r ≡ inputClosed self ⌝ }
     {
-        if self.is_good(true) {
+        if self.agrees(true) & self.stands() {
             let runner = self.close_input();
             return Noting {
                 runner,
@@ -462,7 +459,7 @@ impl Runner {
     pub fn exited(self, now: u64, status: MaybeStatus) -> Noting
         ensures { λ r. ⌜ r ≡ exited self now status ⌝ }
     {
-        if self.is_good(true) {
+        if self.agrees(true) & self.stands() {
             let runner = self.exit(now, status);
             return Noting {
                 runner,
@@ -476,7 +473,7 @@ impl Runner {
     pub fn settled(self, result: Settlement) -> Noting
         ensures { λ r. ⌜ r ≡ settled self result ⌝ }
     {
-        if self.is_good(true) {
+        if self.agrees(true) & self.stands() {
             let runner = self.settle(result);
             return Noting {
                 runner,
@@ -490,7 +487,7 @@ impl Runner {
     pub fn dropped(self, now: u64) -> Noting
         ensures { λ r. ⌜ r ≡ dropped self now ⌝ }
     {
-        if self.is_good(true) {
+        if self.agrees(true) & self.stands() {
             let runner = self.detach(now, Cause::Dropped);
             return Noting {
                 runner,
@@ -504,7 +501,7 @@ impl Runner {
     pub fn reset(self, now: u64) -> Noting
         ensures { λ r. ⌜ r ≡ reset self now ⌝ }
     {
-        if self.is_good(true) {
+        if self.agrees(true) & self.stands() {
             let runner = self.detach(now, Cause::Reset);
             return Noting {
                 runner,
@@ -518,7 +515,7 @@ impl Runner {
     pub fn disconnect(self, now: u64) -> Noting
         ensures { λ r. ⌜ r ≡ disconnect self now ⌝ }
     {
-        if self.is_good(true) {
+        if self.agrees(true) & self.stands() {
             let runner = self.detach(now, Cause::Disconnected);
             return Noting {
                 runner,
@@ -533,7 +530,7 @@ impl Runner {
     pub fn tick(mut self, now: u64) -> Noting
         ensures { λ r. ⌜ r ≡ tick self now ⌝ }
     {
-        let good = self.is_good(true);
+        let good = self.agrees(true) & self.stands();
         let reply = self.reply(good);
         if good & self.any_due(now) {
             let before = self;
@@ -561,7 +558,7 @@ impl Runner {
     pub fn deadline(self) -> When
         ensures { λ r. ⌜ r ≡ deadline self ⌝ }
     {
-        if self.is_good(true) {
+        if self.agrees(true) & self.stands() {
             return When::Is(self.deadline_of());
         }
         self.no_time()
@@ -571,7 +568,7 @@ impl Runner {
     pub fn next_request(self) -> Asking
         ensures { λ r. ⌜ r ≡ nextRequest self ⌝ }
     {
-        if self.is_good(true) {
+        if self.agrees(true) & self.stands() {
             let wanted = self.wish();
             match wanted {
                 Wish::None => {
@@ -589,7 +586,7 @@ impl Runner {
                 }
             }
         }
-        let refusal = self.stop();
+        let refusal = self.stopped();
         Asking {
             runner: self,
             asked: Asked::Refused(refusal),
@@ -601,7 +598,8 @@ impl Runner {
         ensures { λ r. ⌜ messageAfter r (now (buffer .exit)) ≡ nextMessage self (now (store .entry)) (now (buffer .entry)) ⌝ }
     {
         let limits = self.limits;
-        let good = self.is_good(bytes_do(limits, store.len()));
+        let enough = bytes_do(limits, store.len());
+        let good = self.agrees(enough) & self.stands();
         let choice = self.choice(good, buffer.len());
         let said = self.answer(good, choice);
         let runner = self.say(choice, store, buffer);
@@ -612,7 +610,7 @@ impl Runner {
     pub fn is_finished(self) -> Truth
         ensures { λ r. ⌜ r ≡ isFinished self ⌝ }
     {
-        if self.is_good(true) {
+        if self.agrees(true) & self.stands() {
             return Truth::Is(self.flags.finished);
         }
         self.no_truth()
@@ -622,7 +620,7 @@ impl Runner {
     pub fn is_detached(self) -> Truth
         ensures { λ r. ⌜ r ≡ isDetached self ⌝ }
     {
-        if self.is_good(true) {
+        if self.agrees(true) & self.stands() {
             return Truth::Is(self.flags.detached);
         }
         self.no_truth()
@@ -632,7 +630,7 @@ impl Runner {
     pub fn awaits_settlement(self) -> Truth
         ensures { λ r. ⌜ r ≡ awaitsSettlement self ⌝ }
     {
-        if self.is_good(true) {
+        if self.agrees(true) & self.stands() {
             let life = self.life;
             let settling = life.settling;
             return Truth::Is(settling.is_requested());
@@ -644,7 +642,7 @@ impl Runner {
     pub fn memory_bound(self) -> Count
         ensures { λ r. ⌜ r ≡ memoryBound self ⌝ }
     {
-        if self.is_good(true) {
+        if self.agrees(true) & self.stands() {
             let limits = self.limits;
             return Count::Is(credit::need::byte_need(limits));
         }
@@ -655,7 +653,7 @@ impl Runner {
     pub fn buffered(self) -> Count
         ensures { λ r. ⌜ r ≡ buffered self ⌝ }
     {
-        if self.is_good(true) {
+        if self.agrees(true) & self.stands() {
             return Count::Is(self.held());
         }
         self.no_count()
@@ -665,19 +663,9 @@ impl Runner {
     pub fn high_water(self) -> Count
         ensures { λ r. ⌜ r ≡ highWater self ⌝ }
     {
-        if self.is_good(true) {
+        if self.agrees(true) & self.stands() {
             return Count::Is(self.high_water);
         }
         self.no_count()
     }
-}
-
-// Why an open is refused.
-fn no_open(limits: Limits) -> Refusal
-    ensures { λ r. ⌜ r ≡ openStop limits ⌝ }
-{
-    if limits.is_valid() {
-        return Refusal::StoreShort;
-    }
-    Refusal::NoLimits
 }

@@ -5,6 +5,7 @@ ghost use Prim.Native.Nat.{_≤_, _<_, _^_, max};
 ghost use lib.ListN.{length};
 ghost use Rattle.exec.specs.Key.{admits};
 ghost use Rattle.credit.specs.Need.{byteNeed};
+ghost use Rattle.stdio.specs.Input.{isApplied};
 ghost use Rattle.runner.specs.Calls.{credit, accountingOf};
 ghost use Rattle.runner.specs.RangeLaws.{InRange};
 ghost use Rattle.runner.specs.State.{buffered};
@@ -18,7 +19,6 @@ ghost use Rattle.runner.specs.Streams.{
   creditIn,
   creditAnswer,
   creditNext,
-  isApplied,
   receiptOf,
   endAnswer,
   endNext,
@@ -27,10 +27,7 @@ ghost use Rattle.runner.specs.Streams.{
 };
 use crate::answer::Hearing;
 use crate::pairs::credit_at;
-use crate::pairs::output_in;
 use crate::pairs::put_credit;
-use crate::pairs::put_output;
-use crate::pairs::ring_base;
 use crate::runner::Runner;
 use credit::sender::Credit;
 use exec::Admission;
@@ -41,7 +38,8 @@ use exec::Receipt;
 use exec::Received;
 use exec::Reply;
 use exec::Stream;
-use stdio::output::Output;
+use stdio::outputs::output_in;
+use stdio::outputs::put_output;
 
 // What credit moves of the runner, and its answer. Such parts are handed back, and not the runner, as the grant has several ways
 // to end: each would copy the runner, and the caller could not leave it where it is.
@@ -101,7 +99,7 @@ impl Runner {
                 Admission::Own => Received::Receipt(Receipt::Late),
             };
         }
-        Received::Refused(self.stop())
+        Received::Refused(self.stopped())
     }
 
     // Whether a stream's bytes are not kept: it closed, or the runner gave up on it or discards it.
@@ -169,13 +167,13 @@ impl Runner {
     pub(crate) fn account_for(self, key: Key, pool: Pool, units: u32) -> Accounting
         ensures { λ r. ⌜ r ≡ accountingOf (credit self key pool units) ⌝ }
     {
-        if self.is_good(true) {
+        if self.agrees(true) & self.stands() {
             let own = self.key;
             let limits = self.limits;
             return self.grant_as(own.admits(key), limits.output_pool(pool), units);
         }
         let credits = self.credits;
-        let refusal = self.stop();
+        let refusal = self.stopped();
         Accounting {
             credits,
             received: Received::Refused(refusal),
@@ -224,6 +222,7 @@ impl Runner {
         }
         let account = credit_at(index, credits);
         let granting = account.grant_in(units);
+        // An account that refused the grant is put back as it was: one way to end is quicker than two.
         let next = put_credit(index, granting.credit, credits);
         let reply = granting.reply;
         let received = receipt_of(reply);

@@ -37,7 +37,7 @@ isHeld o = not (o .closed) && not (o .«hung_up»)
 abbrev pub isDelivered : Bool → Output → Bool
 isDelivered detached o = isDone o && (o .ended || detached)
 
--- truncated if bytes were lost
+-- truncated where this says so, or as it was
 abbrev pub lostOut : Bool → Output → Output
 lostOut lost o = setTruncated (lost || o .truncated) o
 

@@ -1,36 +1,47 @@
--- Both output streams side by side, in the order of Stream::ALL.
-use Prim.Native.Nat.{ℕ, _+_}
-use mathlib.Core.Bool.{Bool, _&&_, _||_}
+-- The outputs side by side, in the order of Stream::ALL: that of one stream, and what is asked of every one.
+use Prim.Native.Nat.{ℕ}
+use mathlib.Core.Bool.{Bool, cond}
 use mathlib.Core.List.{List, [], _∷_}
 use lib.ListN.{getD}
+use Rattle.exec.specs.declared.Stream.{Stream}
+use Rattle.exec.specs.declared.Stream.the-variants.{Stdout, Stderr}
+use Rattle.exec.specs.Stream.{isStdout, isStderr, pick, everyStream, anyStream, sumOfStreams}
 use Rattle.stdio.specs.declared.output.Output.{Output}
 use Rattle.stdio.specs.Output.{newOutput, isHeld, isDelivered, outputFits, outputWithin}
 
 abbrev pub stdout : List Output → Output
-stdout l = getD l 0 newOutput
+stdout os = getD os 0 newOutput
 
 abbrev pub stderr : List Output → Output
-stderr l = getD l 1 newOutput
+stderr os = getD os 1 newOutput
 
--- both changed alike
+-- a stream's output
+abbrev pub outputIn : Stream → List Output → Output
+outputIn x os = pick x (stdout os) (stderr os)
+
+-- and put back
+abbrev pub putOutput : Stream → Output → List Output → List Output
+putOutput x o os = cond (isStdout x) o (stdout os) ∷ cond (isStderr x) o (stderr os) ∷ []
+
+-- each changed alike
 abbrev pub eachOutput : (Output → Output) → List Output → List Output
-eachOutput f l = f (stdout l) ∷ f (stderr l) ∷ []
+eachOutput f os = f (outputIn Stdout os) ∷ f (outputIn Stderr os) ∷ []
 
-abbrev pub bothClosed : List Output → Bool
-bothClosed l = stdout l .closed && stderr l .closed
+abbrev pub allClosed : List Output → Bool
+allClosed os = everyStream (λ (x : Stream). outputIn x os .closed)
 
 abbrev pub anyHeld : List Output → Bool
-anyHeld l = isHeld (stdout l) || isHeld (stderr l)
+anyHeld os = anyStream (λ (x : Stream). isHeld (outputIn x os))
 
-abbrev pub bothDelivered : List Output → (detached : Bool) → Bool
-bothDelivered l detached = isDelivered detached (stdout l) && isDelivered detached (stderr l)
+abbrev pub allDelivered : List Output → (detached : Bool) → Bool
+allDelivered os detached = everyStream (λ (x : Stream). isDelivered detached (outputIn x os))
 
 -- the bytes of output that wait
 abbrev pub queuedOf : List Output → ℕ
-queuedOf l = stdout l .queued + stderr l .queued
+queuedOf os = sumOfStreams (λ (x : Stream). outputIn x os .queued)
 
 abbrev pub outputsFit : (chunk : ℕ) → List Output → Bool
-outputsFit chunk l = outputFits chunk (stdout l) && outputFits chunk (stderr l)
+outputsFit chunk os = everyStream (λ (x : Stream). outputFits chunk (outputIn x os))
 
 abbrev pub outputsWithin : (chunk : ℕ) → List Output → Bool
-outputsWithin chunk l = outputWithin chunk (stdout l) && outputWithin chunk (stderr l)
+outputsWithin chunk os = everyStream (λ (x : Stream). outputWithin chunk (outputIn x os))

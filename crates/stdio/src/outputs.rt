@@ -1,10 +1,50 @@
-// Both output streams side by side, in the order of Stream::ALL.
+// The outputs side by side, in the order of Stream::ALL: that of one stream, and what is asked of every one.
 ghost use mathlib.Core.Path.{_≡_};
+ghost use mathlib.Core.Bool.{cond};
 ghost use Rattle.stdio.specs.Output.{graceEnded, givenUp, abandoned};
-ghost use Rattle.stdio.specs.Outputs.{eachOutput, bothClosed, anyHeld, bothDelivered, queuedOf, outputsFit, outputsWithin};
+ghost use Rattle.stdio.specs.Outputs.{
+  outputIn,
+  putOutput,
+  eachOutput,
+  allClosed,
+  anyHeld,
+  allDelivered,
+  queuedOf,
+  outputsFit,
+  outputsWithin,
+};
 use crate::output::Output;
+use exec::Stream;
 
-pub fn end_grace_of_both(outputs: [Output; 2]) -> [Output; 2]
+// One of two. A choice between two values stays in registers; a match that returns a struct, or an index, does not.
+fn one_of(first: bool, a: Output, b: Output) -> Output
+    ensures { λ r. ⌜ r ≡ cond first a b ⌝ }
+{
+    if first {
+        return a;
+    }
+    b
+}
+
+pub fn output_in(stream: Stream, outputs: [Output; 2]) -> Output
+    ensures { λ r. ⌜ r ≡ outputIn stream outputs ⌝ }
+{
+    let stdout = outputs[0];
+    let stderr = outputs[1];
+    one_of(stream.is_stdout(), stdout, stderr)
+}
+
+pub fn put_output(stream: Stream, output: Output, outputs: [Output; 2]) -> [Output; 2]
+    ensures { λ r. ⌜ r ≡ putOutput stream output outputs ⌝ }
+{
+    let stdout = outputs[0];
+    let stderr = outputs[1];
+    let first = one_of(stream.is_stdout(), output, stdout);
+    let second = one_of(stream.is_stderr(), output, stderr);
+    [first, second]
+}
+
+pub fn end_grace_of_each(outputs: [Output; 2]) -> [Output; 2]
     ensures { λ r. ⌜ r ≡ eachOutput graceEnded outputs ⌝ }
 {
     let stdout = outputs[0];
@@ -12,7 +52,7 @@ pub fn end_grace_of_both(outputs: [Output; 2]) -> [Output; 2]
     [stdout.end_grace(), stderr.end_grace()]
 }
 
-pub fn give_up_both(outputs: [Output; 2]) -> [Output; 2]
+pub fn give_up_each(outputs: [Output; 2]) -> [Output; 2]
     ensures { λ r. ⌜ r ≡ eachOutput givenUp outputs ⌝ }
 {
     let stdout = outputs[0];
@@ -20,7 +60,7 @@ pub fn give_up_both(outputs: [Output; 2]) -> [Output; 2]
     [stdout.give_up(), stderr.give_up()]
 }
 
-pub fn abandon_both(outputs: [Output; 2]) -> [Output; 2]
+pub fn abandon_each(outputs: [Output; 2]) -> [Output; 2]
     ensures { λ r. ⌜ r ≡ eachOutput abandoned outputs ⌝ }
 {
     let stdout = outputs[0];
@@ -28,8 +68,8 @@ pub fn abandon_both(outputs: [Output; 2]) -> [Output; 2]
     [stdout.abandon(), stderr.abandon()]
 }
 
-pub fn both_closed(outputs: [Output; 2]) -> bool
-    ensures { λ r. ⌜ r ≡ bothClosed outputs ⌝ }
+pub fn all_closed(outputs: [Output; 2]) -> bool
+    ensures { λ r. ⌜ r ≡ allClosed outputs ⌝ }
 {
     let stdout = outputs[0];
     let stderr = outputs[1];
@@ -44,8 +84,8 @@ pub fn any_held(outputs: [Output; 2]) -> bool
     stdout.is_held() | stderr.is_held()
 }
 
-pub fn both_delivered(outputs: [Output; 2], detached: bool) -> bool
-    ensures { λ r. ⌜ r ≡ bothDelivered outputs detached ⌝ }
+pub fn all_delivered(outputs: [Output; 2], detached: bool) -> bool
+    ensures { λ r. ⌜ r ≡ allDelivered outputs detached ⌝ }
 {
     let stdout = outputs[0];
     let stderr = outputs[1];
@@ -61,7 +101,7 @@ pub fn buffered_of(outputs: [Output; 2]) -> usize
     stdout.queued as usize + stderr.queued as usize
 }
 
-// Whether both queues are within their rings.
+// Whether every queue is within its ring.
 pub fn fit(outputs: [Output; 2], chunk: u32) -> bool
     ensures { λ r. ⌜ r ≡ outputsFit chunk outputs ⌝ }
 {

@@ -111,7 +111,7 @@ returns-10 c =
       c .before .before .before .before .before .before .before .if4 .left,
       c .before .before .before .before .before .before .before .before .if2 .left,
       c .before .before .before .before .before .before .before .before .before .if1 .left,
-      c .other-stream .ensures,
+      c .following .ensures,
     )
 
 returns-11 : tie.Need-returns-11

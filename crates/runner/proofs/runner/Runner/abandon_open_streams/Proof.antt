@@ -8,7 +8,7 @@ returns : tie.Need-returns
 unfolding abandonOpenStreams
 returns c =
     simp (
-      c .abandon-both .ensures,
+      c .abandon-each .ensures,
       c .before .before .set-abandon-at .ensures,
     )
 

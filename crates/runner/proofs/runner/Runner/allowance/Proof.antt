@@ -1,12 +1,11 @@
 -- `runner::runner::Runner::allowance` meets its contract.
-use Rattle.runner.specs.RangeLaws.{queue-of}
 use Rattle.runner.specs.Streams.{readAllowanceOf}
 use borrow.Author.Needs.{needs}
 use Rattle.runner.proofs.runner.Runner.allowance.Statement.{statement}
 use Rattle.runner.proofs.runner.Runner.allowance.Tie as tie
 
 allowance-requires : tie.Need-allowance-requires
-allowance-requires c κs = rw (c .before .output-in .ensures) (queue-of (c .before .before .before .args .self) (c .before .before .before .args .stream) (c .before .before .before .pre) .most)
+allowance-requires c κs = rw (c .before .output-in .ensures) (c .before .before .before .pre .queue (c .before .before .before .args .stream) .most)
 
 returns : tie.Need-returns
 unfolding readAllowanceOf

@@ -10,4 +10,4 @@ answer-spec =
     (λ c κs. search needs)
     (λ c. simp (c .before .if1 .taken, c .said .ensures))
     (λ c κs. search needs)
-    (λ c. simp (c .before .if1 .left, c .stop .ensures)))
+    (λ c. simp (c .before .if1 .left, c .stopped .ensures)))

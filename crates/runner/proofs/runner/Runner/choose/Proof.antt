@@ -1,5 +1,7 @@
 -- `runner::runner::Runner::choose` meets its contract.
+use Rattle.exec.specs.Stream.{streamAt}
 use Rattle.runner.specs.Message.{choose}
+use Rattle.runner.specs.MessageLaws.{picked-by}
 use borrow.Author.Needs.{needs}
 use Rattle.runner.proofs.runner.Runner.choose.Statement.{statement}
 use Rattle.runner.proofs.runner.Runner.choose.Tie as tie
@@ -14,9 +16,9 @@ returns c =
       c .before .before .before .can-grant .ensures,
       c .before .before .before .before .before .is-untold2 .ensures,
       c .before .before .before .before .before .before .is-untold .ensures,
-      c .before .before .before .before .before .before .before .sendable-of2 .ensures,
-      c .before .before .before .before .before .before .before .before .other-stream .ensures,
-      c .before .before .before .before .before .before .before .before .before .sendable-of .ensures,
+      picked-by _ _ (c .before .before .before .before .before .before .before .before .following .result) _ _ _ (c .before .before .before .before .before .before .before .before .before .before .before .sendable-of .ensures) (c .before .before .before .before .before .before .before .before .before .before .sendable-of2 .ensures) (c .before .before .before .before .before .before .before .pick2 .ensures),
+      c .before .before .before .before .before .before .before .before .following .ensures,
+      picked-by _ _ (streamAt (c .before .before .before .before .before .before .before .before .before .before .before .before .before .before .args .self .turn)) _ _ _ (c .before .before .before .before .before .before .before .before .before .before .before .sendable-of .ensures) (c .before .before .before .before .before .before .before .before .before .before .sendable-of2 .ensures) (c .before .before .before .before .before .before .before .before .before .pick .ensures),
     )
 
 pub choose-spec : {M : Type 1} → statement M
@@ -25,6 +27,8 @@ choose-spec =
     (tie.spec
     (search needs)
     (search needs)
+    (λ c κs. search needs)
+    (λ c κs. search needs)
     (λ c κs. search needs)
     (λ c κs. search needs)
     (λ c κs. search needs)

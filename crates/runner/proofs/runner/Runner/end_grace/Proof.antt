@@ -8,7 +8,7 @@ returns : tie.Need-returns
 unfolding endGrace
 returns c =
     simp (
-      c .end-grace-of-both .ensures,
+      c .end-grace-of-each .ensures,
       c .before .before .set-grace-until .ensures,
     )
 

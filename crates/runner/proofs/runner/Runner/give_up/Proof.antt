@@ -9,7 +9,7 @@ unfolding giveUp
 returns c =
     simp (
       c .before .before .give-up .ensures,
-      c .before .before .before .before .give-up-both .ensures,
+      c .before .before .before .before .give-up-each .ensures,
       c .before .before .before .before .before .before .stop-waiting .ensures,
     )
 

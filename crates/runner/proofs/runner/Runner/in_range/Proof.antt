@@ -6,22 +6,7 @@ use Rattle.runner.proofs.runner.Runner.in_range.Tie as tie
 
 returns : tie.Need-returns
 unfolding inRange
-returns c =
-    simp (
-      c .fits4 .ensures,
-      c .before .fits3 .ensures,
-      c .before .before .fits2 .ensures,
-      c .before .before .before .fit .ensures,
-    )
+returns c = simp (c .fits2 .ensures, c .before .credits-fit .ensures, c .before .before .fit .ensures)
 
 pub in-range-spec : {M : Type 1} → statement M
-in-range-spec =
-    tie.close
-    (tie.spec
-    (search needs)
-    (search needs)
-    (λ c κs. search needs)
-    (λ c κs. search needs)
-    (λ c κs. search needs)
-    (λ c κs. search needs)
-    returns)
+in-range-spec = tie.close (tie.spec (search needs) (search needs) (λ c κs. search needs) (λ c κs. search needs) (λ c κs. search needs) returns)

@@ -7,7 +7,7 @@ returns : tie.Need-returns
 returns c =
     simp (
       c .is-settled .ensures,
-      c .before .both-closed .ensures,
+      c .before .all-closed .ensures,
       c .before .before .is-known2 .ensures,
       c .before .before .before .is-known .ensures,
     )

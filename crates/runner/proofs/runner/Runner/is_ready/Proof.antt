@@ -12,7 +12,7 @@ returns c =
       c .before .awaits-launch .ensures,
       c .before .before .is-fenced .ensures,
       c .before .before .before .is-settled .ensures,
-      c .before .before .before .before .both-delivered .ensures,
+      c .before .before .before .before .all-delivered .ensures,
     )
 
 pub is-ready-spec : {M : Type 1} → statement M

@@ -1,6 +1,7 @@
 -- `runner::runner::Runner::limits` meets its contract.
-use mathlib.Core.Path.{_∙_, sym}
+use mathlib.Core.Path.{refl}
 use Rattle.runner.specs.Calls.{limits}
+use Rattle.runner.specs.RangeLaws.{goes, stops}
 use borrow.Author.Needs.{needs}
 use Rattle.runner.proofs.runner.Runner.limits.Statement.{statement}
 use Rattle.runner.proofs.runner.Runner.limits.Tie as tie
@@ -9,15 +10,15 @@ returns : tie.Need-returns
 unfolding limits
 returns c =
     simp
-    (sym (c .before .before .is-good .ensures) ∙ c .before .if1 .taken)
+    (goes _ refl (c .before .before .stands .ensures) (c .before .before .before .agrees .ensures) (c .before .if1 .taken))
 
 returns-2 : tie.Need-returns-2
 unfolding limits
 returns-2 c =
     simp (
-      sym (c .before .before .is-good .ensures) ∙ c .before .if1 .left,
-      c .stop .ensures,
+      stops _ refl (c .before .before .stands .ensures) (c .before .before .before .agrees .ensures) (c .before .if1 .left),
+      c .stopped .ensures,
     )
 
 pub limits-spec : {M : Type 1} → statement M
-limits-spec = tie.close (tie.spec (λ c κs. search needs) returns (λ c κs. search needs) returns-2)
+limits-spec = tie.close (tie.spec (λ c κs. search needs) (λ c κs. search needs) returns (λ c κs. search needs) returns-2)

@@ -14,7 +14,7 @@ returns-3 : tie.Need-returns-3
 returns-3 c = simp (c .before .before .before .before .if1 .taken, sym (c .before .before .admits .ensures) ∙ c .enum-told2 .given .1)
 
 returns-4 : tie.Need-returns-4
-returns-4 c = simp (c .before .if1 .left, c .stop .ensures)
+returns-4 c = simp (c .before .if1 .left, c .stopped .ensures)
 
 pub meets-spec : {M : Type 1} → statement M
 meets-spec =

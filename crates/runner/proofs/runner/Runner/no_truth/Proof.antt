@@ -4,4 +4,4 @@ use Rattle.runner.proofs.runner.Runner.no_truth.Statement.{statement}
 use Rattle.runner.proofs.runner.Runner.no_truth.Tie as tie
 
 pub no-truth-spec : {M : Type 1} → statement M
-no-truth-spec = tie.close (tie.spec (λ c κs. search needs) (λ c. simp (c .stop .ensures)))
+no-truth-spec = tie.close (tie.spec (λ c κs. search needs) (λ c. simp (c .stopped .ensures)))

@@ -1,6 +1,7 @@
 -- `runner::runner::Runner::reset` meets its contract.
-use mathlib.Core.Path.{_∙_, sym}
+use mathlib.Core.Path.{refl}
 use Rattle.runner.specs.Calls.{reset}
+use Rattle.runner.specs.RangeLaws.{goes, stops}
 use borrow.Author.Needs.{needs}
 use Rattle.runner.proofs.runner.Runner.reset.Statement.{statement}
 use Rattle.runner.proofs.runner.Runner.reset.Tie as tie
@@ -9,7 +10,7 @@ returns : tie.Need-returns
 unfolding reset
 returns c =
     simp (
-      sym (c .before .before .is-good .ensures) ∙ c .before .if1 .taken,
+      goes _ refl (c .before .before .stands .ensures) (c .before .before .before .agrees .ensures) (c .before .if1 .taken),
       c .detach .ensures,
     )
 
@@ -17,10 +18,10 @@ returns-2 : tie.Need-returns-2
 unfolding reset
 returns-2 c =
     simp (
-      sym (c .before .before .is-good .ensures) ∙ c .before .if1 .left,
+      stops _ refl (c .before .before .stands .ensures) (c .before .before .before .agrees .ensures) (c .before .if1 .left),
       c .refused .ensures,
     )
 
 pub reset-spec : {M : Type 1} → statement M
 reset-spec =
-    tie.close (tie.spec (λ c κs. search needs) (λ c κs. search needs) returns (λ c κs. search needs) returns-2)
+    tie.close (tie.spec (λ c κs. search needs) (λ c κs. search needs) (λ c κs. search needs) returns (λ c κs. search needs) returns-2)

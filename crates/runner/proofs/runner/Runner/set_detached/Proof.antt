@@ -1,11 +1,11 @@
 -- `runner::runner::Runner::set_detached` meets its contract.
-use Rattle.runner.specs.Life.{detached}
+use Rattle.runner.specs.Life.{silenced}
 use borrow.Author.Needs.{needs}
 use Rattle.runner.proofs.runner.Runner.set_detached.Statement.{statement}
 use Rattle.runner.proofs.runner.Runner.set_detached.Tie as tie
 
 returns : tie.Need-returns
-unfolding detached
+unfolding silenced
 returns c =
     simp
     (c .message-told .ensures)
