@@ -148,21 +148,11 @@ pub fn running(limits: Limits, timeout: u64, store: &[u8], lengths: &[u32], unit
 }
 
 pub fn in_bytes(chunk: u32, window: u32) -> Limits {
-    Limits {
-        chunk,
-        input: Window::bytes(window),
-        output: Window::bytes(u32::MAX),
-        shared: false,
-    }
+    Limits::of(chunk, Window::bytes(window), Window::bytes(u32::MAX), false)
 }
 
 pub fn in_frames(chunk: u32, window: u32) -> Limits {
-    Limits {
-        chunk,
-        input: Window::frames(window),
-        output: Window::frames(window),
-        shared: false,
-    }
+    Limits::of(chunk, Window::frames(window), Window::frames(window), false)
 }
 
 // tick, with nothing due.

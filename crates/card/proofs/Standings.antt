@@ -14,7 +14,6 @@ use Rattle.exec.specs.declared.Reply.the-variants as Reply
 use Rattle.runner.specs.declared.answer.Noting.{Noting}
 use Rattle.runner.specs.declared.runner.Runner.{Runner}
 use Rattle.runner.specs.Calls as Calls
-use Rattle.runner.specs.Range.{opens}
 use Rattle.account.specs.Call as Account
 use Rattle.account.specs.Call.{Call}
 use Rattle.account.specs.Step.{State, next, answer}
@@ -153,7 +152,7 @@ made-by m s c was b l w last last′ refused time h r t e =
 -- the first line: whether it opens a runner is decided by how long the stores are
 same-opening : (k : Key) (m : Limits) (t : Timers) (now : ℕ) (b l : List ℕ) → length b ≡ 65536 → length l ≡ 1024
     → Calls.«open» k m t now b l ≡ Calls.«open» k m t now (zeros 65536) (zeros 1024)
-unfolding Calls.«open» opens
+unfolding Calls.«open»
 same-opening k m t now b l hb hl = rw (hb, hl, zeros-length 65536, zeros-length 1024) refl
 
 pub opened-first : (o : Openings.Opening) (was : Place) (r : Answered) (n : Noting) (b l b′ l′ : List ℕ) → n ≡ Calls.«open» (o .key) (o .limits) (o .timers) (o .now) b l

@@ -106,7 +106,7 @@ unfoldable pub behindOf : List ℕ → ℕ
 behindOf s = cond (eqb (commaAt s) (length s)) (length s) (commaAt s + 1)
 
 -- i is where the k-th field begins
-pub record Place (s : List ℕ) (k i : ℕ) : Type 0 where
+pub record Begins (s : List ℕ) (k i : ℕ) : Type 0 where
   pub is : at (fields s) k ≡ at (fields (drop i s)) 0
   pub most : i ≤ length s
 
@@ -144,7 +144,7 @@ comma-most (b ∷ t) = by (eqb b 44) (comma-most t)
     by true l = omega arith
     by false l = omega arith
 
-pub place-field : (s : List ℕ) (k i : ℕ) → Place s k i → at (fields s) k ≡ take (commaAt (drop i s)) (drop i s)
+pub place-field : (s : List ℕ) (k i : ℕ) → Begins s k i → at (fields s) k ≡ take (commaAt (drop i s)) (drop i s)
 place-field s k i p = p .is ∙ first-field (drop i s) (comma-most (drop i s))
 
 -- a turn of the loop that counts
@@ -185,7 +185,7 @@ place-turn s k i j b l x =
     rw m (place-on (drop i s) (k - (j + 1)) (comma-most (drop i s)) ∙ rw (← x .is, further) refl)
 
 -- the k-th field as the code makes it
-pub place-part : (s : List ℕ) (k i e : ℕ) → Place s k i → e ≡ i + commaAt (drop i s) → take (e - i) (drop i s) ≡ at (fields s) k
+pub place-part : (s : List ℕ) (k i e : ℕ) → Begins s k i → e ≡ i + commaAt (drop i s) → take (e - i) (drop i s) ≡ at (fields s) k
 place-part s k i e p h =
     let n : e - i ≡ commaAt (drop i s) = omega arith in ap (λ (x : ℕ). take x (drop i s)) n ∙ sym (place-field s k i p)
 

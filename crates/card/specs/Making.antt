@@ -11,13 +11,15 @@ use Rattle.grammar.specs.Lines.{zeros}
 use Rattle.card.specs.Zeros.{zeros-length}
 use Rattle.exec.specs.declared.Stream.{Stream}
 use Rattle.runner.specs.declared.answer.Message.the-variants as Message
+use Rattle.exec.specs.declared.Reply.{Reply}
+use Rattle.exec.specs.declared.Reply.the-variants as Reply
 use Rattle.runner.specs.declared.answer.Said.{Said}
 use Rattle.runner.specs.declared.answer.Said.the-variants as Said
 use Rattle.runner.specs.declared.message.Choice.{Choice}
 use Rattle.runner.specs.declared.message.Choice.the-variants as Choice
 use Rattle.runner.specs.declared.runner.Runner.{Runner}
-use Rattle.runner.specs.Calls.{nextMessage, pendingInput}
-use Rattle.runner.specs.Range.{isGood, bytesDo, stop}
+use Rattle.runner.specs.Calls.{messageBy, nextMessage, pendingBy, pendingInput}
+use Rattle.runner.specs.Range.{bytesDo, stop}
 use Rattle.ring.specs.Ring.{firstRun}
 use Rattle.credit.specs.Inbox.{front, inboxBase}
 use Rattle.exec.specs.Limits.{inputBytes}
@@ -95,11 +97,11 @@ sends-fit r k x n e = let c = chosen r k x n e in let m = min (min (outOf x r .q
 
 pub said-fits : (r : Runner) (store buffer : List ℕ) → Fits (nextMessage r store buffer .saying .said) (length buffer)
 unfolding nextMessage
-said-fits r store buffer = by (isGood r (bytesDo (r .limits) store))
+said-fits r store buffer = by (stop r (bytesDo (r .limits) store))
   where
-    by : (b : Bool) → Fits (cond b (saidFor (choose r (length buffer)) r) (Said.Refused (stop r))) (length buffer)
-    by true = chosen-fits (choose r (length buffer)) r (length buffer) (λ x n e. sends-fit r (length buffer) x n e)
-    by false = tt
+    by : (x : Reply) → Fits (messageBy x r store buffer .saying .said) (length buffer)
+    by Reply.Ok = chosen-fits (choose r (length buffer)) r (length buffer) (λ x n e. sends-fit r (length buffer) x n e)
+    by (Reply.Refused x) = tt
 
 take-front : (n : ℕ) (s t : List ℕ) → n ≤ length s → take n (s ++ t) ≡ take n s
 take-front zero s t h = refl
@@ -149,9 +151,12 @@ part-most n i s = omega (arith, length-take n (drop i s), length-drop i s)
 -- no more than the store has
 pub pending-most : (r : Runner) (store : List ℕ) → length (pendingInput r store .pending) ≤ length store
 unfolding pendingInput pendingOf Input.pendingInput front
-pending-most r store = by (isGood r (bytesDo (r .limits) store)) (r .input .closed)
+pending-most r store = by (stop r (bytesDo (r .limits) store))
   where
-    by : (b closed : Bool) → length (cond b (cond closed [] (front (r .limits) (r .input .inbox) store)) []) ≤ length store
-    by true true = omega arith
-    by true false = part-most (firstRun (inputBytes (r .limits)) (r .input .inbox .start) (r .input .inbox .length)) (inboxBase (r .limits) + r .input .inbox .start) store
-    by false closed = omega arith
+    open-most : (closed : Bool) → length (cond closed [] (front (r .limits) (r .input .inbox) store)) ≤ length store
+    open-most true = omega arith
+    open-most false = part-most (firstRun (inputBytes (r .limits)) (r .input .inbox .start) (r .input .inbox .length)) (inboxBase (r .limits) + r .input .inbox .start) store
+
+    by : (x : Reply) → length (pendingBy x r store .pending) ≤ length store
+    by Reply.Ok = open-most (r .input .closed)
+    by (Reply.Refused x) = omega arith

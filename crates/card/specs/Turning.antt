@@ -12,7 +12,7 @@ use Rattle.card.specs.declared.feed.Turn.{Turn}
 use Rattle.exec.specs.Key.{newKey}
 use Rattle.exec.specs.Time.{newTimers}
 use Rattle.runner.specs.Calls as Calls
-use Rattle.runner.specs.Range.{noLimits}
+use Rattle.exec.specs.Limits.{noLimits}
 use Rattle.grammar.specs.Feed.{Session, start, lineEnds, feeds, ends}
 use Rattle.card.specs.Standing.{sessionOf, Place, placeOf, Stands}
 use Rattle.card.specs.Feeding.{eaten}

@@ -28,7 +28,6 @@ use exec::Key;
 use exec::Limits;
 use exec::Reply;
 use exec::Timers;
-use exec::Window;
 use ring::copy_in;
 use ring::smaller;
 use runner::runner::Runner;
@@ -438,12 +437,7 @@ impl Card {
     pub fn new() -> Card
         ensures { λ r. ⌜ r ≡ newCard ⌝ }
     {
-        let none = Limits {
-            chunk: 0,
-            input: Window::bytes(0),
-            output: Window::bytes(0),
-            shared: false,
-        };
+        let none = Limits::none();
         let noting = Runner::open(Key::new(0, 0), none, Timers::new(0, 0), 0, &[], &[]);
         let runner = noting.runner;
         Card {

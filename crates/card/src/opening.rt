@@ -7,7 +7,7 @@ ghost use lib.ListN.{length, drop};
 ghost use Rattle.grammar.specs.Words.{unit};
 ghost use Rattle.grammar.specs.Lines.{at, fields, u64, u32, digit, timeout, window, lineOpen, isOpen, limitsOf, timersOf, openingOf};
 ghost use Rattle.card.specs.Meaning.{numberIs, narrowIs, flagIs, unitIs, timeoutIs, windowIs, limitsIs, timersIs, openingIs};
-ghost use Rattle.card.specs.FieldLaws.{commaAt, behindOf, Place};
+ghost use Rattle.card.specs.FieldLaws.{commaAt, behindOf, Begins};
 use crate::fields;
 use crate::fields::FoundTimeout;
 use crate::fields::MaybeU32;
@@ -86,7 +86,7 @@ fn behind(text: &[u8]) -> usize
 
 // Where the k-th field begins; the line's end, where there are fewer.
 fn place(line: &[u8], k: usize) -> usize
-    ensures { λ r. ⌜ Place (now (line .entry)) k r ⌝ }
+    ensures { λ r. ⌜ Begins (now (line .entry)) k r ⌝ }
 {
     let n = line.len();
     let mut i: usize = 0;
@@ -187,12 +187,7 @@ fn limits(line: &[u8]) -> MaybeLimits
     let MaybeFlag::Some(shared) = flag_at(line, 9) else {
         return MaybeLimits::None;
     };
-    MaybeLimits::Some(Limits {
-        chunk,
-        input,
-        output,
-        shared,
-    })
+    MaybeLimits::Some(Limits::of(chunk, input, output, shared))
 }
 
 // Fields 10 to 12.

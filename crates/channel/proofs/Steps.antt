@@ -1,5 +1,5 @@
 -- Laws of the record calls' code, over plain variables: there is too much to compute at the calls' own places.
-use mathlib.Core.Bool.{Bool, true, false, cond, _&&_}
+use mathlib.Core.Bool.{Bool, true, false, cond, not, _&&_}
 use mathlib.Core.Path.{_≡_, refl, sym, ap, _∙_}
 use mathlib.Core.List.{List, _++_, append-assoc}
 use Prim.Native.Nat.{ℕ, _+_, _-_, _^_, _≤_, _<_, min}
@@ -25,9 +25,10 @@ use Rattle.runner.specs.declared.message.Choice.{Choice}
 use Rattle.runner.specs.declared.message.Choice.the-variants as Choice
 use Rattle.runner.specs.declared.runner.Runner.{Runner}
 use Rattle.runner.specs.Calls as Calls
+use Rattle.runner.specs.Calls.{limitsBy, messageBy}
 use Rattle.runner.specs.Message.{MessageAfter, messageAfter, choose, saidFor, sendableOf}
 use Rattle.runner.specs.MessageLaws.{chosen, least}
-use Rattle.runner.specs.Range.{inRange, bytesDo, isGood, stop}
+use Rattle.runner.specs.Range.{inRange, bytesDo, stop}
 use Rattle.runner.specs.State.{outOf, creditAt}
 use Rattle.runner.specs.Streams.{InputAfter, inputAfter}
 use Rattle.channel.specs.declared.calls.Reading.{Reading}
@@ -39,27 +40,28 @@ use Rattle.channel.specs.CodecLaws.{header-laid}
 use Rattle.exec.specs.declared.Stream.{Stream}
 use Rattle.exec.specs.declared.Stream.the-variants.{Stdout, Stderr}
 use Rattle.exec.specs.declared.Reply.the-variants as Reply
-use Rattle.channel.specs.Calls.{outputRecord, admitted, readAfter, heard, made, admittedRead, readRecord, writeAfter, hasEnded, sentAs, laid, partBack, told, sent, admittedWrite, writeRecord}
+use Rattle.channel.specs.Calls.{outputRecord, onChannel, admitted, readAfter, heard, made, admittedRead, readRecord, writeAfter, hasEnded, sentAs, laidRecord, partBack, told, sent, admittedWrite, writeRecord}
 use Rattle.channel.specs.CallLaws.{admittedLimits, admittedBy, rest, Narrow, Roomy, RoomyFor, Sayable}
 
 -- ---- what is met before a record
 
+-- by the tests
+abbrev met : (range valid stores : Bool) → Reply
+met range valid stores =
+    cond (not range) (Reply.Refused StateOutOfRange)
+    (cond (not valid) (Reply.Refused NoLimits) (cond (not stores) (Reply.Refused StoreShort) Reply.Ok))
+
 -- the runner's limits tell whether it is in range and has limits
 admitted-as : (range valid enough : Bool) (l : Limits)
-    → admittedBy (cond ((range && valid) && true) (LimitsAnswer.Is l) (LimitsAnswer.Refused (cond range (cond valid StoreShort NoLimits) StateOutOfRange))) enough
-    ≡ cond ((range && valid) && enough) (admittedLimits l true) (Reply.Refused (cond range (cond valid StoreShort NoLimits) StateOutOfRange))
+    → admittedBy (limitsBy (met range valid true) l) enough ≡ onChannel (met range valid enough) l
 unfolding admittedBy admittedLimits
 admitted-as true true true l = refl
 admitted-as true true false l = refl
-admitted-as true false true l = refl
-admitted-as true false false l = refl
-admitted-as false true true l = refl
-admitted-as false true false l = refl
-admitted-as false false true l = refl
-admitted-as false false false l = refl
+admitted-as true false enough l = refl
+admitted-as false valid enough l = refl
 
 admitted-by : (r : Runner) (enough : Bool) → admittedBy (Calls.limits r) enough ≡ admitted r enough
-unfolding Calls.limits isGood stop admitted admittedLimits
+unfolding Calls.limits stop admitted
 admitted-by r enough = admitted-as (inRange r) (isValid (r .limits)) enough (r .limits)
 
 pub read-goes : (r : Runner) (at channel : ℕ) (s store lengths : List ℕ) (told : LimitsAnswer) (need1 need2 : ℕ) (reply : Reply) (x : Reading) (b l : List ℕ)
@@ -111,8 +113,8 @@ start-most Close = omega arith
 
 module _ (rec : Record) (d b : List ℕ) (room : 13 + size rec ≤ length d) (e : b ≡ copied d (start rec) d 13 (size rec)) where
   -- and the header is laid before it
-  pub laid-by : (channel : ℕ) (e₁ : List ℕ) → e₁ ≡ header channel rec ++ drop (start rec) b → e₁ ≡ laid channel rec d
-  unfolding laid
+  pub laid-by : (channel : ℕ) (e₁ : List ℕ) → e₁ ≡ header channel rec ++ drop (start rec) b → e₁ ≡ laidRecord channel rec d
+  unfolding laidRecord
   laid-by channel e₁ h =
       h
       ∙ ap (λ (x : List ℕ). header channel rec ++ drop (start rec) x) e
@@ -154,14 +156,14 @@ module _ (r : Runner) (store buffer : List ℕ) (narrow : r .limits .chunk < 2 ^
 
   pub said-fits : Sayable (Calls.nextMessage r store (take (r .limits .chunk) (drop 13 buffer)) .saying .said) (length buffer)
   unfolding Calls.nextMessage Sayable
-  said-fits = at (isGood r (bytesDo (r .limits) store))
+  said-fits = at (stop r (bytesDo (r .limits) store))
     where
       k : ℕ
       k = length (take (r .limits .chunk) (drop 13 buffer))
 
-      at : (b : Bool) → Sayable (cond b (saidFor (choose r k) r) (Said.Refused (stop r))) (length buffer)
-      at true = said-within k (choose r k) (simp (length-take, length-drop) (omega arith)) refl
-      at false = tt
+      at : (x : Reply) → Sayable (messageBy x r store (take (r .limits .chunk) (drop 13 buffer)) .saying .said) (length buffer)
+      at Reply.Ok = said-within k (choose r k) (simp (length-take, length-drop) (omega arith)) refl
+      at (Reply.Refused x) = tt
 
 -- a part that comes back as long as it was lent leaves the buffer's length
 part-kept : (b part : List ℕ) (k : ℕ) → length part ≡ length (take k (drop 13 b)) → length (take 13 b ++ (part ++ drop k (drop 13 b))) ≡ length b

@@ -106,9 +106,9 @@ put-four d at w x y z h =
 pub laid-first : (d p : List ℕ) (k : ℕ) → length p ≡ k → copied d 0 p 0 k ≡ p ++ drop k d
 laid-first d p k hp = let z : 0 + k ≡ k = omega arith in rw z at (copied-all d 0 p k hp)
 
-pub laid : (d p q : List ℕ) (k m : ℕ) → length p ≡ k → length q ≡ m → k + m ≤ length d
+pub laid-behind : (d p q : List ℕ) (k m : ℕ) → length p ≡ k → length q ≡ m → k + m ≤ length d
     → copied (p ++ drop k d) k q 0 m ≡ p ++ q ++ drop (k + m) d
-laid d p q k m hp hq room =
+laid-behind d p q k m hp hq room =
     let z : 0 + k ≡ k = omega arith in
     ap (λ (x : List ℕ). copied x k q 0 m) (sym (laid-first d p k hp))
     ∙ rw z at (copied-join d 0 p q k m hp hq (omega arith))

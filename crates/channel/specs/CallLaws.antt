@@ -24,13 +24,13 @@ use Rattle.runner.specs.declared.message.Choice.the-variants as Choice
 use Rattle.runner.specs.declared.runner.Runner.{Runner}
 use Rattle.runner.specs.Calls as Calls
 use Rattle.runner.specs.Message.{choose, saidFor, bufferAfter}
-use Rattle.runner.specs.Range.{bytesDo, isGood}
+use Rattle.runner.specs.Range.{bytesDo, stop}
 use Rattle.channel.specs.declared.calls.Sending.{Sending}
 use Rattle.channel.specs.declared.calls.Sending.the-variants as Sending
 use Rattle.channel.specs.declared.calls.Wrote.the-variants as Wrote
 use Rattle.channel.specs.declared.codec.Parsed.{Parsed}
 use Rattle.channel.specs.declared.codec.Parsed.the-variants as Parsed
-use Rattle.channel.specs.Calls.{isChannel, admitted, hasEnded, laid, wrote, wroteBuffer, partBack, told, sent, roomyWrite, admittedWrite, writeRecord}
+use Rattle.channel.specs.Calls.{isChannel, admitted, hasEnded, laidRecord, wrote, wroteBuffer, partBack, told, sent, roomyWrite, admittedWrite, writeRecord}
 use Rattle.channel.specs.declared.codec.Record.{Record}
 use Rattle.channel.specs.declared.codec.Record.the-variants.{Data}
 use Rattle.channel.specs.Codec.{header, start, size, Fits, bytesOf, read}
@@ -103,14 +103,14 @@ module _ (channel : ℕ) (rec : Record) (b : List ℕ) (room : 13 + size rec ≤
   payload-length = length-take-le (size rec) (drop 13 b) (simp length-drop (omega arith))
 
   -- its bytes stand at the buffer's start
-  pub laid-front : take (start rec + size rec) (laid channel rec b) ≡ bytesOf channel rec (take (size rec) (drop 13 b))
-  unfolding laid bytesOf
+  pub laid-front : take (start rec + size rec) (laidRecord channel rec b) ≡ bytesOf channel rec (take (size rec) (drop 13 b))
+  unfolding laidRecord bytesOf
   laid-front =
       take-at (header channel rec ++ take (size rec) (drop 13 b)) (drop (start rec + size rec) b) (start rec + size rec)
       (simp (length-append, header-length channel rec, payload-length))
 
   -- WHAT A RUNNER WRITES, THE PEER'S READER READS
-  pub laid-reads : channel < 2 ^ 32 → Fits rec → read channel (take (start rec + size rec) (laid channel rec b)) ≡ Parsed.Read rec
+  pub laid-reads : channel < 2 ^ 32 → Fits rec → read channel (take (start rec + size rec) (laidRecord channel rec b)) ≡ Parsed.Read rec
   laid-reads known fits = ap (read channel) laid-front ∙ back channel rec (take (size rec) (drop 13 b)) known fits payload-length
 
 -- ---- no message
@@ -136,17 +136,17 @@ none-said (Choice.End x) r channel k ended store b e = absurd (some-message _ _ 
 none-said (Choice.Output x n) r channel k ended store b e = absurd (some-message _ _ e)
 none-said Choice.Terminal r channel k ended store b e = absurd (some-message _ _ e)
 
-none-sent : (good : Bool) (r : Runner) (channel : ℕ) (store b : List ℕ) → isGood r (bytesDo (r .limits) store) ≡ good
+none-sent : (met : Reply) (r : Runner) (channel : ℕ) (store b : List ℕ) → stop r (bytesDo (r .limits) store) ≡ met
     → sent r channel store b .writing .wrote ≡ Wrote.None → sent r channel store b .buffer ≡ b
 unfolding sent told Calls.nextMessage wroteBuffer
-none-sent true r channel store b g e =
+none-sent Reply.Ok r channel store b g e =
     rw g (none-said (choose r (length (take (r .limits .chunk) (drop 13 b)))) r channel (r .limits .chunk) (hasEnded r) store b (rw g at e))
-none-sent false r channel store b g e = rw g (part-kept (r .limits .chunk) b)
+none-sent (Reply.Refused x) r channel store b g e = rw g (part-kept (r .limits .chunk) b)
 
 none-roomy : (room : Bool) (r : Runner) (channel : ℕ) (store b : List ℕ) → leb (13 + r .limits .chunk) (length b) ≡ room
     → roomyWrite r channel store b .writing .wrote ≡ Wrote.None → roomyWrite r channel store b .buffer ≡ b
 unfolding roomyWrite
-none-roomy true r channel store b h e = rw h (none-sent (isGood r (bytesDo (r .limits) store)) r channel store b refl (rw h at e))
+none-roomy true r channel store b h e = rw h (none-sent (stop r (bytesDo (r .limits) store)) r channel store b refl (rw h at e))
 none-roomy false r channel store b h e = rw h refl
 
 none-admitted : (a : Reply) (r : Runner) (channel : ℕ) (store b : List ℕ)

@@ -27,8 +27,9 @@ use Rattle.runner.specs.declared.answer.Saying.{Saying}
 use Rattle.runner.specs.declared.runner.Runner.{Runner}
 use Rattle.runner.specs.Calls as Calls
 use Rattle.runner.specs.Calls.{storesDo}
-use Rattle.runner.specs.Range.{bytesDo, isGood, stop}
-use Rattle.runner.specs.State.{out0, out1}
+use Rattle.runner.specs.Range.{bytesDo, stop}
+use Rattle.exec.specs.Stream.{anyStream}
+use Rattle.runner.specs.State.{outOf}
 use Rattle.channel.specs.declared.calls.Answer.{Answer}
 use Rattle.channel.specs.declared.calls.Answer.the-variants as Answer
 use Rattle.channel.specs.declared.calls.Reading.{Reading}
@@ -49,15 +50,16 @@ abbrev pub isBytes : Units.Unit → Bool
 isBytes Bytes = true
 isBytes Frames = false
 
--- one pool for both streams, and bytes counted both ways, as on a channel of RFC 4254
+-- one pool for all streams, and bytes counted both ways, as on a channel of RFC 4254
 abbrev pub isChannel : Limits → Bool
 isChannel l = (l .shared && isBytes (l .input .unit)) && isBytes (l .output .unit)
 
+abbrev pub onChannel : Reply → Limits → Reply
+onChannel Reply.Ok l = cond (isChannel l) Reply.Ok (Reply.Refused NotAChannel)
+onChannel (Reply.Refused x) l = Reply.Refused x
+
 unfoldable pub admitted : Runner → (stores : Bool) → Reply
-admitted r stores =
-    cond (isGood r stores)
-    (cond (isChannel (r .limits)) Reply.Ok (Reply.Refused NotAChannel))
-    (Reply.Refused (stop r))
+admitted r stores = onChannel (stop r stores) (r .limits)
 
 -- ---- a record read
 
@@ -135,11 +137,11 @@ sentAs ended (Message.Terminal outcome) = Sending.Record Close
 
 -- an End has come
 abbrev pub hasEnded : Runner → Bool
-hasEnded r = out0 r .ended || out1 r .ended
+hasEnded r = anyStream (λ (x : Stream). outOf x r .ended)
 
 -- the record at the buffer's start, with its payload from byte 13 on of the buffer
-unfoldable pub laid : (channel : ℕ) → Record → List ℕ → List ℕ
-laid channel rec buffer =
+unfoldable pub laidRecord : (channel : ℕ) → Record → List ℕ → List ℕ
+laidRecord channel rec buffer =
     bytesOf channel rec (take (size rec) (drop 13 buffer)) ++ drop (start rec + size rec) buffer
 
 -- its length, 0 where nothing is written
@@ -149,7 +151,7 @@ lengthOf (Sending.Record rec) = start rec + size rec
 
 unfoldable pub sentBuffer : (channel : ℕ) → Sending → List ℕ → List ℕ
 sentBuffer channel Sending.Nothing buffer = buffer
-sentBuffer channel (Sending.Record rec) buffer = laid channel rec buffer
+sentBuffer channel (Sending.Record rec) buffer = laidRecord channel rec buffer
 
 unfoldable pub wrote : (ended : Bool) → Said → Wrote
 wrote ended Said.None = Wrote.None

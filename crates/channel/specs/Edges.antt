@@ -19,7 +19,7 @@ use Rattle.exec.specs.declared.Reply.{Reply}
 use Rattle.exec.specs.declared.Reply.the-variants as Reply
 use Rattle.exec.specs.declared.Timers.{Timers}
 use Rattle.exec.specs.Key.{newKey, admits}
-use Rattle.exec.specs.Limits.{bytesWindow, framesWindow, sharedOutput, cost, bytesWith}
+use Rattle.exec.specs.Limits.{bytesWindow, framesWindow, limitsFor, sharedOutput, cost, bytesWith}
 use Rattle.exec.specs.Refusal.{number}
 use Rattle.exec.specs.Time.{newTimers, withTimeout}
 use Rattle.ring.specs.Frames.{popFrom}
@@ -61,15 +61,15 @@ timers = newTimers 10 5
 
 -- chunk 4 and windows of 8 bytes
 abbrev inBytes : Limits
-inBytes = record { chunk = 4; input = bytesWindow 8; output = bytesWindow 8; shared = false }
+inBytes = limitsFor 4 (bytesWindow 8) (bytesWindow 8) false
 
 -- chunk 4 and an input window of 2 frames
 abbrev inFrames : Limits
-inFrames = record { chunk = 4; input = framesWindow 2; output = bytesWindow 8; shared = false }
+inFrames = limitsFor 4 (framesWindow 2) (bytesWindow 8) false
 
 -- a runner as open returns it
 opened : Limits → Runner
-unfolding Calls.«open» Range.opens Range.fresh Range.isGood Range.inRange outputFits bytesWith admits
+unfolding Calls.«open» Range.fresh Range.stop Range.inRange outputFits bytesWith admits
 opened l = Calls.«open» own l timers 0 (zeros 16) (zeros 2) .runner
 
 -- and after its first message, Credit: the input's window is open
@@ -83,7 +83,7 @@ heard r x = record { runner = r; received = x }
 
 -- input under the runner's own key, lent stores of zeros
 sent : Runner → List ℕ → InputAfter
-unfolding granted Calls.input Streams.inputAnswer Streams.inputNext Streams.inputBytes Streams.inputLengths Input.receiveAnswer Input.receiveInput Input.receiveBytes Input.receiveLengths cost ringWrite ringFrom copied wrap
+unfolding granted Calls.input Streams.received Streams.inputAnswer Streams.inputNext Streams.inputStore Streams.inputLengths Input.receiveAnswer Input.receiveInput Input.receiveBytes Input.receiveLengths cost ringWrite ringFrom copied wrap
 sent r bytes = Calls.input r own bytes (zeros 16) (zeros 2)
 
 -- what it leaves where it is refused: state and stores are kept
@@ -190,7 +190,7 @@ edge9 = (refl, refl)
 
 -- (10) "Chunk 4, Frames 2: 16 bytes and 2 lengths do, 15 give 11"; so does one length
 openedWith : (bytes lengths : ℕ) → Reply
-unfolding Calls.«open» Range.opens Range.openStop bytesWith
+unfolding Calls.«open» bytesWith
 openedWith bytes lengths = Calls.«open» own inFrames timers 0 (zeros bytes) (zeros lengths) .reply
 
 edge10 : (openedWith 16 2 ≡ Reply.Ok)

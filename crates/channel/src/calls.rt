@@ -20,7 +20,7 @@ ghost use Rattle.channel.specs.Calls.{
   outputRecord,
   sentAs,
   hasEnded,
-  laid,
+  laidRecord,
   lengthOf,
   sentBuffer,
   wrote,
@@ -406,7 +406,7 @@ fn lay_out(out: Sending, channel: u32, buffer: &mut [u8])
 // Lays the record at the buffer's start, its payload brought from byte 13 to the header's end.
 fn lay(rec: Record, channel: u32, buffer: &mut [u8])
     requires { ⌜ 13 + size rec ≤ length (now buffer) ⌝ }
-    ensures { λ _. ⌜ now (buffer .exit) ≡ laid channel rec (now (buffer .entry)) ⌝ }
+    ensures { λ _. ⌜ now (buffer .exit) ≡ laidRecord channel rec (now (buffer .entry)) ⌝ }
 {
     bring(buffer, rec.start(), rec.size());
     put_header(buffer, channel, rec);

@@ -16,6 +16,7 @@ use Rattle.exec.specs.declared.Status.the-variants as Status
 use Rattle.exec.specs.declared.Timers.{Timers}
 use Rattle.exec.specs.declared.Window.{Window}
 use Rattle.exec.specs.Key.{newKey}
+use Rattle.exec.specs.Limits.{limitsFor}
 use Rattle.text.specs.Decimal.{number, signed}
 use Rattle.text.specs.Hexadecimal.{unhex}
 use Rattle.account.specs.Call as Call
@@ -243,7 +244,7 @@ isOpen fs = eqb (length fs) 13 && same (at fs 0) (bytes "open")
 unfoldable pub limitsOf : List (List ℕ) → Option Limits
 limitsOf fs =
     on (u32 (at fs 4)) λ chunk. on (window (at fs 5) (at fs 6)) λ i. on (window (at fs 7) (at fs 8)) λ o. on (digit (at fs 9)) λ b.
-    some (record { chunk = chunk; input = i; output = o; shared = b })
+    some (limitsFor chunk i o b)
 
 unfoldable pub timersOf : List (List ℕ) → Option Timers
 timersOf fs =

@@ -16,7 +16,7 @@ use Rattle.exec.specs.declared.Pool.the-variants as Pool
 use Rattle.exec.specs.declared.Status.the-variants as Status
 use Rattle.exec.specs.declared.Stream.the-variants.{Stdout, Stderr}
 use Rattle.exec.specs.Key.{newKey}
-use Rattle.exec.specs.Limits.{bytesWindow}
+use Rattle.exec.specs.Limits.{bytesWindow, limitsFor}
 use Rattle.exec.specs.Time.{newTimers}
 use Rattle.text.specs.Decimal.{number, numberFrom, areDigits, valueFrom, signed, digitsOf, digitsBefore}
 use Rattle.text.specs.Hexadecimal.{unhex, arePairs, areHex, pairs, hexValue, hexOf, hexDigit}
@@ -37,7 +37,7 @@ unfolding lineText answerText digitsOf digitsBefore hexOf hexDigit bytes
 prints n a = lineText n a
 
 table-open : lineOpen (bytes "open,0,7,2,4,B,8,B,8,0,-,10,5")
-    ≡ some (record { conf = record { key = newKey 7 2; limits = record { chunk = 4; input = bytesWindow 8; output = bytesWindow 8; shared = false }; timers = newTimers 10 5 }; now = 0 })
+    ≡ some (record { conf = record { key = newKey 7 2; limits = limitsFor 4 (bytesWindow 8) (bytesWindow 8) false; timers = newTimers 10 5 }; now = 0 })
 unfolding calls openOf isOpen openingOf limitsOf timersOf timeout
 table-open = refl
 

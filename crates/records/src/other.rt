@@ -7,12 +7,7 @@ use exec::Window;
 
 // 13 is met before the 20 of an empty record, and before the 25 of a buffer below chunk + 13 bytes.
 pub(crate) fn run() {
-    let limits = Limits {
-        chunk: 4,
-        input: Window::frames(2),
-        output: Window::bytes(8),
-        shared: true,
-    };
+    let limits = Limits::of(4, Window::frames(2), Window::bytes(8), true);
     let mut store = [0u8; 16];
     let mut buffer = [0u8; 16];
     let unread = read(open(limits, &store), 5, b"", &mut store);

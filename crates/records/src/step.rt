@@ -21,12 +21,7 @@ const NOW: u64 = 10;
 
 // The limits of a channel, whose windows are alike.
 pub(crate) fn channel(chunk: u32, window: u32) -> Limits {
-    Limits {
-        chunk,
-        input: Window::bytes(window),
-        output: Window::bytes(window),
-        shared: true,
-    }
+    Limits::of(chunk, Window::bytes(window), Window::bytes(window), true)
 }
 
 fn noted(call: &[u8], noting: Noting) -> Runner {

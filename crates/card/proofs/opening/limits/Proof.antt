@@ -42,10 +42,11 @@ returns-5 : tie.Need-returns-5
 unfolding limitsOf
 returns-5 c =
     simp (
-      sym (c .before .before .before .flag-at .ensures) ∙ ap flagIs (c .before .shared .given .1),
-      sym (c .before .before .before .before .before .before .before .window-at2 .ensures) ∙ ap windowIs (c .before .before .before .before .before .output .given .1),
-      sym (c .before .before .before .before .before .before .before .before .before .before .before .window-at .ensures) ∙ ap windowIs (c .before .before .before .before .before .before .before .before .before .input .given .1),
-      sym (c .before .before .before .before .before .before .before .before .before .before .before .before .before .before .before .narrow-at .ensures) ∙ ap narrowIs (c .before .before .before .before .before .before .before .before .before .before .before .before .before .chunk .given .1),
+      c .of .ensures,
+      sym (c .before .before .before .before .flag-at .ensures) ∙ ap flagIs (c .before .before .shared .given .1),
+      sym (c .before .before .before .before .before .before .before .before .window-at2 .ensures) ∙ ap windowIs (c .before .before .before .before .before .before .output .given .1),
+      sym (c .before .before .before .before .before .before .before .before .before .before .before .before .window-at .ensures) ∙ ap windowIs (c .before .before .before .before .before .before .before .before .before .before .input .given .1),
+      sym (c .before .before .before .before .before .before .before .before .before .before .before .before .before .before .before .before .narrow-at .ensures) ∙ ap narrowIs (c .before .before .before .before .before .before .before .before .before .before .before .before .before .before .chunk .given .1),
     )
 
 pub limits-spec : {M : Type 1} → statement M
@@ -68,4 +69,5 @@ limits-spec =
     (search needs)
     (search needs)
     returns-4
+    (search needs)
     returns-5)
