@@ -8,8 +8,8 @@ use Rattle.runner.specs.declared.message.Choice.the-variants as Choice
 use Rattle.runner.specs.declared.runner.Runner.{Runner}
 use Rattle.runner.specs.Choose.{ifElse}
 use Rattle.exec.specs.Limits.{poolOf}
-use Rattle.exec.specs.Stream.{streamAt}
-use Rattle.runner.specs.State.{outOf, other, creditAt}
+use Rattle.exec.specs.Stream.{streamAt, following}
+use Rattle.runner.specs.State.{outOf, creditAt}
 use Rattle.runner.specs.Message.{sendableOf, order, choose}
 use Rattle.runner.specs.MessageLaws.{least}
 
@@ -39,5 +39,5 @@ pub choose-sent : (s : Runner) (n : ℕ) → Sent s (choose s n)
 unfolding choose order
 choose-sent s n =
     sent-if s _ _ _ (record { sound = tt }) (sent-if s _ _ _ (sent-if s _ _ _ (record { sound = tt }) (record { sound = tt })) (sent-if s _ _ _ (record { sound = tt }) (sent-if s _ _ _ (record { sound = tt }) (sent-if s _ _ _ (record { sound = tt }) (sent-if s _ _ _ (record { sound = tt }) (sent-if s _ _ _ (record { sound = tt })
-    (sent-if s _ _ _ (record { sound = sendable-count s n (streamAt (s .turn)) }) (sent-if s _ _ _ (record { sound = sendable-count s n (other (streamAt (s .turn))) })
+    (sent-if s _ _ _ (record { sound = sendable-count s n (streamAt (s .turn)) }) (sent-if s _ _ _ (record { sound = sendable-count s n (following (streamAt (s .turn))) })
     (sent-if s _ _ _ (record { sound = tt }) (sent-if s _ _ _ (record { sound = tt }) (record { sound = tt })))))))))))

@@ -19,7 +19,8 @@ use Rattle.credit.specs.Need.{byteNeed, lengthNeedAs, lengthNeed}
 use Rattle.stdio.specs.declared.input.Input.{Input}
 use Rattle.runner.specs.declared.runner.Runner.{Runner}
 use Rattle.runner.specs.Calls as Calls
-use Rattle.runner.specs.Range.{inRange, bytesDo, lengthsDo, isGood, opens, openStop, fresh}
+use Rattle.runner.specs.Range.{bytesDo, lengthsDo, stop, openStop, fresh}
+use Rattle.runner.specs.RangeLaws.{unstopped}
 use Rattle.account.specs.Call as Call
 use Rattle.account.specs.Call.{Conf, Call, Done}
 use Rattle.account.specs.Step as Step
@@ -83,12 +84,10 @@ pub record Fine (s : State) : Type 0 where
   pub sound : Sound s
   pub limits : isValid (s .runner .limits) ≡ true
 
-pub goes : (s : State) (c : Call) → Fine s → isGood (s .runner) (enough s c) ≡ true
-unfolding isGood
+pub goes : (s : State) (c : Call) → Fine s → stop (s .runner) (enough s c) ≡ Reply.Ok
 goes s c h =
     let r = h .sound .ranged in
-    and-both (inRange (s .runner) && isValid (s .runner .limits)) (enough s c)
-    (and-both (inRange (s .runner)) (isValid (s .runner .limits)) (in-range (s .lengths) (s .runner) r) (h .limits))
+    unstopped (s .runner) (enough s c) (in-range (s .lengths) (s .runner) r) (h .limits)
     (enough-all c s (le-leb (byteNeed (s .runner .limits)) (length (s .bytes)) (h .sound .roomy))
     (le-leb (lengthNeed (s .runner .limits)) (length (s .lengths)) (slots-by (s .runner .limits .input .unit) (s .runner .limits) (s .lengths) (s .runner .input) (r .2 .0))))
 
@@ -122,26 +121,18 @@ pub fine-open : (conf : Conf) (now : ℕ) (bytes lengths : List ℕ) → Lent (c
 unfolding fresh
 fine-open conf now bytes lengths o = record { sound = sound-open conf now bytes lengths o; limits = o .limits }
 
-abbrev isOk : Reply → Bool
-isOk Reply.Ok = true
-isOk (Reply.Refused x) = false
-
-ok-only : (b : Bool) (x : Refusal) → cond b Reply.Ok (Reply.Refused x) ≡ Reply.Ok → b ≡ true
-ok-only true x e = refl
-ok-only false x e = absurd (false≢true (ap isOk e))
-
-pub opens-by : (conf : Conf) (now : ℕ) (bytes lengths : List ℕ) → Opens conf now bytes lengths → opens (conf .limits) bytes lengths ≡ true
+pub opens-by : (conf : Conf) (now : ℕ) (bytes lengths : List ℕ) → Opens conf now bytes lengths
+    → openStop (conf .limits) (bytesDo (conf .limits) bytes && lengthsDo (conf .limits) lengths) ≡ Reply.Ok
 unfolding Calls.«open»
-opens-by conf now bytes lengths op = ok-only (opens (conf .limits) bytes lengths) (openStop (conf .limits)) op
-
-chosen : (b : Bool) (x y : Runner) (bytes lengths : List ℕ) → b ≡ true
-    → _≡_ {A = State} (record { runner = cond b x y; bytes = bytes; lengths = lengths }) (record { runner = x; bytes = bytes; lengths = lengths })
-chosen true x y bytes lengths e = refl
-chosen false x y bytes lengths e = absurd (false≢true e)
+opens-by conf now bytes lengths op = by (openStop (conf .limits) (bytesDo (conf .limits) bytes && lengthsDo (conf .limits) lengths)) op
+  where
+    by : (x : Reply) → Calls.openBy x (conf .key) (conf .limits) (conf .timers) now .reply ≡ Reply.Ok → x ≡ Reply.Ok
+    by Reply.Ok e = refl
+    by (Reply.Refused y) e = e
 
 pub open-same : (conf : Conf) (now : ℕ) (bytes lengths : List ℕ) → Opens conf now bytes lengths → Step.opened conf now bytes lengths ≡ begun conf now bytes lengths
 unfolding Calls.«open»
-open-same conf now bytes lengths op = chosen (opens (conf .limits) bytes lengths) _ _ bytes lengths (opens-by conf now bytes lengths op)
+open-same conf now bytes lengths op = rw (opens-by conf now bytes lengths op) refl
 
 -- ---- the demand
 

@@ -24,7 +24,8 @@ use Rattle.ring.specs.Ring.{ringWrite}
 use Rattle.ring.specs.RingLaws.{write-length, write-other}
 use Rattle.credit.specs.Need.{byteNeed}
 use Rattle.stdio.specs.declared.output.Output.{Output}
-use Rattle.stdio.specs.Input.{isPaid, isKept, receiveBytes}
+use Rattle.credit.specs.Inbox.{inboxBase}
+use Rattle.stdio.specs.Input.{isKept, kept-paid, receiveBytes}
 use Rattle.stdio.specs.Output.{keeps, keeps-fit, sentOut, endedOut, askedOut, lostOut, closedOut, failedOut, hungUp}
 use Rattle.runner.specs.declared.answer.Request.the-variants as Request
 use Rattle.runner.specs.declared.message.Choice.{Choice}
@@ -34,8 +35,9 @@ use Rattle.runner.specs.declared.message.Wish.the-variants as Wish
 use Rattle.runner.specs.declared.runner.Runner.{Runner}
 use Rattle.runner.specs.Life.{awaitsLaunch, ticked, isLate, cancelAnswer, closeRunnerInput, noteStarted, noteLaunch, launchedNext, settledNext}
 use Rattle.runner.specs.Message.{choose, outputPaid, outputSent, effect, payload, wish, wishEffect}
-use Rattle.runner.specs.State.{outOf, withOutputs, putOutput, at, base}
-use Rattle.runner.specs.Streams.{isShut, room, outputTaken, outputNext, outputBytes, discardedNext, closedNext, failedNext, hungUpNext, creditNext, isTaken, inputNext, inputBytes, endNext, writtenNext}
+use Rattle.stdio.specs.Outputs.{putOutput}
+use Rattle.runner.specs.State.{outOf, withOutputs, at, base}
+use Rattle.runner.specs.Streams.{isShut, room, outputTaken, outputNext, outputStore, discardedNext, closedNext, failedNext, hungUpNext, creditNext, isTaken, inputNext, inputStore, endNext, writtenNext}
 use Rattle.account.specs.Call as Call
 use Rattle.account.specs.Call.{Conf, Call}
 use Rattle.account.specs.Step.{State, receivedAs}
@@ -50,7 +52,7 @@ use Rattle.account.proofs.Choices.{Sent, choose-sent}
 use Rattle.account.proofs.Range.{RangedS}
 use Rattle.account.proofs.Finish.{framed, framed-conf}
 use Rattle.account.proofs.Lives.{rep, Inv, along, tick-inv, cancel-inv, detach-inv, exited-inv, reported-same}
-use Rattle.account.proofs.Flags.{and-l, either}
+use Rattle.account.proofs.Flags.{either}
 use Rattle.account.proofs.InputRange.{room-by, paid}
 
 -- a claim of the invariant on each stream
@@ -108,16 +110,16 @@ launched-inv st true (LaunchResult.Failed f) s ts e h = (rw e refl, h .1)
 -- an input: nothing is written, or the bytes go behind the inbox, which is apart from both queues
 input-inv : (x : Bool) (b st : List ℕ) (s : Runner) (a : Account.Account) → byteNeed (s .limits) ≤ length st → s .input .inbox .start < inboxSize (s .limits)
     → (x ≡ true → s .input .inbox .length + length b ≤ inboxSize (s .limits)) → Inv st s a
-    → Inv (cond x (ringWrite (2 * s .limits .chunk) (inboxSize (s .limits)) (s .input .inbox .start) (s .input .inbox .length) b (length b) st) st) s a
+    → Inv (cond x (ringWrite (inboxBase (s .limits)) (inboxSize (s .limits)) (s .input .inbox .start) (s .input .inbox .length) b (length b) st) st) s a
 input-inv false b st s a n l m h = h
 input-inv true b st s a n l m h =
     let k = m refl in
     let c : ℕ = s .limits .chunk in
-    let w = write-length (2 * c) (inboxSize (s .limits)) (s .input .inbox .start) (s .input .inbox .length) b (length b) st n (omega arith) (omega arith) k in (
+    let w = write-length (inboxBase (s .limits)) (inboxSize (s .limits)) (s .input .inbox .start) (s .input .inbox .length) b (length b) st n (omega arith) (omega arith) k in (
       h .0,
       λ x. let f = base-behind x c in
           moved st _ (base x c) c (outOf x s) (tallyOf x a)
-          (write-other (2 * c) (inboxSize (s .limits)) (s .input .inbox .start) (s .input .inbox .length) b (length b) st n (omega arith) (omega arith) k
+          (write-other (inboxBase (s .limits)) (inboxSize (s .limits)) (s .input .inbox .start) (s .input .inbox .length) b (length b) st n (omega arith) (omega arith) k
           (base x c) c (outOf x s .start) (outOf x s .queued) (h .1 x .2) (let z = h .1 x .1 .inside in omega arith) (h .1 x .1 .within) (inl f)) w (h .1 x),
     )
 
@@ -129,8 +131,8 @@ taken-inv false b st s a n l m h = h
 taken-inv true b st s a n l m h = input-inv (isKept (s .limits) (s .input) (length b)) b st s a n l m h
 
 output-inv : (st : List ℕ) (x : Stream) (b : List ℕ) (s : Runner) (a : Account.Account) → Inv st s a
-    → Inv (outputBytes s x b st) (outputNext s x (length b)) (onTally x (takenBy (take (outputTaken s x (length b)) b)) a)
-unfolding outputBytes outputNext outputTaken
+    → Inv (outputStore s x b st) (outputNext s x (length b)) (onTally x (takenBy (take (outputTaken s x (length b)) b)) a)
+unfolding outputStore outputNext outputTaken
 output-inv st x b s a h =
     let c : ℕ = s .limits .chunk in
     let k : ℕ = keeps (isShut x s) (outOf x s .discarding) (room x s) (length b) in
@@ -138,7 +140,7 @@ output-inv st x b s a h =
     let kr = keeps-fit (isShut x s) (outOf x s .discarding) (room x s) (length b) in
     let i0 = h .1 x .1 .inside in let w0 = h .1 x .1 .within in (
       h .0 ∙ sym (rep-at x _ s refl refl),
-      on-one (Claim (outputBytes s x b st) c) x _ _ (s .outputs) (a .tallies)
+      on-one (Claim (outputStore s x b st) c) x _ _ (s .outputs) (a .tallies)
           (taken-by st (base x c) c (isShut x s) b (outOf x s) (tallyOf x a) (or-self-left (outOf x s .closed) (s .flags .«gave_up»)) (h .1 x))
           (λ y e. moved st _ (base y c) c (outOf y s) (tallyOf y a)
           (write-other (base x c) c (outOf x s .start) (outOf x s .queued) b k st (h .1 x .2) (omega arith) has (omega arith)
@@ -188,7 +190,7 @@ pub kept-room : (b : List ℕ) (s : State) → RangedS s → isKept (s .runner .
     → s .runner .input .inbox .length + length b ≤ inboxSize (s .runner .limits)
 kept-room b s r e =
     let u : Runner = s .runner in
-    let p = paid (u .limits) (u .input) (length b) (and-l (isPaid (u .limits) (u .input) (length b)) (not (u .input .closed)) e) in
+    let p = paid (u .limits) (u .input) (length b) (kept-paid (u .limits) (u .input) (length b) e) in
     room-by (u .limits .input .unit) (u .limits) (s .lengths) (u .input) (length b) (r .2 .0) (p .small) (p .enough)
 
 abbrev pub InvS : State → Account.Account → Type 0
@@ -203,7 +205,7 @@ unheard s a c h = either (InvS (next s c)) (isRefused (answer s c)) a a h h
 
 -- every call, while the runner has not finished
 pub step-inv : (c : Call) (s : State) (a : Account.Account) → s .runner .flags .finished ≡ false → RangedS s → Roomy s → InvS s a → InvS (next s c) (add a c (answer s c))
-unfolding next adds add answer creditNext inputNext inputBytes endNext launchedNext discardedNext closedNext failedNext hungUpNext writtenNext closeRunnerInput settledNext
+unfolding next adds add answer creditNext inputNext inputStore endNext launchedNext discardedNext closedNext failedNext hungUpNext writtenNext closeRunnerInput settledNext
 step-inv (Call.credit k p u) s a f r m h = unheard s a (Call.credit k p u) h
 step-inv (Call.input k b) s a f r m h =
     let u : Runner = s .runner in let x : Admission = admits (u .key) k in
@@ -262,11 +264,11 @@ step-inv Call.limits s a f r m h = h
 
 input-length : (x : Bool) (b st : List ℕ) (s : Runner) → byteNeed (s .limits) ≤ length st → s .input .inbox .start < inboxSize (s .limits)
     → (x ≡ true → s .input .inbox .length + length b ≤ inboxSize (s .limits))
-    → length (cond x (ringWrite (2 * s .limits .chunk) (inboxSize (s .limits)) (s .input .inbox .start) (s .input .inbox .length) b (length b) st) st) ≡ length st
+    → length (cond x (ringWrite (inboxBase (s .limits)) (inboxSize (s .limits)) (s .input .inbox .start) (s .input .inbox .length) b (length b) st) st) ≡ length st
 input-length false b st s n l m = refl
 input-length true b st s n l m =
-    let k = m refl in let c : ℕ = s .limits .chunk in
-    write-length (2 * c) (inboxSize (s .limits)) (s .input .inbox .start) (s .input .inbox .length) b (length b) st n (omega arith) (omega arith) k
+    let k = m refl in
+    write-length (inboxBase (s .limits)) (inboxSize (s .limits)) (s .input .inbox .start) (s .input .inbox .length) b (length b) st n (omega arith) (omega arith) k
 
 taken-length : (t : Bool) (b st : List ℕ) (s : Runner) → byteNeed (s .limits) ≤ length st → s .input .inbox .start < inboxSize (s .limits)
     → (isKept (s .limits) (s .input) (length b) ≡ true → s .input .inbox .length + length b ≤ inboxSize (s .limits))
@@ -275,8 +277,8 @@ unfolding receiveBytes
 taken-length false b st s n l m = refl
 taken-length true b st s n l m = input-length (isKept (s .limits) (s .input) (length b)) b st s n l m
 
-output-length : (x : Stream) (b st : List ℕ) (s : Runner) → byteNeed (s .limits) ≤ length st → Fits (s .limits .chunk) (outOf x s .start) (outOf x s .queued) → length (outputBytes s x b st) ≡ length st
-unfolding outputBytes
+output-length : (x : Stream) (b st : List ℕ) (s : Runner) → byteNeed (s .limits) ≤ length st → Fits (s .limits .chunk) (outOf x s .start) (outOf x s .queued) → length (outputStore s x b st) ≡ length st
+unfolding outputStore
 output-length x b st s n f =
     let has = keeps-less (isShut x s) (outOf x s .discarding) (room x s) (length b) in
     let kr = keeps-fit (isShut x s) (outOf x s .discarding) (room x s) (length b) in
@@ -284,7 +286,7 @@ output-length x b st s n f =
     write-length (base x (s .limits .chunk)) (s .limits .chunk) (outOf x s .start) (outOf x s .queued) b (keeps (isShut x s) (outOf x s .discarding) (room x s) (length b)) st (omega arith) (omega arith) has (omega arith)
 
 bytes-length : (c : Call) (s : State) → RangedS s → Roomy s → length (next s c .bytes) ≡ length (s .bytes)
-unfolding next inputBytes
+unfolding next inputStore
 bytes-length (Call.input k b) s r m =
     let u : Runner = s .runner in let x : Admission = admits (u .key) k in
     taken-length (isTaken x u) b (s .bytes) u m (r .2 .1) (kept-room b s r)

@@ -30,11 +30,11 @@ use Rattle.runner.specs.Choose.{ifElse}
 use Rattle.exec.specs.Time.{after, then, earliest, due, after-at}
 use Rattle.exec.specs.Key.{admits}
 use Rattle.exec.specs.Limits.{poolOf}
-use Rattle.exec.specs.Stream.{streamAt}
+use Rattle.exec.specs.Stream.{streamAt, following}
 use Rattle.credit.specs.Sender.{sendable}
 use Rattle.stdio.specs.Input.{closeInput}
 use Rattle.stdio.specs.Output.{isDone}
-use Rattle.runner.specs.State.{out0, out1, outOf, other, creditAt}
+use Rattle.runner.specs.State.{outOf, creditAt}
 use Rattle.runner.specs.Life as Life
 use Rattle.runner.specs.Life.{isCleanedUp, endGrace, giveUp, beginTermination, passGrace, terminate, ticked, isReady, cancelAnswer}
 use Rattle.runner.specs.Message.{sendableOf, order, choose, effect}
@@ -43,7 +43,7 @@ use Rattle.account.specs.Call.{Call}
 use Rattle.account.specs.Step.{State, receivedAs}
 use Rattle.account.proofs.Plain.{said, next, answer, afterAll, run}
 use Rattle.account.proofs.Stages.{graceIf, terminateIf, giveUpIf, stage1, stage2, stage3, stage4, tickIf, tick-is, cancelIf, late, cancelNext}
-use Rattle.account.specs.Claim.{isTerminal, anyTerminal, messages, counts}
+use Rattle.account.specs.Claim.{isTerminal, anyTerminal, messages, countsMessage}
 use Rattle.account.proofs.Lives.{tick-fin, ticked-frame, cancel-frame, Frame}
 use Rattle.account.proofs.Finish.{ends-by}
 use Rattle.account.proofs.Timing.{low-next, low-timeout, low-grace, low-settle, low-abandon}
@@ -222,10 +222,10 @@ abbrev late-order : (det st cm e0 e1 : Bool) → Stream → Bool → Choice
 late-order det st cm e0 e1 x cr = order false det false cr st cm false (true && not e0) (true && not e1) (true && true && ((true && (e0 || det)) && (true && (e1 || det))) && true) x 0 0
 
 choose-late : (s : Runner) (n : ℕ) (d : Dry s) (k : AllKnown s) → s .flags .finished ≡ false → s .input .closed ≡ true
-    → choose s n ≡ late-order (s .flags .detached) (s .flags .«started_message») (s .input .«closed_message») (out0 s .ended) (out1 s .ended) (streamAt (s .turn)) (s .flags .credited)
+    → choose s n ≡ late-order (s .flags .detached) (s .flags .«started_message») (s .input .«closed_message») (outOf Stdout s .ended) (outOf Stderr s .ended) (streamAt (s .turn)) (s .flags .credited)
 unfolding choose isReady
 choose-late s n d k f i =
-    rw (no-send s n (streamAt (s .turn)) d, no-send s n (other (streamAt (s .turn))) d, f, i, k .launch, k .exit, k .closed Stdout, k .closed Stderr, k .settled, d Stdout .none, d Stderr .none) refl
+    rw (no-send s n (streamAt (s .turn)) d, no-send s n (following (streamAt (s .turn))) d, f, i, k .launch, k .exit, k .closed Stdout, k .closed Stderr, k .settled, d Stdout .none, d Stderr .none) refl
 
 pub data Progress (s : Runner) (n : ℕ) : Type 0 where
   terminal : choose s n ≡ Choice.Terminal → Progress s n
@@ -242,15 +242,12 @@ near-closed : (s : Runner) → s .input .«closed_message» ≡ true → suc (le
 unfolding effect
 near-closed s e = rw e (omega arith)
 
-near-end0 : (s : Runner) → (out0 s) .ended ≡ false → suc (left-over (effect (Choice.End Stdout) s)) ≤ left-over s
+near-end : (x : Stream) (s : Runner) → outOf x s .ended ≡ false → suc (left-over (effect (Choice.End x) s)) ≤ left-over s
 unfolding effect
-near-end0 s e = rw e (omega arith)
+near-end Stdout s e = rw e (omega arith)
+near-end Stderr s e = rw e (omega arith)
 
-near-end1 : (s : Runner) → (out1 s) .ended ≡ false → suc (left-over (effect (Choice.End Stderr) s)) ≤ left-over s
-unfolding effect
-near-end1 s e = rw e (omega arith)
-
-progress-by : (s : Runner) (n : ℕ) (det st cm e0 e1 : Bool) → s .flags .«started_message» ≡ st → s .input .«closed_message» ≡ cm → (out0 s) .ended ≡ e0 → (out1 s) .ended ≡ e1
+progress-by : (s : Runner) (n : ℕ) (det st cm e0 e1 : Bool) → s .flags .«started_message» ≡ st → s .input .«closed_message» ≡ cm → outOf Stdout s .ended ≡ e0 → outOf Stderr s .ended ≡ e1
     → choose s n ≡ late-order det st cm e0 e1 (streamAt (s .turn)) (s .flags .credited) → Progress s n
 unfolding order ifElse
 progress-by s n true st cm true true p2 p3 p4 p5 e = terminal e
@@ -259,15 +256,15 @@ progress-by s n true st cm false true p2 p3 p4 p5 e = terminal e
 progress-by s n true st cm false false p2 p3 p4 p5 e = terminal e
 progress-by s n false true cm e0 e1 p2 p3 p4 p5 e = near s n Choice.Started e (near-started s p2)
 progress-by s n false false true e0 e1 p2 p3 p4 p5 e = near s n Choice.InputClosed e (near-closed s p3)
-progress-by s n false false false false e1 p2 p3 p4 p5 e = near s n (Choice.End Stdout) e (near-end0 s p4)
-progress-by s n false false false true false p2 p3 p4 p5 e = near s n (Choice.End Stderr) e (near-end1 s p5)
+progress-by s n false false false false e1 p2 p3 p4 p5 e = near s n (Choice.End Stdout) e (near-end Stdout s p4)
+progress-by s n false false false true false p2 p3 p4 p5 e = near s n (Choice.End Stderr) e (near-end Stderr s p5)
 progress-by s n false false false true true p2 p3 p4 p5 e = terminal e
 
 progress-of : (s : Runner) (n : ℕ) → s .flags .finished ≡ false → s .input .closed ≡ true → Either ⊥ (Dry s) → Either ⊥ (AllKnown s) → Progress s n
 progress-of s n f i (left p) k = absurd p
 progress-of s n f i (right d) (left p) = absurd p
 progress-of s n f i (right d) (right k) =
-    progress-by s n (s .flags .detached) (s .flags .«started_message») (s .input .«closed_message») ((out0 s) .ended) ((out1 s) .ended) refl refl refl refl (choose-late s n d k f i)
+    progress-by s n (s .flags .detached) (s .flags .«started_message») (s .input .«closed_message») (outOf Stdout s .ended) (outOf Stderr s .ended) refl refl refl refl (choose-late s n d k f i)
 
 pub progress : (s : Runner) (n : ℕ) → After s → s .flags .finished ≡ false → Progress s n
 progress s n h f = progress-of s n f (h .0) (h .2) (h .3)
@@ -286,7 +283,7 @@ data Step (s : State) (c : Call) (m : ℕ) : Type 0 where
   came : isTerminal (answer s c) ≡ true → Step s c m
   goes : After (next s c .runner) → next s c .runner .flags .finished ≡ false → suc (left-over (next s c .runner)) ≤ m → Step s c m
 
-counted : (c : Call) (m : ℕ) → Either (counts c m ≡ m) ((b : List ℕ) × (c ≡ Call.nextMessage b))
+counted : (c : Call) (m : ℕ) → Either (countsMessage c m ≡ m) ((b : List ℕ) × (c ≡ Call.nextMessage b))
 counted (Call.credit k p u) m = left refl
 counted (Call.input k b) m = left refl
 counted (Call.endInput k) m = left refl
@@ -319,7 +316,7 @@ counted Call.key m = left refl
 counted Call.limits m = left refl
 counted (Call.nextMessage b) m = right (b, refl)
 
-step-other : (c : Call) (s : State) (m : ℕ) → counts c m ≡ m → After (s .runner) → s .runner .flags .finished ≡ false → suc (left-over (s .runner)) ≤ counts c m → next s c .runner .flags .finished ≡ false → Step s c m
+step-other : (c : Call) (s : State) (m : ℕ) → countsMessage c m ≡ m → After (s .runner) → s .runner .flags .finished ≡ false → suc (left-over (s .runner)) ≤ countsMessage c m → next s c .runner .flags .finished ≡ false → Step s c m
 step-other c s m q h f l e =
     let g = low-next Gone gone-lower c s h in let x = g .less no-gone in goes (g .hold) e (omega arith)
 
@@ -331,13 +328,13 @@ step-message b s m h f l e = go (progress (s .runner) (length b) h f)
     go (terminal p) = came (said-it s b p)
     go (nearer x) = goes (low-next Gone gone-lower (Call.nextMessage b) s h .hold) e (omega arith)
 
-step-by : (c : Call) (s : State) (m : ℕ) → Either (counts c m ≡ m) ((b : List ℕ) × (c ≡ Call.nextMessage b)) → After (s .runner) → s .runner .flags .finished ≡ false → suc (left-over (s .runner)) ≤ counts c m
+step-by : (c : Call) (s : State) (m : ℕ) → Either (countsMessage c m ≡ m) ((b : List ℕ) × (c ≡ Call.nextMessage b)) → After (s .runner) → s .runner .flags .finished ≡ false → suc (left-over (s .runner)) ≤ countsMessage c m
     → next s c .runner .flags .finished ≡ false → Step s c m
 step-by c s m (left q) h f l e = step-other c s m q h f l e
 step-by c s m (right p) h f l e =
-    subst⁻¹ (λ (c : Call). suc (left-over (s .runner)) ≤ counts c m → next s c .runner .flags .finished ≡ false → Step s c m) (p .1) (step-message (p .0) s m h f) l e
+    subst⁻¹ (λ (c : Call). suc (left-over (s .runner)) ≤ countsMessage c m → next s c .runner .flags .finished ≡ false → Step s c m) (p .1) (step-message (p .0) s m h f) l e
 
-step : (c : Call) (s : State) (m : ℕ) → After (s .runner) → s .runner .flags .finished ≡ false → suc (left-over (s .runner)) ≤ counts c m → Step s c m
+step : (c : Call) (s : State) (m : ℕ) → After (s .runner) → s .runner .flags .finished ≡ false → suc (left-over (s .runner)) ≤ countsMessage c m → Step s c m
 step c s m h f l = go (next s c .runner .flags .finished) refl
   where
     go : (b : Bool) → next s c .runner .flags .finished ≡ b → Step s c m
@@ -361,7 +358,7 @@ before-list sum [] s h = h
 before-list sum (c ∷ cs) s h = before-list sum cs (next s c) (low-next (Soon sum) (soon-lower sum) c s h .hold)
 
 pub bits : (s : Runner) → left-over s ≤ 4
-bits s = let a = small (s .flags .«started_message») in let b = small (s .input .«closed_message») in let c = small (not (out0 s .ended)) in let d = small (not (out1 s .ended)) in omega arith
+bits s = let a = small (s .flags .«started_message») in let b = small (s .input .«closed_message») in let c = small (not (outOf Stdout s .ended)) in let d = small (not (outOf Stderr s .ended)) in omega arith
   where
     small : (b : Bool) → bit b ≤ 1
     small true = omega arith

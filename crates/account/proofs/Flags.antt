@@ -18,11 +18,11 @@ pub and-both : (a b : Bool) → a ≡ true → b ≡ true → (a && b) ≡ true
 and-both true b p q = q
 and-both false b p q = p
 
--- five flags that all hold
-pub five : (a b c d e : Bool) → (a && b && (c && d) && e) ≡ true → (a ≡ true) × (b ≡ true) × (c ≡ true) × (d ≡ true) × (e ≡ true)
-five a b c d e h =
-    let h4 = and-l (a && b && (c && d)) e h in let h3 = and-r (a && b) (c && d) h4 in let h2 = and-l (a && b) (c && d) h4 in
-    (and-l a b h2, and-r a b h2, and-l c d h3, and-r c d h3, and-r (a && b && (c && d)) e h)
+-- four flags that all hold
+pub four : (a b c d : Bool) → (a && b && c && d) ≡ true → (a ≡ true) × (b ≡ true) × (c ≡ true) × (d ≡ true)
+four a b c d h =
+    let h3 = and-l (a && b && c) d h in let h2 = and-l (a && b) c h3 in
+    (and-l a b h2, and-r a b h2, and-r (a && b) c h3, and-r (a && b && c) d h)
 
 pub or-left : (a b : Bool) → a ≡ true → (a || b) ≡ true
 or-left true b e = refl

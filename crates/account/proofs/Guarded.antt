@@ -16,6 +16,7 @@ use Rattle.exec.specs.declared.Pool.the-variants as Pool
 use Rattle.exec.specs.declared.PoolIndex.{PoolIndex}
 use Rattle.exec.specs.declared.PoolIndex.the-variants as PoolIndex
 use Rattle.exec.specs.declared.Received.{Received}
+use Rattle.exec.specs.declared.Reply.the-variants as Reply
 use Rattle.exec.specs.declared.Stream.{Stream}
 use Rattle.exec.specs.Key.{admits}
 use Rattle.exec.specs.Limits.{cost, offChunk, outputPool}
@@ -35,7 +36,7 @@ use Rattle.runner.specs.Calls.{askedFor}
 use Rattle.runner.specs.Life.{isLate, ticked, cancelAnswer}
 use Rattle.runner.specs.Message.{choose, payload, saidFor, bufferAfter, wish}
 use Rattle.runner.specs.MessageLaws.{Sendable, is-sendable}
-use Rattle.runner.specs.Range.{isGood, bytesDo}
+use Rattle.runner.specs.Range.{stop, bytesDo}
 use Rattle.runner.specs.RangeLaws.{Good, is-good}
 use Rattle.runner.specs.State.{creditAt, outOf, base}
 use Rattle.runner.specs.Streams as Streams
@@ -49,8 +50,8 @@ use Rattle.account.proofs.Plain.{said}
 
 -- ---- what is left
 
-pub next-is : (s : State) (c : Call) → isGood (s .runner) (Plain.enough s c) ≡ true → Step.next s c ≡ Plain.next s c
-unfolding Plain.enough Plain.next Step.next Calls.credit Calls.input Calls.endInput Calls.cancel Calls.launched Calls.output Calls.discarded Calls.outputClosed Calls.outputFailed Calls.outputHungUp Calls.inputWritten Calls.inputClosed Calls.exited Calls.settled Calls.dropped Calls.reset Calls.disconnect Calls.tick Calls.nextRequest Calls.nextMessage
+pub next-is : (s : State) (c : Call) → stop (s .runner) (Plain.enough s c) ≡ Reply.Ok → Step.next s c ≡ Plain.next s c
+unfolding Plain.enough Plain.next Step.next Streams.received Streams.outputTook Calls.credit Calls.input Calls.endInput Calls.cancel Calls.launched Calls.output Calls.discarded Calls.outputClosed Calls.outputFailed Calls.outputHungUp Calls.inputWritten Calls.inputClosed Calls.exited Calls.settled Calls.dropped Calls.reset Calls.disconnect Calls.tick Calls.nextRequest Calls.nextMessage
 next-is s Call.key g = refl
 next-is s Call.limits g = refl
 next-is s (Call.credit k p u) g = rw g refl
@@ -86,7 +87,7 @@ next-is s Call.highWater g = refl
 -- ---- what is answered
 
 -- the bytes of an output message that is chosen are as many as it says
-pub payload-length : (s : State) (buffer : List ℕ) (x : Stream) (n : ℕ) → isGood (s .runner) (bytesDo (s .runner .limits) (s .bytes)) ≡ true
+pub payload-length : (s : State) (buffer : List ℕ) (x : Stream) (n : ℕ) → stop (s .runner) (bytesDo (s .runner .limits) (s .bytes)) ≡ Reply.Ok
     → Choice.Output x n ≡ choose (s .runner) (length buffer) → length (payload (s .runner) x n (s .bytes)) ≡ n
 unfolding payload
 payload-length s buffer x n g e =
@@ -110,8 +111,8 @@ says-is (Choice.Output x n) r store buffer h =
     ap (λ (b : List ℕ). Call.Says (Call.Output x b)) (take-at (payload r x n store) (drop n buffer) n (h x n refl))
 says-is Choice.Terminal r store buffer h = refl
 
-pub answer-is : (s : State) (c : Call) → isGood (s .runner) (Plain.enough s c) ≡ true → Step.answer s c ≡ Plain.answer s c
-unfolding Plain.enough Plain.answer Step.answer Calls.key Calls.limits Calls.credit Calls.input Calls.endInput Calls.cancel Calls.launched Calls.readAllowance Calls.output Calls.discarded Calls.outputClosed Calls.outputFailed Calls.outputHungUp Calls.pendingInput Calls.inputWritten Calls.inputClosed Calls.exited Calls.settled Calls.dropped Calls.reset Calls.disconnect Calls.tick Calls.deadline Calls.nextRequest Calls.nextMessage Calls.isFinished Calls.isDetached Calls.awaitsSettlement Calls.memoryBound Calls.buffered Calls.highWater
+pub answer-is : (s : State) (c : Call) → stop (s .runner) (Plain.enough s c) ≡ Reply.Ok → Step.answer s c ≡ Plain.answer s c
+unfolding Plain.enough Plain.answer Step.answer Streams.received Streams.outputTook Calls.key Calls.limits Calls.credit Calls.input Calls.endInput Calls.cancel Calls.launched Calls.readAllowance Calls.output Calls.discarded Calls.outputClosed Calls.outputFailed Calls.outputHungUp Calls.pendingInput Calls.inputWritten Calls.inputClosed Calls.exited Calls.settled Calls.dropped Calls.reset Calls.disconnect Calls.tick Calls.deadline Calls.nextRequest Calls.nextMessage Calls.isFinished Calls.isDetached Calls.awaitsSettlement Calls.memoryBound Calls.buffered Calls.highWater
 answer-is s Call.key g = rw g refl
 answer-is s Call.limits g = rw g refl
 answer-is s (Call.credit k p u) g = rw g refl
@@ -137,7 +138,7 @@ answer-is s (Call.tick now) g = rw g refl
 answer-is s Call.deadline g = rw g refl
 answer-is s Call.nextRequest g = rw g refl
 answer-is s (Call.nextMessage buffer) g =
-    let e : isGood (s .runner) (bytesDo (s .runner .limits) (s .bytes)) ≡ true = g in
+    let e : stop (s .runner) (bytesDo (s .runner .limits) (s .bytes)) ≡ Reply.Ok = g in
     rw e (says-is (choose (s .runner) (length buffer)) (s .runner) (s .bytes) buffer (λ x n o. payload-length s buffer x n e o))
 answer-is s Call.isFinished g = rw g refl
 answer-is s Call.isDetached g = rw g refl
@@ -271,5 +272,5 @@ calm s Call.memoryBound = refl
 calm s Call.buffered = refl
 calm s Call.highWater = refl
 
-pub not-stopped : (s : State) (c : Call) → isGood (s .runner) (Plain.enough s c) ≡ true → isStop (Step.answer s c) ≡ false
+pub not-stopped : (s : State) (c : Call) → stop (s .runner) (Plain.enough s c) ≡ Reply.Ok → isStop (Step.answer s c) ≡ false
 not-stopped s c g = ap isStop (answer-is s c g) ∙ calm s c

@@ -22,8 +22,12 @@ use Rattle.credit.specs.Inbox.{inboxBase}
 use Rattle.credit.specs.Range.{inboxFits}
 use Rattle.credit.specs.RangeLaws as Fits
 use Rattle.credit.specs.Sender.{creditFits}
+use Rattle.exec.specs.declared.Receipt.the-variants as Receipt
+use Rattle.exec.specs.declared.Received.{Received}
+use Rattle.exec.specs.declared.Received.the-variants as Received
 use Rattle.stdio.specs.declared.input.Input.{Input}
-use Rattle.stdio.specs.Input.{pendingInput, receiveAnswer, asked-of, isKept, receiveInput, receiveBytes, closeWhenTaken, isTaken, peerEnds, popIn, endInput, writtenInput}
+use Rattle.stdio.specs.Input as In
+use Rattle.stdio.specs.Input.{pendingInput, receiveAnswer, isKept, receiveInput, receiveBytes, closeWhenTaken, isUsedUp, peerEnds, popIn, endInput, writtenInput}
 use Rattle.stdio.specs.Output.{keeps as keepsOf, keeps-fit}
 use Rattle.stdio.specs.Outputs.{outputsFit}
 use Rattle.runner.specs.declared.answer.Request.the-variants as Request
@@ -35,8 +39,8 @@ use Rattle.runner.specs.declared.runner.Runner.{Runner}
 use Rattle.runner.specs.Life.{closeRunnerInput, ticked, cancelNext, launchedNext, exitedNext, settledNext, detachNext}
 use Rattle.runner.specs.Message.{choose, effect, outputSent, outputPaid, wish, wishEffect}
 use Rattle.runner.specs.Range.{inRange, fresh}
-use Rattle.runner.specs.State.{outOf, base, credit0, credit1}
-use Rattle.runner.specs.Streams.{pendingOf, isShut, room, outputNext, outputBytes, discardedNext, closedNext, failedNext, hungUpNext, creditNext, inputAnswer, inputNext, inputBytes, endNext, writtenNext}
+use Rattle.runner.specs.State.{outOf, base, creditsFit}
+use Rattle.runner.specs.Streams.{pendingOf, isShut, room, outputNext, outputStore, discardedNext, closedNext, failedNext, hungUpNext, creditNext, inputAnswer, inputNext, inputStore, endNext, writtenNext}
 use Rattle.account.specs.Call as Call
 use Rattle.account.specs.Call.{Conf, Call, Answer}
 use Rattle.account.specs.Claim.{Opens, IsPrefix}
@@ -86,16 +90,18 @@ within : (s : State) → Fine s → Within (s .runner .limits) (s .runner .input
 unfolding inRange
 within s h =
     let r : Runner = s .runner in
-    let o : Bool = outputsFit (r .limits .chunk) (r .outputs) && (creditFits (credit0 (r .credits)) && creditFits (credit1 (r .credits))) in
+    let o : Bool = outputsFit (r .limits .chunk) (r .outputs) && creditsFit (r .credits) in
     let i : Bool = inboxFits (r .limits) (r .input .window) (r .input .inbox) in
     let f : i ≡ true = and-r o i (and-l (o && i) (leb (r .turn) 1) (in-range (s .lengths) r (h .sound .ranged))) in
     record { area = h .sound .roomy; begins = h .sound .ranged .2 .1; most = Fits.in-range (r .limits) (r .input .window) (r .input .inbox) f .most }
 
 -- ---- bytes from the peer
 
--- an answer is Applied exactly where the bytes are kept
-applied-is : (l : Limits) (i : Input) (n : ℕ) → isApplied (receivedAs (receiveAnswer l i n)) ≡ isKept l i n
-applied-is l i n = asked-of (λ x. isApplied (receivedAs x)) (λ x. refl) not refl refl l i n
+applied-is : (x : Received) → isApplied (receivedAs x) ≡ In.isApplied x
+applied-is (Received.Refused x) = refl
+applied-is (Received.Receipt Receipt.Applied) = refl
+applied-is (Received.Receipt Receipt.Stale) = refl
+applied-is (Received.Receipt Receipt.Late) = refl
 
 receive-flow : (l : Limits) (i : Input) (b st : List ℕ) (k : Bool) → isKept l i (length b) ≡ k → Within l i st
     → (k ≡ true → i .inbox .length + length b ≤ inboxSize l)
@@ -108,15 +114,15 @@ receive-flow l i b st true e w m =
     rw e (on (sym (z ∙ ap (λ (x : List ℕ). queue l i st ++ x) (take-length b))) (λ c. (c, refl)))
 
 input-flow : (a : Admission) (s : State) (b : List ℕ) (f : Bool) → s .runner .flags .finished ≡ f → Fine s
-    → Flow (s .runner .limits) (s .runner .input) (inputNext a (s .runner) (length b) .input) (s .bytes) (inputBytes a (s .runner) b (s .bytes)) []
+    → Flow (s .runner .limits) (s .runner .input) (inputNext a (s .runner) (length b) .input) (s .bytes) (inputStore a (s .runner) b (s .bytes)) []
     (cond (isApplied (receivedAs (inputAnswer a (s .runner) (length b)))) b [])
-unfolding inputNext inputBytes inputAnswer
+unfolding inputNext inputStore inputAnswer
 input-flow (Admission.Refused x) s b f e h = still (s .runner .limits) (s .runner .input) (s .bytes)
 input-flow Admission.Stale s b f e h = still (s .runner .limits) (s .runner .input) (s .bytes)
 input-flow Admission.Own s b true e h = rw e (still (s .runner .limits) (s .runner .input) (s .bytes))
 input-flow Admission.Own s b false e h =
     let l = s .runner .limits in let i = s .runner .input in
-    rw (e, applied-is l i (length b)) (receive-flow l i b (s .bytes) (isKept l i (length b)) refl (within s h) (kept-room b s (h .sound .ranged)))
+    rw (e, applied-is (receiveAnswer l i (length b))) (receive-flow l i b (s .bytes) (isKept l i (length b)) refl (within s h) (kept-room b s (h .sound .ranged)))
 
 -- ---- bytes to the workload
 
@@ -134,7 +140,7 @@ written-flow l i st lengths n w = written-if l i st lengths n (i .closed) refl w
 
 ended-if : (l : Limits) (i : Input) (st : List ℕ) (b : Bool) → Flow l i (cond b i (closeWhenTaken (peerEnds i))) st st [] []
 ended-if l i st true = still l i st
-ended-if l i st false = on (append-nil (queue l i st)) (λ e. (ap (λ (x : Bool). isTaken (peerEnds i) || x) e ∙ or-true (isTaken (peerEnds i)), refl))
+ended-if l i st false = on (append-nil (queue l i st)) (λ e. (ap (λ (x : Bool). isUsedUp (peerEnds i) || x) e ∙ or-true (isUsedUp (peerEnds i)), refl))
 
 ended-flow : (l : Limits) (i : Input) (st : List ℕ) → Flow l i (endInput i) st st [] []
 unfolding endInput
@@ -150,8 +156,8 @@ end-flow Admission.Own r st false e = rw e (ended-flow (r .limits) (r .input) st
 -- ---- the output's rings are apart from the inbox's
 
 output-flow : (x : Stream) (b : List ℕ) (s : State) → Fine s
-    → Flow (s .runner .limits) (s .runner .input) (s .runner .input) (s .bytes) (outputBytes (s .runner) x b (s .bytes)) [] []
-unfolding outputBytes
+    → Flow (s .runner .limits) (s .runner .input) (s .runner .input) (s .bytes) (outputStore (s .runner) x b (s .bytes)) [] []
+unfolding outputStore
 output-flow x b s h =
     let r = s .runner in let c : ℕ = r .limits .chunk in let w = within s h in
     let k : ℕ = keepsOf (isShut x r) (outOf x r .discarding) (room x r) (length b) in
@@ -159,7 +165,7 @@ output-flow x b s h =
     let kr = keeps-fit (isShut x r) (outOf x r .discarding) (room x r) (length b) in
     let i = h .sound .ranged .0 x .inside in let m = h .sound .ranged .0 x .within in let a = w .area in let g = w .begins in let d = base-behind x c in
     let z = write-other (base x c) c (outOf x r .start) (outOf x r .queued) b k (s .bytes) (omega arith) (omega arith) has (omega arith)
-    (2 * c) (inboxSize (r .limits)) (r .input .inbox .start) (r .input .inbox .length) a (omega arith) (w .most) (inr d) in
+    (inboxBase (r .limits)) (inboxSize (r .limits)) (r .input .inbox .start) (r .input .inbox .length) a (omega arith) (w .most) (inr d) in
     on (append-nil (queue (r .limits) (r .input) (s .bytes)) ∙ sym z) (λ e. (e, refl))
 
 -- ---- messages and requests

@@ -16,7 +16,7 @@ use Rattle.credit.specs.Inbox.{newInbox}
 use Rattle.stdio.specs.declared.input.Input.{Input}
 use Rattle.stdio.specs.Input.{closeInput}
 use Rattle.runner.specs.declared.runner.Runner.{Runner}
-use Rattle.runner.specs.Life.{awaitsLaunch, isCleanedUp, closeRunnerInput, endGrace, giveUp, abandonLaunch, abandonOpenStreams, beginTermination, passGrace, terminate, passTimeout, passSettlement, giveUpUnlessClean, passGiveUp, dropLaunch, dropStreams, passAbandonment, fire, ticked, isLate as tooLate, cancelNext, noteStarted, noteLaunch, launchedNext, noteExit, isOver, noteExitOnce, timeoutCleared, exitedNext, detached, giveUpSoon, cutOff, cutOffOnce, detachNext}
+use Rattle.runner.specs.Life.{awaitsLaunch, isCleanedUp, closeRunnerInput, endGrace, giveUp, abandonLaunch, abandonOpenStreams, beginTermination, passGrace, terminate, passTimeout, passSettlement, giveUpUnlessClean, passGiveUp, dropLaunch, dropStreams, passAbandonment, fire, ticked, isLate as tooLate, cancelNext, noteStarted, noteLaunch, launchedNext, noteExit, isOver, noteExitOnce, timeoutCleared, exitedNext, silenced, giveUpSoon, cutOff, cutOffOnce, detachNext}
 use Rattle.lifecycle.specs.declared.life.Launch.the-variants as Launch
 use Rattle.lifecycle.specs.Life.{isFenced}
 use Rattle.lifecycle.specs.Setters.{setGiveUpAt, setLaunch}
@@ -85,8 +85,8 @@ module _ (r : Runner) where
   unfolding closeRunnerInput
   close = close-moves (r .input) (r .flags .detached)
 
-  told : Keeps (detached r)
-  unfolding detached
+  told : Keeps (silenced r)
+  unfolding silenced
   told = same refl refl refl
 
   soon : (now : ℕ) → Keeps (giveUpSoon r now)
@@ -150,9 +150,9 @@ detaches r now c =
     let t = ticked r now in
     let u = terminate t now c in
     then-moves (ticks r now)
-    (either (t .input) (t .flags .finished || t .flags .detached) t (giveUpSoon (endGrace (detached u)) now) (keeps t)
+    (either (t .input) (t .flags .finished || t .flags .detached) t (giveUpSoon (endGrace (silenced u)) now) (keeps t)
     (then-moves (terminates t now c)
-    (then-moves (told u) (then-moves (ended (detached u)) (soon (endGrace (detached u)) now)))))
+    (then-moves (told u) (then-moves (ended (silenced u)) (soon (endGrace (silenced u)) now)))))
 
 pub cancels : (a : Admission) (r : Runner) (now : ℕ) (c : Cause) → Keeps r (cancelNext a r now c)
 unfolding cancelNext

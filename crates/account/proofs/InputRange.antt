@@ -18,7 +18,10 @@ use Rattle.ring.specs.Frames.{restOf, sum, Popped, popped}
 use Rattle.ring.specs.FrameLaws.{rest-sum, pop-rest, pop-most, pop-length, push-is-write}
 use Rattle.credit.specs.Inbox.{framesPushed, framesPopped, lengthsPushed, freedBy, lengthsPopped, firstAfter, pushed}
 use Rattle.stdio.specs.declared.input.Input.{Input}
-use Rattle.stdio.specs.Input.{closeInput, receiveInput, receiveLengths, isPaid, passed, endInput, writtenInput, writtenLengths, closeWhenTaken, peerEnds, popIn}
+use Rattle.exec.specs.declared.Receipt.the-variants as Receipt
+use Rattle.exec.specs.declared.Received.{Received}
+use Rattle.exec.specs.declared.Received.the-variants as Received
+use Rattle.stdio.specs.Input.{closeInput, receiveAnswer, isReceipt, isApplied, receiveInput, receiveLengths, isPaid, passed, endInput, writtenInput, writtenLengths, closeWhenTaken, peerEnds, popIn}
 use Rattle.stdio.proofs.Receives.{chunk-fits}
 
 -- ---- frames: the bytes they hold, and what a pop leaves
@@ -198,16 +201,17 @@ receivedIf pays keeps l n i = record {
   «closed_message» = i .«closed_message»;
 }
 
-received-if : (x c : Bool) (l : Limits) (lengths : List ℕ) (n : ℕ) (i : Input) → (x ≡ true → Paid l n i) → InRange l lengths i
-    → InRange l (cond (x && not c) (lengthsPushed (l .input .unit) (l .input .size) n (i .inbox) lengths) lengths) (receivedIf x (x && not c) l n i)
-received-if true true l lengths n i p h = (pay-by (l .input .unit) l lengths n i (h .0), h .1)
-received-if true false l lengths n i p h = let q = p refl in (push-by (l .input .unit) l lengths n i (q .small) (q .enough) (h .0), h .1)
-received-if false c l lengths n i p h = h
+received-if : (x : Received) (l : Limits) (lengths : List ℕ) (n : ℕ) (i : Input) → (isReceipt x ≡ true → Paid l n i) → InRange l lengths i
+    → InRange l (cond (isApplied x) (lengthsPushed (l .input .unit) (l .input .size) n (i .inbox) lengths) lengths) (receivedIf (isReceipt x) (isApplied x) l n i)
+received-if (Received.Refused y) l lengths n i p h = h
+received-if (Received.Receipt Receipt.Applied) l lengths n i p h = let q = p refl in (push-by (l .input .unit) l lengths n i (q .small) (q .enough) (h .0), h .1)
+received-if (Received.Receipt Receipt.Stale) l lengths n i p h = (pay-by (l .input .unit) l lengths n i (h .0), h .1)
+received-if (Received.Receipt Receipt.Late) l lengths n i p h = (pay-by (l .input .unit) l lengths n i (h .0), h .1)
 
 pub input-if : (b : Bool) (l : Limits) (lengths : List ℕ) (n : ℕ) (i : Input) → InRange l lengths i
     → InRange l (cond b (receiveLengths l i n lengths) lengths) (cond b (receiveInput l i n) i)
 unfolding receiveLengths receiveInput
-input-if true l lengths n i h = received-if (isPaid l i n) (i .closed) l lengths n i (paid l i n) h
+input-if true l lengths n i h = received-if (receiveAnswer l i n) l lengths n i (paid l i n) h
 input-if false l lengths n i h = h
 
 pub end-if : (b : Bool) (l : Limits) (lengths : List ℕ) (i : Input) → InRange l lengths i → InRange l lengths (cond b (endInput i) i)

@@ -15,7 +15,7 @@ use Rattle.exec.specs.Time.{due}
 use Rattle.account.specs.Call as Call
 use Rattle.account.specs.Call.{Call, Answer, Message}
 use Rattle.account.specs.Account
-use Rattle.account.specs.Account.{Account, Replay, Tally, mk, marked, unlessClosed, takenBy, sentBy, tallyOf, count, heard, hear, isRefused, adds, add}
+use Rattle.account.specs.Account.{Account, Replay, Tally, mk, marked, markedUnless, takenBy, sentBy, tallyOf, count, heard, hear, isRefused, adds, add}
 use Rattle.account.proofs.Sides.{one-both, one-per, on-each, on-two}
 use Rattle.account.proofs.Flags.{either}
 
@@ -56,11 +56,11 @@ exit-closed false now r = refl
 -- ---- each call
 
 module _ (P : Stream → Bool → Tally → Type 0) (c : Call) (r : Answer) (h : Stands P c r) where
-  given : (x : Stream) (k : Bool) (t : Tally) → P x k t → P x true (unlessClosed k t)
+  given : (x : Stream) (k : Bool) (t : Tally) → P x k t → P x true (markedUnless k t)
   given x true t p = h .marks x false true t p
   given x false t p = h .lost x false t p
 
-  left : (x : Stream) (k hung : Bool) (t : Tally) → P x k t → P x (k || not hung) (unlessClosed (k || hung) t)
+  left : (x : Stream) (k hung : Bool) (t : Tally) → P x k t → P x (k || not hung) (markedUnless (k || hung) t)
   left x true hung t p = h .marks x false true t p
   left x false true t p = h .marks x false false t p
   left x false false t p = h .lost x false t p
@@ -70,13 +70,13 @@ module _ (P : Stream → Bool → Tally → Type 0) (c : Call) (r : Answer) (h :
   giveUp-keeps false clean a p = p
   giveUp-keeps true true a p = p
   giveUp-keeps true false a p = λ x.
-      rw (one-both unlessClosed (a .rep .closed) (a .tallies) x, one-per (λ (y : Stream). true) x) (given x (one x (a .rep .closed)) (tallyOf x a) (p x))
+      rw (one-both markedUnless (a .rep .closed) (a .tallies) x, one-per (λ (y : Stream). true) x) (given x (one x (a .rep .closed)) (tallyOf x a) (p x))
 
   streams-keeps : (b : Bool) (a : Account) → All P a → All P (Account.abandonStreamsA b a)
   unfolding Account.abandonStreamsA
   streams-keeps false a p = p
   streams-keeps true a p = λ x.
-      rw (one-both unlessClosed (both _||_ (a .rep .closed) (a .rep .hung)) (a .tallies) x, one-both _||_ (a .rep .closed) (a .rep .hung) x, one-both (λ (k u : Bool). k || not u) (a .rep .closed) (a .rep .hung) x)
+      rw (one-both markedUnless (both _||_ (a .rep .closed) (a .rep .hung)) (a .tallies) x, one-both _||_ (a .rep .closed) (a .rep .hung) x, one-both (λ (k u : Bool). k || not u) (a .rep .closed) (a .rep .hung) x)
       (left x (one x (a .rep .closed)) (one x (a .rep .hung)) (tallyOf x a) (p x))
 
   abandon-keeps : (b : Bool) (a : Account) → All P a → All P (Account.abandonA b a)

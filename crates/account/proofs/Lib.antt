@@ -25,5 +25,7 @@ pub mod Session
 pub mod Tight
 pub mod InputFifo
 pub mod Records
+pub mod Spared
 pub mod Turn
 pub mod Refused
+pub mod TurnSession

@@ -9,6 +9,7 @@ use lib.ListN.{length, take}
 use Rattle.exec.specs.declared.Outcome.{Outcome}
 use Rattle.exec.specs.declared.Stream.{Stream}
 use Rattle.exec.specs.declared.Stream.the-variants.{Stdout, Stderr}
+use Rattle.exec.specs.Stream.{every-stream}
 use Rattle.exec.specs.Outcome.{isTruncated}
 use Rattle.ring.specs.RingLaws.{read-none}
 use Rattle.lifecycle.specs.Life.{exitKnown, isFenced, isSettled}
@@ -17,7 +18,8 @@ use Rattle.stdio.specs.Output.{newOutput, isDone, isDelivered}
 use Rattle.runner.specs.declared.runner.Runner.{Runner}
 use Rattle.runner.specs.Life.{awaitsLaunch, ticked, isReady, outcomeOf}
 use Rattle.runner.specs.Range as Range
-use Rattle.runner.specs.State.{out0, out1, outOf, base}
+use Rattle.stdio.specs.Outputs.{allDelivered}
+use Rattle.runner.specs.State.{outOf, base}
 use Rattle.account.specs.Call as Call
 use Rattle.account.specs.Call.{Conf, Call, Answer}
 use Rattle.account.specs.Step.{State}
@@ -31,7 +33,7 @@ use Rattle.account.proofs.Keeps.{add-keeps}
 use Rattle.account.proofs.Range.{RangedS, range-next, Lent, opened-range}
 use Rattle.account.proofs.Finish.{Ends, ends, ends-answer, ends-fin, no-more, silent, fin-stays, chosen-ready}
 use Rattle.account.proofs.Lives.{tick-inv}
-use Rattle.account.proofs.Flags.{and-l, and-r, five}
+use Rattle.account.proofs.Flags.{and-l, and-r, four}
 use borrow.Author.Tests.{not-true}
 use Rattle.account.proofs.EachCall.{InvS, Roomy, step-inv, roomy-next}
 
@@ -128,8 +130,9 @@ emptied o b e = not-true (ltb 0 (o .queued)) (and-r (o .closed) (not (ltb 0 (o .
 
 pub ready-delivered : (s : Runner) → isReady s ≡ true → (x : Stream) → isDelivered (s .flags .detached) (outOf x s) ≡ true
 unfolding isReady
-ready-delivered s e Stdout = five (not (awaitsLaunch s)) (exitKnown (s .life .exit)) (isDelivered (s .flags .detached) (out0 s)) (isDelivered (s .flags .detached) (out1 s)) (isSettled (s .life .settling) || isFenced (s .life .settling)) e .2
-ready-delivered s e Stderr = five (not (awaitsLaunch s)) (exitKnown (s .life .exit)) (isDelivered (s .flags .detached) (out0 s)) (isDelivered (s .flags .detached) (out1 s)) (isSettled (s .life .settling) || isFenced (s .life .settling)) e .3
+ready-delivered s e =
+    every-stream (λ (x : Stream). isDelivered (s .flags .detached) (outOf x s))
+    (four (not (awaitsLaunch s)) (exitKnown (s .life .exit)) (allDelivered (s .outputs) (s .flags .detached)) (isSettled (s .life .settling) || isFenced (s .life .settling)) e .2)
 
 ready-empty : (s : Runner) → isReady s ≡ true → (x : Stream) → ltb 0 (outOf x s .queued) ≡ false
 ready-empty s e x = emptied (outOf x s) (outOf x s .ended || s .flags .detached) (ready-delivered s e x)

@@ -23,11 +23,11 @@ use Rattle.lifecycle.specs.Life.{launchKnown, exitKnown, orLost, isFenced, isSe
 use Rattle.lifecycle.specs.Setters.{setTimeoutAt}
 use Rattle.stdio.specs.Output.{graceEnded, givenUp, abandoned}
 use Rattle.runner.specs.Life as Life
-use Rattle.runner.specs.Life.{awaitsLaunch, isCleanedUp, closeRunnerInput, endGrace, giveUp, abandonLaunch, abandonOpenStreams, beginTermination, passGrace, terminate, dropLaunch, ticked, noteExit, noteExitOnce, exitedNext, detached, giveUpSoon, cutOff, cutOffOnce, detachNext}
+use Rattle.runner.specs.Life.{awaitsLaunch, isCleanedUp, closeRunnerInput, endGrace, giveUp, abandonLaunch, abandonOpenStreams, beginTermination, passGrace, terminate, dropLaunch, ticked, noteExit, noteExitOnce, exitedNext, silenced, giveUpSoon, cutOff, cutOffOnce, detachNext}
 use Rattle.runner.specs.State.{withClocks, outOf, base}
 use Rattle.account.specs.Call.{Conf}
 use Rattle.account.specs.Account
-use Rattle.account.specs.Account.{Account, Replay, Tally, tallyOf, unlessClosed, mk, beginIf, begin, timeoutR, noTimeoutR, overdueR, settlingR, isSettledR, isFencedR, cleanedR, giveUpA, leaveR, abandonStreamsA, abandonA, tick1, tick3, tick4, tick5, tickA, cancelA, detachedR, detachR, detachA, exitR, exitA, reportedR}
+use Rattle.account.specs.Account.{Account, Replay, Tally, tallyOf, markedUnless, mk, beginIf, begin, timeoutR, noTimeoutR, overdueR, settlingR, isSettledR, isFencedR, cleanedR, giveUpA, leaveR, abandonStreamsA, abandonA, tick1, tick3, tick4, tick5, tickA, cancelA, detachedR, detachR, detachA, exitR, exitA, reportedR}
 use Rattle.account.proofs.Streams.{Good, end-grace, given-up, abandoned-by}
 use Rattle.account.proofs.Sides.{out-each, one-both, one-per}
 use Rattle.account.proofs.Stages.{graceIf, terminateIf, timeoutIf, giveUpIf, dropLaunchIf, abandonStreamsIf, abandonIf, stage1, stage2, stage3, stage4, stage5, tickIf, tick-is, cancelIf, late, detachIf, exitedIf, cancelNext}
@@ -182,7 +182,7 @@ cancel-frame Admission.Stale now c s = refl
 cancel-frame (Admission.Refused z) now c s = refl
 
 detachIf-frame : (f d : Bool) (now : ℕ) (c : Cause) (s : Runner) → frame (detachIf f d now c s) ≡ frame s
-unfolding endGrace detached giveUpSoon terminate
+unfolding endGrace silenced giveUpSoon terminate
 detachIf-frame true d now c s = refl
 detachIf-frame false true now c s = refl
 detachIf-frame false false now c s = terminate-frame (s .clocks .terminated) now c s
@@ -248,7 +248,7 @@ module _ (st : List ℕ) where
   giveUpIf-inv true true s a h = (refl, h .1)
   giveUpIf-inv true false s a h = (
     rw (given-exit (s .life .exit)) refl,
-    λ x. rw (out-each givenUp (s .outputs) x, one-both unlessClosed (rep s .closed) (a .tallies) x, one-per (λ (y : Stream). outOf y s .closed) x) (given-up st (base x (s .limits .chunk)) (s .limits .chunk) (outOf x s) (tallyOf x a) (h .1 x)),
+    λ x. rw (out-each givenUp (s .outputs) x, one-both markedUnless (rep s .closed) (a .tallies) x, one-per (λ (y : Stream). outOf y s .closed) x) (given-up st (base x (s .limits .chunk)) (s .limits .chunk) (outOf x s) (tallyOf x a) (h .1 x)),
   )
 
   cleaned-same : (s : Runner) → cleanedR (rep s) ≡ isCleanedUp s
@@ -273,7 +273,7 @@ module _ (st : List ℕ) where
   streams-inv false s a h = at-home s a h
   streams-inv true s a h = (
     refl,
-    λ x. rw (out-each abandoned (s .outputs) x, one-both unlessClosed (both _||_ (rep s .closed) (rep s .hung)) (a .tallies) x, one-both _||_ (rep s .closed) (rep s .hung) x, one-per (λ (y : Stream). outOf y s .closed) x, one-per (λ (y : Stream). outOf y s .«hung_up») x) (abandoned-by st (base x (s .limits .chunk)) (s .limits .chunk) (outOf x s) (tallyOf x a) (h .1 x)),
+    λ x. rw (out-each abandoned (s .outputs) x, one-both markedUnless (both _||_ (rep s .closed) (rep s .hung)) (a .tallies) x, one-both _||_ (rep s .closed) (rep s .hung) x, one-per (λ (y : Stream). outOf y s .closed) x, one-per (λ (y : Stream). outOf y s .«hung_up») x) (abandoned-by st (base x (s .limits .chunk)) (s .limits .chunk) (outOf x s) (tallyOf x a) (h .1 x)),
   )
 
   abandonIf-inv : (b : Bool) (s : Runner) (a : Account) → Inv st s a → Inv st (abandonIf b s) (abandonA b (home s a))
@@ -318,7 +318,7 @@ module _ (st : List ℕ) where
 
   detachIf-inv : (f d : Bool) (now : ℕ) (c : Cause) (s : Runner) (a : Account) → f ≡ false → Inv st s a
       → Inv st (detachIf f d now c s) (mk (detachR d now (a .rep)) (a .tallies))
-  unfolding endGrace detached giveUpSoon detachR
+  unfolding endGrace silenced giveUpSoon detachR
   detachIf-inv true d now c s a ff h = absurd (true≢false ff)
   detachIf-inv false true now c s a ff h = h
   detachIf-inv false false now c s a ff h =

@@ -20,12 +20,14 @@ use Rattle.stdio.specs.Input as In
 use Rattle.stdio.specs.Input.{closeWhenTaken, peerEnds, endInput}
 use Rattle.stdio.specs.Output.{graceEnded, givenUp, closedOut, failedOut, hungUp, lostOut, endedOut, askedOut, sentOut, keeps, intake}
 use Rattle.runner.specs.Life.{awaitsLaunch, isCleanedUp, endGrace, giveUp, dropLaunch}
-use Rattle.runner.specs.State.{out0, out1, outOf}
+use Rattle.exec.specs.Stream.{every-stream, sumOfStreams}
+use Rattle.stdio.specs.Outputs.{allClosed}
+use Rattle.runner.specs.State.{outOf}
 use Rattle.account.proofs.Streams.{blocked-by}
 use Rattle.account.proofs.Sides.{out-each}
 use Rattle.account.proofs.Stages.{dropLaunchIf, over}
 use Rattle.account.proofs.Lives.{given-exit}
-use Rattle.account.proofs.Flags.{or-right, five}
+use Rattle.account.proofs.Flags.{or-right, four}
 
 pub data Either (A B : Type 0) : Type 0 where
   left : A → Either A B
@@ -72,7 +74,7 @@ bit false = 0
 
 -- the Ends that are not told
 abbrev pub untold : Runner → ℕ
-untold s = bit (not (out0 s .ended)) + bit (not (out1 s .ended))
+untold s = sumOfStreams (λ (x : Stream). bit (not (outOf x s .ended)))
 
 -- the messages that may still come before Terminal
 abbrev pub left-over : Runner → ℕ
@@ -107,17 +109,13 @@ and-none false b = refl
 pub cleaned-known : (s : Runner) → isCleanedUp s ≡ true → AllKnown s
 cleaned-known s e =
     let l = launchKnown (s .life .launch) in
-    let p = five l (exitKnown (s .life .exit)) (out0 s .closed) (out1 s .closed) (isSettled (s .life .settling)) e in
+    let p = four l (exitKnown (s .life .exit)) (allClosed (s .outputs)) (isSettled (s .life .settling)) e in
     record {
       launch = no-wait l (not (s .flags .«gave_up»)) (not (s .flags .«launch_abandoned»)) (p .0);
       exit = p .1;
-      closed = shut;
-      settled = settled-over (s .life .settling) (p .4);
+      closed = every-stream (λ (x : Stream). outOf x s .closed) (p .2);
+      settled = settled-over (s .life .settling) (p .3);
     }
-  where
-    shut : (x : Stream) → outOf x s .closed ≡ true
-    shut Stdout = five (launchKnown (s .life .launch)) (exitKnown (s .life .exit)) (out0 s .closed) (out1 s .closed) (isSettled (s .life .settling)) e .2
-    shut Stderr = five (launchKnown (s .life .launch)) (exitKnown (s .life .exit)) (out0 s .closed) (out1 s .closed) (isSettled (s .life .settling)) e .3
 
 pub known-given : (s : Runner) → AllKnown (giveUp s)
 unfolding giveUp
@@ -194,7 +192,7 @@ kept-if true i j k p q = p
 kept-if false i j k p q = q
 
 kept-taken : (i j : Input) → j .closed ≡ true → j .«closed_message» ≡ i .«closed_message» → InKept i (closeWhenTaken j)
-kept-taken i j e m = (or-right (In.isTaken j) (j .closed) e, m)
+kept-taken i j e m = (or-right (In.isUsedUp j) (j .closed) e, m)
 
 pub kept-ended : (i : Input) → i .closed ≡ true → InKept i (endInput i)
 unfolding endInput

@@ -16,7 +16,7 @@ use Rattle.runner.specs.Life.{closeRunnerInput, cancelAnswer, cancelNext, launc
 use Rattle.runner.specs.Message.{choose, effect, payload, wish, wishEffect}
 use Rattle.runner.specs.Range.{bytesDo, lengthsDo, fresh}
 use Rattle.runner.specs.State.{buffered}
-use Rattle.runner.specs.Streams.{outputTaken, outputNext, outputBytes, readAllowanceOf, discardedNext, closedNext, failedNext, hungUpNext, creditAnswer, creditNext, inputAnswer, inputNext, inputBytes, inputLengths, endAnswer, endNext, pendingOf, writtenNext, writtenLengths}
+use Rattle.runner.specs.Streams.{outputTaken, outputNext, outputStore, readAllowanceOf, discardedNext, closedNext, failedNext, hungUpNext, creditAnswer, creditNext, inputAnswer, inputNext, inputStore, inputLengths, endAnswer, endNext, pendingOf, writtenNext, writtenLengths}
 use Rattle.account.specs.Call as Call
 use Rattle.account.specs.Call.{Conf, Call, Answer, Done}
 use Rattle.account.specs.Step.{State, receivedAs, asks, onRunner}
@@ -35,7 +35,7 @@ next s (Call.credit k p u) =
     onRunner (creditNext (admits (s .runner .key) k) (outputPool (s .runner .limits .shared) p) (s .runner) u) s
 next s (Call.input k b) = record {
   runner = inputNext (admits (s .runner .key) k) (s .runner) (length b);
-  bytes = inputBytes (admits (s .runner .key) k) (s .runner) b (s .bytes);
+  bytes = inputStore (admits (s .runner .key) k) (s .runner) b (s .bytes);
   lengths = inputLengths (admits (s .runner .key) k) (s .runner) (length b) (s .lengths);
 }
 next s (Call.endInput k) = onRunner (endNext (admits (s .runner .key) k) (s .runner)) s
@@ -43,7 +43,7 @@ next s (Call.cancel now k c) = onRunner (cancelNext (admits (s .runner .key) k) 
 next s (Call.launched x) = onRunner (launchedNext (s .runner) x) s
 next s (Call.output x b) = record {
   runner = outputNext (s .runner) x (length b);
-  bytes = outputBytes (s .runner) x b (s .bytes);
+  bytes = outputStore (s .runner) x b (s .bytes);
   lengths = s .lengths;
 }
 next s (Call.discarded x n) = onRunner (discardedNext (s .runner) x n) s

@@ -1,5 +1,5 @@
 -- From open on no state is out of range: what 12 asks holds after every list of calls.
-use mathlib.Core.Bool.{Bool, true, false, cond, _&&_, _||_}
+use mathlib.Core.Bool.{Bool, true, false, cond, not, _&&_, _||_}
 use mathlib.Core.Path.{_≡_, refl, ap}
 use mathlib.Core.List.{List, [], _∷_}
 use Prim.Native.Nat.{ℕ, _+_, _-_, _*_, _≤_, _<_}
@@ -18,13 +18,14 @@ use Rattle.exec.specs.declared.Limits.{Limits}
 use Rattle.exec.specs.declared.MaybeStatus.{MaybeStatus}
 use Rattle.exec.specs.declared.PoolIndex.{PoolIndex}
 use Rattle.exec.specs.declared.PoolIndex.the-variants as PoolIndex
+use Rattle.exec.specs.declared.Reply.the-variants as Reply
 use Rattle.exec.specs.declared.Stream.{Stream}
 use Rattle.exec.specs.declared.Stream.the-variants.{Stdout, Stderr}
 use Rattle.exec.specs.declared.Unit as units
 use Rattle.exec.specs.declared.Unit.the-variants.{Bytes, Frames}
 use Rattle.exec.specs.Key.{admits}
 use Rattle.exec.specs.Limits.{cost, bytesWith, inputBytes, isValid, outputPool, poolOf}
-use Rattle.exec.specs.Stream.{index}
+use Rattle.exec.specs.Stream.{index, following}
 use Rattle.exec.specs.Time.{due}
 use Rattle.ring.specs.Ring.{wrap}
 use Rattle.ring.specs.RingLaws.{wrap-lt, read-none}
@@ -34,7 +35,7 @@ use Rattle.credit.specs.Need.{byteNeed, lengthNeedAs, lengthNeed}
 use Rattle.credit.specs.Range.{ringFits, framesFit}
 use Rattle.credit.specs.RangeLaws.{both}
 use Rattle.credit.specs.Receiver.{unitsFit}
-use Rattle.credit.specs.Sender.{grantable, grant, spent}
+use Rattle.credit.specs.Sender.{newCredit, grantable, grant, spent}
 use Rattle.lifecycle.specs.Life.{isFenced}
 use Rattle.stdio.specs.declared.input.Input.{Input}
 use Rattle.stdio.specs.declared.output.Output.{Output}
@@ -45,10 +46,11 @@ use Rattle.runner.specs.declared.message.Choice.the-variants as Choice
 use Rattle.runner.specs.declared.message.Wish.{Wish}
 use Rattle.runner.specs.declared.message.Wish.the-variants as Wish
 use Rattle.runner.specs.declared.runner.Runner.{Runner}
-use Rattle.runner.specs.Life.{awaitsLaunch, isCleanedUp, isLate, isOver, closeRunnerInput, endGrace, giveUp, abandonLaunch, abandonOpenStreams, beginTermination, passGrace, terminate, passTimeout, passSettlement, giveUpUnlessClean, passGiveUp, dropLaunch, dropStreams, passAbandonment, fire, ticked, timeoutCleared, cancelNext, noteStarted, noteLaunch, launchedNext, noteExit, noteExitOnce, exitedNext, settledNext, detached, giveUpSoon, cutOff, cutOffOnce, detachNext}
+use Rattle.runner.specs.Life.{awaitsLaunch, isCleanedUp, isLate, isOver, closeRunnerInput, endGrace, giveUp, abandonLaunch, abandonOpenStreams, beginTermination, passGrace, terminate, passTimeout, passSettlement, giveUpUnlessClean, passGiveUp, dropLaunch, dropStreams, passAbandonment, fire, ticked, timeoutCleared, cancelNext, noteStarted, noteLaunch, launchedNext, noteExit, noteExitOnce, exitedNext, settledNext, silenced, giveUpSoon, cutOff, cutOffOnce, detachNext}
 use Rattle.runner.specs.Message.{choose, outputPaid, outputSent, effect, wish, wishEffect}
-use Rattle.runner.specs.Range.{inRange, bytesDo, lengthsDo, opens, fresh}
-use Rattle.runner.specs.State.{out0, out1, outOf, at, other, credit0, credit1, creditAt, putCredit}
+use Rattle.runner.specs.Range.{inRange, bytesDo, lengthsDo, openStop, fresh}
+use Rattle.runner.specs.RangeLaws.{is-opened}
+use Rattle.runner.specs.State.{outOf, at, creditAt, putCredit}
 use Rattle.runner.specs.Streams as Streams
 use Rattle.runner.specs.Streams.{isShut, creditsIn, creditsAfter, creditNext, isTaken, inputNext, inputLengths, endNext, writtenNext, outputNext, discardedNext, closedNext, failedNext, hungUpNext}
 use Rattle.account.specs.Call as Call
@@ -56,9 +58,9 @@ use Rattle.account.specs.Call.{Conf, Call}
 use Rattle.account.specs.Step.{State}
 use Rattle.account.proofs.Plain.{next, begun, afterAll}
 use Rattle.account.proofs.Streams.{Fits}
-use Rattle.account.proofs.Sides.{out-each, out-alike, on-out}
+use Rattle.account.proofs.Sides.{out-each, out-alike, of-every, on-out}
 use Rattle.account.proofs.Choices.{Sent, choose-sent}
-use Rattle.account.proofs.Flags.{and-both, or-left}
+use Rattle.account.proofs.Flags.{either as one-of, and-both, or-left}
 use Rattle.account.proofs.InputRange.{none, sum-most, areaAs, waiting, Held, HeldIn, InRange, waiting-length, holds-by, close-range, written-range, input-if, end-if, granted-by}
 
 -- ---- the credit in range
@@ -66,8 +68,8 @@ use Rattle.account.proofs.InputRange.{none, sum-most, areaAs, waiting, 
 abbrev pub Within : Credit → Type 0
 Within c = c .available ≤ c .window
 
-abbrev pub WithinBoth : List Credit → Type 0
-WithinBoth cs = Within (credit0 cs) × Within (credit1 cs)
+abbrev pub AllWithin : List Credit → Type 0
+AllWithin cs = (x : Stream) → Within (creditAt (index x) cs)
 
 grant-range : (c : Credit) (u : ℕ) → Within c → Within (grant c u .credit)
 grant-range c u h = go (grantable c u) refl
@@ -79,27 +81,22 @@ grant-range c u h = go (grantable c u) refl
 spent-range : (c : Credit) (n : ℕ) → Within c → Within (spent c n)
 spent-range c n h = omega arith
 
--- the account at a position, changed by what keeps it within its window
-put-if : (b : Bool) (f : Credit → Credit) (c0 c1 : Credit) → ((c : Credit) → Within c → Within (f c)) → Within c0 → Within c1
-    → Within (cond b (f (cond b c0 c1)) c0) × Within (cond b c1 (f (cond b c0 c1)))
-put-if true f c0 c1 k p q = (k c0 p, q)
-put-if false f c0 c1 k p q = (p, k c1 q)
+-- the account at a position, and changed by what keeps it within its window
+at-range : (i : ℕ) (cs : List Credit) → AllWithin cs → Within (creditAt i cs)
+at-range i cs h = one-of Within (eqb i 0) _ _ (h Stdout) (h Stderr)
 
-put-range : (i : ℕ) (f : Credit → Credit) (cs : List Credit) → ((c : Credit) → Within c → Within (f c)) → WithinBoth cs
-    → WithinBoth (putCredit i (f (creditAt i cs)) cs)
-put-range i f cs k h = put-if (eqb i 0) f (credit0 cs) (credit1 cs) k (h .0) (h .1)
+put-range : (i : ℕ) (f : Credit → Credit) (cs : List Credit) → ((c : Credit) → Within c → Within (f c)) → AllWithin cs
+    → AllWithin (putCredit i (f (creditAt i cs)) cs)
+put-range i f cs k h Stdout = one-of Within (eqb i 0) _ _ (k (creditAt i cs) (at-range i cs h)) (h Stdout)
+put-range i f cs k h Stderr = one-of Within (eqb i 0) _ _ (h Stderr) (k (creditAt i cs) (at-range i cs h))
 
-credits-either : (b : Bool) (x y : List Credit) → WithinBoth x → WithinBoth y → WithinBoth (cond b x y)
-credits-either true x y p q = p
-credits-either false x y p q = q
-
-credits-in : (p : PoolIndex) (f : Bool) (u : ℕ) (cs : List Credit) → WithinBoth cs → WithinBoth (creditsIn p f u cs)
+credits-in : (p : PoolIndex) (f : Bool) (u : ℕ) (cs : List Credit) → AllWithin cs → AllWithin (creditsIn p f u cs)
 credits-in (PoolIndex.Refused x) f u cs h = h
 credits-in (PoolIndex.At i) f u cs h =
-    credits-either f cs (putCredit i (grant (creditAt i cs) u .credit) cs) h
-    (put-range i (λ (c : Credit). grant c u .credit) cs (λ c w. grant-range c u w) h)
+    one-of AllWithin (not f && grantable (creditAt i cs) u) (putCredit i (grant (creditAt i cs) u .credit) cs) cs
+    (put-range i (λ (c : Credit). grant c u .credit) cs (λ c w. grant-range c u w) h) h
 
-credits-range : (a : Admission) (p : PoolIndex) (f : Bool) (u : ℕ) (cs : List Credit) → WithinBoth cs → WithinBoth (creditsAfter a p f u cs)
+credits-range : (a : Admission) (p : PoolIndex) (f : Bool) (u : ℕ) (cs : List Credit) → AllWithin cs → AllWithin (creditsAfter a p f u cs)
 credits-range (Admission.Refused x) p f u cs h = h
 credits-range Admission.Stale p f u cs h = h
 credits-range Admission.Own p f u cs h = credits-in p f u cs h
@@ -111,7 +108,7 @@ abbrev Queue : ℕ → Stream → Output → Type 0
 Queue n x o = Fits n (o .start) (o .queued)
 
 abbrev pub Ranged : List ℕ → Runner → Type 0
-Ranged lengths s = ((x : Stream) → Queue (s .limits .chunk) x (outOf x s)) × WithinBoth (s .credits) × InRange (s .limits) lengths (s .input) × (s .turn ≤ 1)
+Ranged lengths s = ((x : Stream) → Queue (s .limits .chunk) x (outOf x s)) × AllWithin (s .credits) × InRange (s .limits) lengths (s .input) × (s .turn ≤ 1)
 
 emptied : (n s k : ℕ) → Fits n s k → Fits n 0 0
 emptied n s k h = record { inside = (let z = h .inside in omega arith); within = omega arith }
@@ -192,13 +189,13 @@ module _ (ls : List ℕ) where
       let t : Runner = ticked s now in
       let k : Ranged ls t = tick-range now s h in either (isLate t) t (terminate t now c) k (terminate-range now c t k)
 
-  detached-range : (s : Runner) → Ranged ls s → Ranged ls (detached s)
-  unfolding detached
-  detached-range s h = h
+  silenced-range : (s : Runner) → Ranged ls s → Ranged ls (silenced s)
+  unfolding silenced
+  silenced-range s h = h
 
   cut-off-range : (now : ℕ) (c : Cause) (s : Runner) → Ranged ls s → Ranged ls (cutOff s now c)
   unfolding cutOff giveUpSoon
-  cut-off-range now c s h = end-grace-range (detached (terminate s now c)) (detached-range (terminate s now c) (terminate-range now c s h))
+  cut-off-range now c s h = end-grace-range (silenced (terminate s now c)) (silenced-range (terminate s now c) (terminate-range now c s h))
 
   detach-range : (now : ℕ) (c : Cause) (s : Runner) → Ranged ls s → Ranged ls (detachNext s now c)
   unfolding detachNext cutOffOnce
@@ -228,7 +225,7 @@ module _ (ls : List ℕ) where
       noted LaunchResult.Started = h
       noted (LaunchResult.Failed f) = closed-range _ h
 
-  paid-range : (x : Stream) (n : ℕ) (s : Runner) → Ranged ls s → WithinBoth (outputPaid x n s .credits)
+  paid-range : (x : Stream) (n : ℕ) (s : Runner) → Ranged ls s → AllWithin (outputPaid x n s .credits)
   unfolding outputPaid
   paid-range x n s h =
       put-range (poolOf (s .limits) x) (λ (c : Credit). spent c (cost (s .limits .output .unit) n)) (s .credits)
@@ -243,7 +240,7 @@ module _ (ls : List ℕ) where
     turn-range x,
   )
     where
-      turn-range : (y : Stream) → index (other y) ≤ 1
+      turn-range : (y : Stream) → index (following y) ≤ 1
       turn-range Stdout = omega arith
       turn-range Stderr = omega arith
 
@@ -327,10 +324,9 @@ pub record Lent (l : Limits) (bytes lengths : List ℕ) : Type 0 where
   pub room : byteNeed l ≤ length bytes
   pub slots : lengthNeed l ≤ length lengths
 
-pub lent : (l : Limits) (bytes lengths : List ℕ) → opens l bytes lengths ≡ true → Lent l bytes lengths
-unfolding opens
+pub lent : (l : Limits) (bytes lengths : List ℕ) → openStop l (bytesDo l bytes && lengthsDo l lengths) ≡ Reply.Ok → Lent l bytes lengths
 lent l bytes lengths e =
-    let p = both (isValid l) (bytesDo l bytes && lengthsDo l lengths) e in
+    let p = is-opened l (bytesDo l bytes && lengthsDo l lengths) e in
     let q = both (ltb 0 (l .chunk) && ltb 0 (l .input .size)) (ltb 0 (l .output .size)) (p .0) in
     let c = both (ltb 0 (l .chunk)) (ltb 0 (l .input .size)) (q .0) in
     let d = both (bytesDo l bytes) (lengthsDo l lengths) (p .1) in
@@ -356,10 +352,14 @@ unfolding fresh
 opened-range c now bytes lengths o =
     let l : Limits = c .limits in (
       (λ x. rw (out-alike newOutput x) (record { inside = o .chunk; within = omega arith })),
-      (omega arith, omega arith),
+      account-range,
       (open-by (l .input .unit) l lengths (o .size) (o .slots), area-some (l .input .unit) l (o .chunk) (o .size)),
       omega arith,
     )
+  where
+    account-range : AllWithin (newCredit (c .limits .output .size) ∷ newCredit (c .limits .output .size) ∷ [])
+    account-range Stdout = omega arith
+    account-range Stderr = omega arith
 
 pub list-range : (cs : List Call) (s : State) → RangedS s → RangedS (afterAll s cs)
 list-range [] s h = h
@@ -390,8 +390,7 @@ unfolding inRange
 in-range lengths s h =
     and-both _ _
     (and-both _ _
-    (and-both _ _ (and-both _ _ (out-ok (s .limits .chunk) (out0 s) (h .0 Stdout)) (out-ok (s .limits .chunk) (out1 s) (h .0 Stderr)))
-    (and-both _ _ (le-leb (credit0 (s .credits) .available) (credit0 (s .credits) .window) (h .1 .0)) (le-leb (credit1 (s .credits) .available) (credit1 (s .credits) .window) (h .1 .1))))
+    (and-both _ _ (of-every _ (λ x. out-ok (s .limits .chunk) (outOf x s) (h .0 x))) (of-every _ (λ x. le-leb _ _ (h .1 x))))
     (and-both _ _ (and-both _ _ (ring-ok (s .input .inbox .start) (inputBytes (s .limits)) (h .2 .1)) (le-leb (s .input .inbox .length) (inputBytes (s .limits)) (holds-by (s .limits .input .unit) (s .limits) lengths (s .input) (h .2 .0))))
     (units-ok (s .limits .input .unit) (s .limits) lengths (s .input) (h .2 .0))))
     (le-leb (s .turn) 1 (h .3))

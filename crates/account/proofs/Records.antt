@@ -30,13 +30,13 @@ use Rattle.runner.specs.declared.runner.Runner.{Runner}
 use Rattle.runner.specs.Calls as Calls
 use Rattle.runner.specs.Calls.{storesDo}
 use Rattle.runner.specs.Message.{choose, payload, saidFor, bufferAfter}
-use Rattle.runner.specs.Range.{isGood, bytesDo, fresh}
+use Rattle.runner.specs.Range.{stop, bytesDo, fresh}
 use Rattle.channel.specs.declared.codec.Parsed.{Parsed}
 use Rattle.channel.specs.declared.codec.Parsed.the-variants as Parsed
 use Rattle.channel.specs.declared.codec.Record.{Record}
 use Rattle.channel.specs.declared.codec.Record.the-variants as Record
 use Rattle.channel.specs.Calls as Channel
-use Rattle.channel.specs.Calls.{ReadAfter, isChannel, admitted, heardAs, notedAs, parsedRead, admittedRead, admittedWrite, roomyWrite, sent, told, wrote, wroteBuffer, sentAs, sentBuffer, laid, partBack, hasEnded}
+use Rattle.channel.specs.Calls.{ReadAfter, isChannel, admitted, heardAs, notedAs, parsedRead, admittedRead, admittedWrite, roomyWrite, sent, told, wrote, wroteBuffer, sentAs, sentBuffer, laidRecord, partBack, hasEnded}
 use Rattle.channel.specs.Codec.{start, size, kinded, isTyped, fitting, checked, read}
 use Rattle.channel.specs.CallLaws.{laid-front}
 use Rattle.channel.specs.RoundTrip.{payload-back}
@@ -119,7 +119,7 @@ parsed-does (Parsed.Read Record.Close) s now b h = (refl, noted-as (Calls.discon
 parsed-does (Parsed.Refused x) s now b h = record { kept = refl; refusal = number x; answered = refl; own = h }
 
 -- what is met before a record, for a runner in range with its stores
-pub admitted-so : (r : Runner) (stores : Bool) → isGood r stores ≡ true → admitted r stores ≡ cond (isChannel (r .limits)) Reply.Ok (Reply.Refused NotAChannel)
+pub admitted-so : (r : Runner) (stores : Bool) → stop r stores ≡ Reply.Ok → admitted r stores ≡ cond (isChannel (r .limits)) Reply.Ok (Reply.Refused NotAChannel)
 unfolding admitted
 admitted-so r stores g = rw g refl
 
@@ -135,7 +135,7 @@ read-by false s now channel b = record { kept = refl; refusal = 13; answered = r
 
 -- the last bytes of a record that was laid are its payload
 payload-in : (channel : ℕ) (rec : Record) (b : List ℕ) → 13 + size rec ≤ length b
-    → drop (start rec + size rec - size rec) (take (start rec + size rec) (laid channel rec b)) ≡ take (size rec) (drop 13 b)
+    → drop (start rec + size rec - size rec) (take (start rec + size rec) (laidRecord channel rec b)) ≡ take (size rec) (drop 13 b)
 payload-in channel rec b h =
     let z : start rec + size rec - size rec ≡ start rec = omega arith in
     rw z (ap (drop (start rec)) (laid-front channel rec b h) ∙ payload-back channel rec (take (size rec) (drop 13 b)))
@@ -174,7 +174,7 @@ choice-told (Choice.Output x n) r store part buffer channel k ended h l =
     output-told x channel n k ended buffer (payload r x n store ++ drop n part) h (simp length-append (omega (arith, l x n refl)))
 choice-told Choice.Terminal r store part buffer channel k ended h l = refl
 
-sent-does : (s : State) (channel : ℕ) (buffer : List ℕ) → isGood (s .runner) (bytesDo (s .runner .limits) (s .bytes)) ≡ true → 13 ≤ length buffer
+sent-does : (s : State) (channel : ℕ) (buffer : List ℕ) → stop (s .runner) (bytesDo (s .runner .limits) (s .bytes)) ≡ Reply.Ok → 13 ≤ length buffer
     → Does (some (Call.nextMessage (take (s .runner .limits .chunk) (drop 13 buffer)))) s
     (Step.onRunner (sent (s .runner) channel (s .bytes) buffer .writing .runner) s)
     (wroteAs (sent (s .runner) channel (s .bytes) buffer .writing .wrote) (sent (s .runner) channel (s .bytes) buffer .buffer))
@@ -185,7 +185,7 @@ sent-does s channel buffer g h =
       rw g (choice-told (choose (s .runner) (length part)) (s .runner) (s .bytes) part buffer channel (s .runner .limits .chunk) (hasEnded (s .runner)) h (λ x n e. payload-length s part x n g e)),
     )
 
-pub write-by : (channels room : Bool) (s : State) (channel : ℕ) (buffer : List ℕ) → isGood (s .runner) (bytesDo (s .runner .limits) (s .bytes)) ≡ true
+pub write-by : (channels room : Bool) (s : State) (channel : ℕ) (buffer : List ℕ) → stop (s .runner) (bytesDo (s .runner .limits) (s .bytes)) ≡ Reply.Ok
     → leb (13 + s .runner .limits .chunk) (length buffer) ≡ room
     → Does (cond (channels && room) (some (Call.nextMessage (take (s .runner .limits .chunk) (drop 13 buffer)))) none) s
     (Step.onRunner (admittedWrite (cond channels Reply.Ok (Reply.Refused NotAChannel)) (s .runner) channel (s .bytes) buffer .writing .runner) s)
@@ -211,7 +211,7 @@ does-so (readRecord now channel b) s f =
     rw (admitted-so (s .runner) (storesDo (s .runner) (s .bytes) (s .lengths)) (goes s (Call.input (s .runner .key) b) f))
     (read-by (isChannel (s .runner .limits)) s now channel b)
 does-so (writeRecord channel buffer) s f =
-    let g : isGood (s .runner) (bytesDo (s .runner .limits) (s .bytes)) ≡ true = goes s (Call.nextMessage buffer) f in
+    let g : stop (s .runner) (bytesDo (s .runner .limits) (s .bytes)) ≡ Reply.Ok = goes s (Call.nextMessage buffer) f in
     rw (admitted-so (s .runner) (bytesDo (s .runner .limits) (s .bytes)) g)
     (write-by (isChannel (s .runner .limits)) (leb (13 + s .runner .limits .chunk) (length buffer)) s channel buffer g refl)
 

@@ -22,6 +22,7 @@ use Rattle.exec.specs.declared.Received.{Received}
 use Rattle.exec.specs.declared.Received.the-variants as Received
 use Rattle.exec.specs.declared.Refusal.{Refusal}
 use Rattle.exec.specs.declared.Refusal.the-variants as Refusal
+use Rattle.exec.specs.declared.Reply.{Reply}
 use Rattle.exec.specs.declared.Reply.the-variants as Reply
 use Rattle.exec.specs.Key.{admits}
 use Rattle.exec.specs.Limits.{cost, isValid, offChunk, outputPool}
@@ -40,8 +41,8 @@ use Rattle.runner.specs.Calls as Calls
 use Rattle.runner.specs.Calls.{askedFor, storesDo}
 use Rattle.runner.specs.Life.{isLate, ticked, cancelAnswer, cancelNext}
 use Rattle.runner.specs.Message.{choose, saidFor, wish}
-use Rattle.runner.specs.Range.{isGood, inRange, bytesDo, stop}
-use Rattle.runner.specs.State.{credit0, credit1, creditAt, putCredit, withFlow, withInput}
+use Rattle.runner.specs.Range.{inRange, bytesDo, stop}
+use Rattle.runner.specs.State.{creditAt, putCredit, withFlow, withInput}
 use Rattle.runner.specs.Streams as Streams
 use Rattle.channel.specs.Calls as Channel
 use Rattle.channel.specs.Calls.{WriteAfter, isChannel, admitted, admittedRead, admittedWrite, roomyWrite, sent, told, wrote, hasEnded}
@@ -50,7 +51,7 @@ use Rattle.account.specs.Call.{Call, Answer}
 use Rattle.account.specs.Step as Step
 use Rattle.account.specs.Step.{State, onRunner, receivedAs, asks, waits}
 use Rattle.account.specs.Records.{Entry, call, readRecord, writeRecord, nextEntry, wroteAs, answerEntry}
-use Rattle.account.specs.Refused.{TwoAccounts, among, ofCalls, ofRecords, Refusals}
+use Rattle.account.specs.Refused.{among, ofCalls, ofRecords, Refusals}
 use Rattle.account.proofs.Plain as Plain
 use Rattle.account.proofs.Plain.{said}
 use Rattle.account.proofs.Flags.{either}
@@ -78,7 +79,7 @@ IfRefused P (Call.AreLimits l) = Unit
 IfRefused P Call.Nothing = Unit
 
 record Kept (s t : State) (n : ℕ) : Type 0 where
-  same : TwoAccounts s → t ≡ s
+  same : t ≡ s
   known : among n ofCalls ≡ true
 
 abbrev Safe : (s t : State) → Answer → Type 0
@@ -86,50 +87,52 @@ Safe s t a = IfRefused (Kept s t) a
 
 -- ---- refused by 12, 10 or 11
 
-stop-by : (P : Refusal → Type 0) → P Refusal.StoreShort → P Refusal.NoLimits → P Refusal.StateOutOfRange → (r : Runner) → P (stop r)
+-- what is known of a refusal that is met: its number, which is not 0
+abbrev Known : Reply → Type 0
+Known Reply.Ok = Unit
+Known (Reply.Refused x) = (among (number x) ofCalls ≡ true) × ((b : List ℕ) → waits (number x) b ≡ Call.Refused (number x))
+
+stop-known : (r : Runner) (stores : Bool) (x : Refusal) → stop r stores ≡ Reply.Refused x → Known (Reply.Refused x)
 unfolding stop
-stop-by P short limits range r = either P (inRange r) _ _ (either P (isValid (r .limits)) _ _ short limits) range
+stop-known r stores x e =
+    subst Known e
+    (either Known (not (inRange r)) _ _ (refl, λ b. refl)
+    (either Known (not (isValid (r .limits))) _ _ (refl, λ b. refl) (either Known (not stores) _ _ (refl, λ b. refl) tt)))
 
-stop-known : (r : Runner) → among (number (stop r)) ofCalls ≡ true
-stop-known r = stop-by (λ x. among (number x) ofCalls ≡ true) refl refl refl r
-
-waits-stop : (r : Runner) (b : List ℕ) → waits (number (stop r)) b ≡ Call.Refused (number (stop r))
-waits-stop r b = stop-by (λ x. waits (number x) b ≡ Call.Refused (number x)) refl refl refl r
-
-stopped : (s : State) (c : Call) → isGood (s .runner) (Plain.enough s c) ≡ false
-    → (Step.next s c ≡ s) × (Step.answer s c ≡ Call.Refused (number (stop (s .runner))))
+stopped : (s : State) (c : Call) (x : Refusal) → stop (s .runner) (Plain.enough s c) ≡ Reply.Refused x
+    → (Step.next s c ≡ s) × (Step.answer s c ≡ Call.Refused (number x))
 unfolding Plain.enough Step.next Step.answer Calls.key Calls.limits Calls.credit Calls.input Calls.endInput Calls.cancel Calls.launched Calls.readAllowance Calls.output Calls.discarded Calls.outputClosed Calls.outputFailed Calls.outputHungUp Calls.pendingInput Calls.inputWritten Calls.inputClosed Calls.exited Calls.settled Calls.dropped Calls.reset Calls.disconnect Calls.tick Calls.deadline Calls.nextRequest Calls.nextMessage Calls.isFinished Calls.isDetached Calls.awaitsSettlement Calls.memoryBound Calls.buffered Calls.highWater
-stopped s Call.key g = rw g (refl, refl)
-stopped s Call.limits g = rw g (refl, refl)
-stopped s (Call.credit k p u) g = rw g (refl, refl)
-stopped s (Call.input k b) g = rw g (refl, refl)
-stopped s (Call.endInput k) g = rw g (refl, refl)
-stopped s (Call.cancel now k c) g = rw g (refl, refl)
-stopped s (Call.launched x) g = rw g (refl, refl)
-stopped s (Call.readAllowance x) g = rw g (refl, refl)
-stopped s (Call.output x b) g = rw g (refl, refl)
-stopped s (Call.discarded x n) g = rw g (refl, refl)
-stopped s (Call.outputClosed x) g = rw g (refl, refl)
-stopped s (Call.outputFailed x) g = rw g (refl, refl)
-stopped s (Call.outputHungUp x) g = rw g (refl, refl)
-stopped s Call.pendingInput g = rw g (refl, waits-stop (s .runner) [])
-stopped s (Call.inputWritten n) g = rw g (refl, refl)
-stopped s Call.inputClosed g = rw g (refl, refl)
-stopped s (Call.exited now x) g = rw g (refl, refl)
-stopped s (Call.settled x) g = rw g (refl, refl)
-stopped s (Call.dropped now) g = rw g (refl, refl)
-stopped s (Call.reset now) g = rw g (refl, refl)
-stopped s (Call.disconnect now) g = rw g (refl, refl)
-stopped s (Call.tick now) g = rw g (refl, refl)
-stopped s Call.deadline g = rw g (refl, refl)
-stopped s Call.nextRequest g = rw g (refl, refl)
-stopped s (Call.nextMessage buffer) g = rw g (refl, refl)
-stopped s Call.isFinished g = rw g (refl, refl)
-stopped s Call.isDetached g = rw g (refl, refl)
-stopped s Call.awaitsSettlement g = rw g (refl, refl)
-stopped s Call.memoryBound g = rw g (refl, refl)
-stopped s Call.buffered g = rw g (refl, refl)
-stopped s Call.highWater g = rw g (refl, refl)
+stopped s Call.key x g = rw g (refl, refl)
+stopped s Call.limits x g = rw g (refl, refl)
+stopped s (Call.credit k p u) x g = rw g (refl, refl)
+stopped s (Call.input k b) x g = rw g (refl, refl)
+stopped s (Call.endInput k) x g = rw g (refl, refl)
+stopped s (Call.cancel now k c) x g = rw g (refl, refl)
+stopped s (Call.launched y) x g = rw g (refl, refl)
+stopped s (Call.readAllowance y) x g = rw g (refl, refl)
+stopped s (Call.output y b) x g = rw g (refl, refl)
+stopped s (Call.discarded y n) x g = rw g (refl, refl)
+stopped s (Call.outputClosed y) x g = rw g (refl, refl)
+stopped s (Call.outputFailed y) x g = rw g (refl, refl)
+stopped s (Call.outputHungUp y) x g = rw g (refl, refl)
+stopped s Call.pendingInput x g = rw g (refl, stop-known (s .runner) _ x g .1 [])
+stopped s (Call.inputWritten n) x g = rw g (refl, refl)
+stopped s Call.inputClosed x g = rw g (refl, refl)
+stopped s (Call.exited now y) x g = rw g (refl, refl)
+stopped s (Call.settled y) x g = rw g (refl, refl)
+stopped s (Call.dropped now) x g = rw g (refl, refl)
+stopped s (Call.reset now) x g = rw g (refl, refl)
+stopped s (Call.disconnect now) x g = rw g (refl, refl)
+stopped s (Call.tick now) x g = rw g (refl, refl)
+stopped s Call.deadline x g = rw g (refl, refl)
+stopped s Call.nextRequest x g = rw g (refl, refl)
+stopped s (Call.nextMessage buffer) x g = rw g (refl, refl)
+stopped s Call.isFinished x g = rw g (refl, refl)
+stopped s Call.isDetached x g = rw g (refl, refl)
+stopped s Call.awaitsSettlement x g = rw g (refl, refl)
+stopped s Call.memoryBound x g = rw g (refl, refl)
+stopped s Call.buffered x g = rw g (refl, refl)
+stopped s Call.highWater x g = rw g (refl, refl)
 
 -- ---- refused by 1 to 6
 
@@ -152,30 +155,17 @@ pool-by P other at false Pool.Stdout = at 0
 pool-by P other at false Pool.Stderr = at 1
 pool-by P other at false Pool.Output = other
 
--- an account put back leaves both as they were
-put-back : (first : Bool) (cs : List Credit) → length cs ≡ 2
-    → cond first (cond first (credit0 cs) (credit1 cs)) (credit0 cs) ∷ cond first (credit1 cs) (cond first (credit0 cs) (credit1 cs)) ∷ [] ≡ cs
-put-back first [] h = absurd (omega arith)
-put-back first (a ∷ []) h = absurd (omega arith)
-put-back true (a ∷ b ∷ []) h = refl
-put-back false (a ∷ b ∷ []) h = refl
-put-back first (a ∷ b ∷ c ∷ cs) h = absurd (omega arith)
-
--- a grant that is refused leaves its account
-ungranted : (c : Credit) (u : ℕ) → grantable c u ≡ false → grant c u .credit ≡ c
-ungranted c u e = rw e refl
-
 -- the state with other accounts
 accounts : State → List Credit → State
 accounts s cs = onRunner (withFlow cs (s .runner .turn) (s .runner .flags) (s .runner .«high_water») (s .runner)) s
 
-granted : (s : State) (cs : List Credit) (finished fits : Bool) → (fits ≡ false → TwoAccounts s → cs ≡ s .runner .credits)
-    → Safe s (accounts s (cond finished (s .runner .credits) cs))
+granted : (s : State) (cs : List Credit) (finished fits : Bool)
+    → Safe s (accounts s (cond (not finished && fits) cs (s .runner .credits)))
     (receivedAs (cond finished (Received.Receipt Receipt.Late) (cond fits (Received.Receipt Receipt.Applied) (Received.Refused Refusal.Credit))))
 unfolding accounts
-granted s cs true fits h = tt
-granted s cs false true h = tt
-granted s cs false false h = record { same = λ t. ap (accounts s) (h refl t); known = refl }
+granted s cs true fits = tt
+granted s cs false true = tt
+granted s cs false false = record { same = refl; known = refl }
 
 abbrev CreditSafe : State → ℕ → Admission → PoolIndex → Type 0
 CreditSafe s u a p = Safe s (onRunner (Streams.creditNext a p (s .runner) u) s) (receivedAs (Streams.creditAnswer a p (s .runner) u))
@@ -185,44 +175,21 @@ unfolding Streams.creditNext Streams.creditAnswer Streams.creditIn accounts
 credit-safe s k p u =
     let cs = s .runner .credits in
     admits-by (λ a. CreditSafe s u a (outputPool (s .runner .limits .shared) p))
-    (pool-by (CreditSafe s u Admission.Own) (record { same = λ h. refl; known = refl })
-    (λ i. granted s (putCredit i (grant (creditAt i cs) u .credit) cs) (s .runner .flags .finished) (grantable (creditAt i cs) u)
-    (λ e h. ap (λ (c : Credit). putCredit i c cs) (ungranted (creditAt i cs) u e) ∙ put-back (eqb i 0) cs h))
+    (pool-by (CreditSafe s u Admission.Own) (record { same = refl; known = refl })
+    (λ i. granted s (putCredit i (grant (creditAt i cs) u .credit) cs) (s .runner .flags .finished) (grantable (creditAt i cs) u))
     (s .runner .limits .shared) p)
-    tt (record { same = λ h. refl; known = refl }) (s .runner .key) k
-
--- an input is refused by 4, 5 or 6 behind its key
-receive-by : (P : Received → Type 0) → ((x : Refusal) → among (number x) ofCalls ≡ true → P (Received.Refused x))
-    → P (Received.Receipt Receipt.Late) → P (Received.Receipt Receipt.Applied) → (l : Limits) (i : Input) (n : ℕ) → P (Input.receiveAnswer l i n)
-unfolding Input.receiveAnswer
-receive-by P refused late applied l i n =
-    either P (i .«peer_ended») _ _ (refused Refusal.Ended refl)
-    (either P (offChunk l n) _ _ (refused Refusal.Chunk refl)
-    (either P (ltb (i .window .open) (cost (l .input .unit) n)) _ _ (refused Refusal.Window refl) (either P (i .closed) _ _ late applied)))
-
-abbrev isReceipt : Received → Bool
-isReceipt (Received.Receipt x) = true
-isReceipt (Received.Refused x) = false
-
-receipt-safe : (s t : State) (x : Received) → isReceipt x ≡ true → Safe s t (receivedAs x)
-receipt-safe s t (Received.Receipt Receipt.Applied) h = tt
-receipt-safe s t (Received.Receipt Receipt.Stale) h = tt
-receipt-safe s t (Received.Receipt Receipt.Late) h = tt
-receipt-safe s t (Received.Refused x) h = absurd (false≢true h)
+    tt (record { same = refl; known = refl }) (s .runner .key) k
 
 late-safe : (s t : State) (late : Bool) → Safe s t (receivedAs (cond late (Received.Receipt Receipt.Late) (Received.Receipt Receipt.Applied)))
 late-safe s t true = tt
 late-safe s t false = tt
 
--- one that is charged is not refused
-paid-receipt : (l : Limits) (i : Input) (n : ℕ) → Input.isPaid l i n ≡ true → isReceipt (Input.receiveAnswer l i n) ≡ true
-paid-receipt l i n h =
-    Input.asked-of isReceipt (λ x. refl) (λ closed. true) refl refl l i n ∙ rw h refl
+-- ---- input
 
 abbrev received : State → List ℕ → Admission → State
 received s b a = record {
   runner = Streams.inputNext a (s .runner) (length b);
-  bytes = Streams.inputBytes a (s .runner) b (s .bytes);
+  bytes = Streams.inputStore a (s .runner) b (s .bytes);
   lengths = Streams.inputLengths a (s .runner) (length b) (s .lengths);
 }
 
@@ -239,7 +206,7 @@ unpaid-by false kept s i bytes lengths high ei eb el k = refl
 unpaid-by true false s i bytes lengths high ei eb el k = rw (ei, eb, el) refl
 unpaid-by true true s i bytes lengths high ei eb el k = absurd (false≢true (sym k))
 
-module _ (l : Limits) (i : Input) (b : List ℕ) (h : Input.isPaid l i (length b) ≡ false) where
+module _ (l : Limits) (i : Input) (b : List ℕ) (x : Refusal) (h : Input.receiveAnswer l i (length b) ≡ Received.Refused x) where
   unpaid-input : Input.receiveInput l i (length b) ≡ i
   unfolding Input.receiveInput
   unpaid-input = rw h refl
@@ -252,38 +219,40 @@ module _ (l : Limits) (i : Input) (b : List ℕ) (h : Input.isPaid l i (length b
   unfolding Input.receiveLengths
   unpaid-lengths lengths = rw h refl
 
-unpaid : (s : State) (b : List ℕ) → Input.isPaid (s .runner .limits) (s .runner .input) (length b) ≡ false → received s b Admission.Own ≡ s
-unfolding Streams.inputNext Streams.inputBytes Streams.inputLengths
-unpaid s b h =
+unpaid : (s : State) (b : List ℕ) (x : Refusal) → Input.receiveAnswer (s .runner .limits) (s .runner .input) (length b) ≡ Received.Refused x → received s b Admission.Own ≡ s
+unfolding Streams.inputNext Streams.inputStore Streams.inputLengths
+unpaid s b x h =
     let l : Limits = s .runner .limits in
     let i : Input = s .runner .input in
-    unpaid-by (not (s .runner .flags .finished)) (Input.isKept l i (length b)) s _ _ _ _ (unpaid-input l i b h) (unpaid-bytes l i b h (s .bytes))
-    (unpaid-lengths l i b h (s .lengths)) (rw h refl)
+    unpaid-by (not (s .runner .flags .finished)) (Input.isKept l i (length b)) s _ _ _ _ (unpaid-input l i b x h) (unpaid-bytes l i b x h (s .bytes))
+    (unpaid-lengths l i b x h (s .lengths)) (rw h refl)
 
 abbrev InputSafe : State → List ℕ → Admission → Type 0
 InputSafe s b a = Safe s (received s b a) (receivedAs (Streams.inputAnswer a (s .runner) (length b)))
 
-input-own : (s : State) (b : List ℕ) (paid : Bool) → Input.isPaid (s .runner .limits) (s .runner .input) (length b) ≡ paid → InputSafe s b Admission.Own
+-- an input is refused by 4, 5 or 6 behind its key
+input-own : (s : State) (b : List ℕ) → InputSafe s b Admission.Own
 unfolding Streams.inputAnswer
-input-own s b true h =
+input-own s b =
+    let l : Limits = s .runner .limits in
+    let i : Input = s .runner .input in
     either (λ x. Safe s (received s b Admission.Own) (receivedAs x)) (s .runner .flags .finished) _ _ tt
-    (receipt-safe s (received s b Admission.Own) (Input.receiveAnswer (s .runner .limits) (s .runner .input) (length b)) (paid-receipt (s .runner .limits) (s .runner .input) (length b) h))
-input-own s b false h =
-    either (λ x. Safe s (received s b Admission.Own) (receivedAs x)) (s .runner .flags .finished) _ _ tt
-    (receive-by (λ x. Safe s (received s b Admission.Own) (receivedAs x)) (λ x k. record { same = λ t. unpaid s b h; known = k }) tt tt (s .runner .limits) (s .runner .input) (length b))
+    (Input.answered l i (length b) (λ x. Input.receiveAnswer l i (length b) ≡ x → Safe s (received s b Admission.Own) (receivedAs x))
+    (λ e. record { same = unpaid s b Refusal.Ended e; known = refl })
+    (λ e. record { same = unpaid s b Refusal.Chunk e; known = refl })
+    (λ e. record { same = unpaid s b Refusal.Window e; known = refl }) (λ p e. tt) (λ p e. tt) refl)
 
 input-safe : (s : State) (k : Key) (b : List ℕ) → InputSafe s b (admits (s .runner .key) k)
-unfolding Streams.inputAnswer Streams.inputNext Streams.inputBytes Streams.inputLengths
+unfolding Streams.inputAnswer Streams.inputNext Streams.inputStore Streams.inputLengths
 input-safe s k b =
-    admits-by (InputSafe s b) (input-own s b (Input.isPaid (s .runner .limits) (s .runner .input) (length b)) refl)
-    tt (record { same = λ h. refl; known = refl }) (s .runner .key) k
+    admits-by (InputSafe s b) (input-own s b) tt (record { same = refl; known = refl }) (s .runner .key) k
 
 -- end_input by 6: the input is kept
 ended : (over finished : Bool) (s : State) (i : Input)
     → Safe s (onRunner (withInput (cond (not finished) (cond over (s .runner .input) i) (s .runner .input)) (s .runner)) s)
     (receivedAs (cond finished (Received.Receipt Receipt.Late) (cond over (Received.Refused Refusal.Ended) (cond (s .runner .input .closed) (Received.Receipt Receipt.Late) (Received.Receipt Receipt.Applied)))))
 ended over true s i = tt
-ended true false s i = record { same = λ h. refl; known = refl }
+ended true false s i = record { same = refl; known = refl }
 ended false false s i = late-safe s _ (s .runner .input .closed)
 
 end-safe : (s : State) (k : Key)
@@ -291,7 +260,7 @@ end-safe : (s : State) (k : Key)
 unfolding Streams.endNext Streams.endAnswer Input.endInput Input.endAnswer
 end-safe s k =
     admits-by (λ a. Safe s (onRunner (Streams.endNext a (s .runner)) s) (receivedAs (Streams.endAnswer a (s .runner))))
-    (ended (s .runner .input .«peer_ended») (s .runner .flags .finished) s _) tt (record { same = λ h. refl; known = refl }) (s .runner .key) k
+    (ended (s .runner .input .«peer_ended») (s .runner .flags .finished) s _) tt (record { same = refl; known = refl }) (s .runner .key) k
 
 -- cancel is refused by its key alone
 cancel-safe : (s : State) (now : ℕ) (k : Key) (c : Cause)
@@ -299,7 +268,7 @@ cancel-safe : (s : State) (now : ℕ) (k : Key) (c : Cause)
 unfolding cancelNext cancelAnswer
 cancel-safe s now k c =
     admits-by (λ a. Safe s (onRunner (cancelNext a (s .runner) now c) s) (receivedAs (cancelAnswer a (s .runner) now)))
-    (late-safe s _ (isLate (ticked (s .runner) now))) tt (record { same = λ h. refl; known = refl }) (s .runner .key) k
+    (late-safe s _ (isLate (ticked (s .runner) now))) tt (record { same = refl; known = refl }) (s .runner .key) k
 
 -- ---- every call
 
@@ -354,13 +323,13 @@ plain-safe s Call.memoryBound = tt
 plain-safe s Call.buffered = tt
 plain-safe s Call.highWater = tt
 
-safe-by : (good : Bool) (s : State) (c : Call) → isGood (s .runner) (Plain.enough s c) ≡ good → Safe s (Step.next s c) (Step.answer s c)
-safe-by true s c g = rw (next-is s c g, answer-is s c g) (plain-safe s c)
-safe-by false s c g =
-    let x = stopped s c g in rw (x .1) (record { same = λ h. x .0; known = stop-known (s .runner) })
+safe-by : (met : Reply) (s : State) (c : Call) → stop (s .runner) (Plain.enough s c) ≡ met → Safe s (Step.next s c) (Step.answer s c)
+safe-by Reply.Ok s c g = rw (next-is s c g, answer-is s c g) (plain-safe s c)
+safe-by (Reply.Refused x) s c g =
+    let p = stopped s c x g in rw (p .1) (record { same = p .0; known = stop-known (s .runner) (Plain.enough s c) x g .0 })
 
 safe : (s : State) (c : Call) → Safe s (Step.next s c) (Step.answer s c)
-safe s c = safe-by (isGood (s .runner) (Plain.enough s c)) s c refl
+safe s c = safe-by (stop (s .runner) (Plain.enough s c)) s c refl
 
 refused : (s : State) (c : Call) (n : ℕ) → Step.answer s c ≡ Call.Refused n → Kept s (Step.next s c) n
 refused s c n e = subst (IfRefused (Kept s (Step.next s c))) e (safe s c)
@@ -368,7 +337,7 @@ refused s c n e = subst (IfRefused (Kept s (Step.next s c))) e (safe s c)
 -- ---- a record
 
 record KeptBy (s t : State) (n : ℕ) : Type 0 where
-  same : TwoAccounts s → t ≡ s
+  same : t ≡ s
   known : (among n ofCalls || among n ofRecords) ≡ true
 
 or-right : (a b : Bool) → b ≡ true → (a || b) ≡ true
@@ -380,42 +349,43 @@ does-kept : (m : Option Call) (s t : State) (a : Answer) (n : ℕ) → Does m s 
 unfolding Does
 does-kept none s t a n d e =
     let k : d .refusal ≡ n = cc (d .answered) in
-    record { same = λ h. d .kept; known = or-right (among n ofCalls) (among n ofRecords) (subst (λ (m : ℕ). among m ofRecords ≡ true) k (d .own)) }
+    record { same = d .kept; known = or-right (among n ofCalls) (among n ofRecords) (subst (λ (m : ℕ). among m ofRecords ≡ true) k (d .own)) }
 does-kept (some c) s t a n d e =
-    let k = refused s c n (sym (d .1) ∙ e) in record { same = λ h. d .0 ∙ k .same h; known = rw (k .known) refl }
+    let k = refused s c n (sym (d .1) ∙ e) in record { same = d .0 ∙ k .same; known = rw (k .known) refl }
 
 -- refused by 12, 10 or 11
-stop-kept : (s t : State) (n : ℕ) → t ≡ s → Call.Refused (number (stop (s .runner))) ≡ Call.Refused n → KeptBy s t n
-stop-kept s t n k e =
-    let m : number (stop (s .runner)) ≡ n = cc in record { same = λ h. k; known = rw (← m) (rw (stop-known (s .runner)) refl) }
+stop-kept : (s t : State) (stores : Bool) (x : Refusal) (n : ℕ) → stop (s .runner) stores ≡ Reply.Refused x → t ≡ s
+    → Call.Refused (number x) ≡ Call.Refused n → KeptBy s t n
+stop-kept s t stores x n g k e =
+    let m : number x ≡ n = cc in record { same = k; known = rw (← m) (rw (stop-known (s .runner) stores x g .0) refl) }
 
-admitted-not : (r : Runner) (stores : Bool) → isGood r stores ≡ false → admitted r stores ≡ Reply.Refused (stop r)
+admitted-not : (r : Runner) (stores : Bool) (x : Refusal) → stop r stores ≡ Reply.Refused x → admitted r stores ≡ Reply.Refused x
 unfolding admitted
-admitted-not r stores g = rw g refl
+admitted-not r stores x g = rw g refl
 
-read-kept : (good : Bool) (s : State) (now channel : ℕ) (b : List ℕ) (n : ℕ) → isGood (s .runner) (storesDo (s .runner) (s .bytes) (s .lengths)) ≡ good
+read-kept : (met : Reply) (s : State) (now channel : ℕ) (b : List ℕ) (n : ℕ) → stop (s .runner) (storesDo (s .runner) (s .bytes) (s .lengths)) ≡ met
     → answerEntry s (readRecord now channel b) ≡ Call.Refused n → KeptBy s (nextEntry s (readRecord now channel b)) n
 unfolding nextEntry answerEntry Channel.readRecord admittedRead
-read-kept true s now channel b n g e =
+read-kept Reply.Ok s now channel b n g e =
     let a = admitted-so (s .runner) (storesDo (s .runner) (s .bytes) (s .lengths)) g in
     rw a (does-kept _ s _ _ n (read-by (isChannel (s .runner .limits)) s now channel b) (rw a at e))
-read-kept false s now channel b n g e =
-    let a = admitted-not (s .runner) (storesDo (s .runner) (s .bytes) (s .lengths)) g in rw a (stop-kept s s n refl (rw a at e))
+read-kept (Reply.Refused x) s now channel b n g e =
+    let a = admitted-not (s .runner) (storesDo (s .runner) (s .bytes) (s .lengths)) x g in rw a (stop-kept s s _ x n g refl (rw a at e))
 
-write-kept : (good : Bool) (s : State) (channel : ℕ) (buffer : List ℕ) (n : ℕ) → isGood (s .runner) (bytesDo (s .runner .limits) (s .bytes)) ≡ good
+write-kept : (met : Reply) (s : State) (channel : ℕ) (buffer : List ℕ) (n : ℕ) → stop (s .runner) (bytesDo (s .runner .limits) (s .bytes)) ≡ met
     → answerEntry s (writeRecord channel buffer) ≡ Call.Refused n → KeptBy s (nextEntry s (writeRecord channel buffer)) n
 unfolding nextEntry answerEntry Channel.writeRecord admittedWrite
-write-kept true s channel buffer n g e =
+write-kept Reply.Ok s channel buffer n g e =
     let a = admitted-so (s .runner) (bytesDo (s .runner .limits) (s .bytes)) g in
     rw a (does-kept _ s _ _ n (write-by (isChannel (s .runner .limits)) (leb (13 + s .runner .limits .chunk) (length buffer)) s channel buffer g refl) (rw a at e))
-write-kept false s channel buffer n g e =
-    let a = admitted-not (s .runner) (bytesDo (s .runner .limits) (s .bytes)) g in rw a (stop-kept s s n refl (rw a at e))
+write-kept (Reply.Refused x) s channel buffer n g e =
+    let a = admitted-not (s .runner) (bytesDo (s .runner .limits) (s .bytes)) x g in rw a (stop-kept s s _ x n g refl (rw a at e))
 
 kept : (s : State) (e : Entry) (n : ℕ) → answerEntry s e ≡ Call.Refused n → KeptBy s (nextEntry s e) n
 unfolding nextEntry answerEntry
 kept s (call c) n e = let k = refused s c n e in record { same = k .same; known = rw (k .known) refl }
-kept s (readRecord now channel b) n e = read-kept (isGood (s .runner) (storesDo (s .runner) (s .bytes) (s .lengths))) s now channel b n refl e
-kept s (writeRecord channel buffer) n e = write-kept (isGood (s .runner) (bytesDo (s .runner .limits) (s .bytes))) s channel buffer n refl e
+kept s (readRecord now channel b) n e = read-kept (stop (s .runner) (storesDo (s .runner) (s .bytes) (s .lengths))) s now channel b n refl e
+kept s (writeRecord channel buffer) n e = write-kept (stop (s .runner) (bytesDo (s .runner .limits) (s .bytes))) s channel buffer n refl e
 
 -- ---- the buffers
 
@@ -430,17 +400,17 @@ said-told P ended (Choice.End x) r buffer = tt
 said-told P ended (Choice.Output x n) r buffer = tt
 said-told P ended Choice.Terminal r buffer = tt
 
-message-buffer : (good : Bool) (s : State) (buffer : List ℕ) → isGood (s .runner) (bytesDo (s .runner .limits) (s .bytes)) ≡ good
+message-buffer : (met : Reply) (s : State) (buffer : List ℕ) → stop (s .runner) (bytesDo (s .runner .limits) (s .bytes)) ≡ met
     → IfRefused (λ n. Calls.nextMessage (s .runner) (s .bytes) buffer .buffer ≡ buffer) (Step.answer s (Call.nextMessage buffer))
 unfolding Calls.nextMessage Plain.enough Plain.answer
-message-buffer true s buffer g =
+message-buffer Reply.Ok s buffer g =
     rw (answer-is s (Call.nextMessage buffer) g) (said-safe _ (choose (s .runner) (length buffer)) (s .runner) (s .bytes))
-message-buffer false s buffer g = rw (stopped s (Call.nextMessage buffer) g .1) (rw g refl)
+message-buffer (Reply.Refused x) s buffer g = rw (stopped s (Call.nextMessage buffer) x g .1) (rw g refl)
 
 abbrev BufferSafe : WriteAfter → List ℕ → Type 0
 BufferSafe w buffer = IfRefused (λ n. w .buffer ≡ buffer) (wroteAs (w .writing .wrote) (w .buffer))
 
-write-buffer : (channels room : Bool) (s : State) (channel : ℕ) (buffer : List ℕ) → isGood (s .runner) (bytesDo (s .runner .limits) (s .bytes)) ≡ true
+write-buffer : (channels room : Bool) (s : State) (channel : ℕ) (buffer : List ℕ) → stop (s .runner) (bytesDo (s .runner .limits) (s .bytes)) ≡ Reply.Ok
     → leb (13 + s .runner .limits .chunk) (length buffer) ≡ room
     → BufferSafe (admittedWrite (cond channels Reply.Ok (Reply.Refused Refusal.NotAChannel)) (s .runner) channel (s .bytes) buffer) buffer
 unfolding admittedWrite roomyWrite sent told Calls.nextMessage
@@ -449,26 +419,26 @@ write-buffer true false s channel buffer g e = rw e refl
 write-buffer true true s channel buffer g e =
     rw (e, g) (said-told _ (hasEnded (s .runner)) (choose (s .runner) (length (take (s .runner .limits .chunk) (drop 13 buffer)))) (s .runner) _)
 
-record-buffer : (good : Bool) (s : State) (channel : ℕ) (buffer : List ℕ) → isGood (s .runner) (bytesDo (s .runner .limits) (s .bytes)) ≡ good
+record-buffer : (met : Reply) (s : State) (channel : ℕ) (buffer : List ℕ) → stop (s .runner) (bytesDo (s .runner .limits) (s .bytes)) ≡ met
     → BufferSafe (Channel.writeRecord (s .runner) channel (s .bytes) buffer) buffer
 unfolding Channel.writeRecord admittedWrite
-record-buffer true s channel buffer g =
+record-buffer Reply.Ok s channel buffer g =
     rw (admitted-so (s .runner) (bytesDo (s .runner .limits) (s .bytes)) g)
     (write-buffer (isChannel (s .runner .limits)) (leb (13 + s .runner .limits .chunk) (length buffer)) s channel buffer g refl)
-record-buffer false s channel buffer g = rw (admitted-not (s .runner) (bytesDo (s .runner .limits) (s .bytes)) g) refl
+record-buffer (Reply.Refused x) s channel buffer g = rw (admitted-not (s .runner) (bytesDo (s .runner .limits) (s .bytes)) x g) refl
 
 -- DEMAND 1, OF REFUSALS
 pub refusals : Refusals
 unfolding answerEntry
 refusals = record {
-  call-kept = λ s c n h e. refused s c n e .same h;
+  call-kept = λ s c n e. refused s c n e .same;
   message-kept = λ s buffer n e.
       subst (IfRefused (λ m. Calls.nextMessage (s .runner) (s .bytes) buffer .buffer ≡ buffer)) e
-      (message-buffer (isGood (s .runner) (bytesDo (s .runner .limits) (s .bytes))) s buffer refl);
+      (message-buffer (stop (s .runner) (bytesDo (s .runner .limits) (s .bytes))) s buffer refl);
   call-number = λ s c n e. refused s c n e .known;
-  entry-kept = λ s e n h a. kept s e n a .same h;
+  entry-kept = λ s e n a. kept s e n a .same;
   buffer-kept = λ s channel buffer n e.
       subst (IfRefused (λ m. Channel.writeRecord (s .runner) channel (s .bytes) buffer .buffer ≡ buffer)) e
-      (record-buffer (isGood (s .runner) (bytesDo (s .runner .limits) (s .bytes))) s channel buffer refl);
+      (record-buffer (stop (s .runner) (bytesDo (s .runner .limits) (s .bytes))) s channel buffer refl);
   entry-number = λ s e n a. kept s e n a .known;
 }

@@ -20,7 +20,7 @@ use Rattle.exec.specs.declared.Reply.the-variants as Reply
 use Rattle.exec.specs.declared.Stream.the-variants.{Stdout, Stderr}
 use Rattle.exec.specs.declared.Unit.the-variants.{Bytes}
 use Rattle.exec.specs.Key.{admits}
-use Rattle.exec.specs.Limits.{cost, bytesWith}
+use Rattle.exec.specs.Limits.{cost, bytesWith, bytesWindow, limitsFor}
 use Rattle.ring.specs.Ring.{wrap, ringRead, ringFrom, ringWrite}
 use Rattle.ring.specs.Runs.{copied}
 use Rattle.stdio.specs.Output.{takenIn, sent}
@@ -28,8 +28,8 @@ use Rattle.runner.specs.Calls as Calls
 use Rattle.runner.specs.Choose.{ifElse}
 use Rattle.runner.specs.Life.{closeRunnerInput, endGrace, giveUp, abandonLaunch, abandonOpenStreams, beginTermination, passGrace, terminate, passTimeout, passSettlement, giveUpUnlessClean, passGiveUp, dropLaunch, dropStreams, passAbandonment, fire, ticked, cancelled, cancelAnswer, cancelNext, noteStarted, noteLaunch, launchedNext, isReady, outcomeOf}
 use Rattle.runner.specs.Message.{sendableOf, order, choose, outputPaid, outputSent, effect, payload}
-use Rattle.runner.specs.Range.{bytesDo, lengthsDo, opens, openStop, fresh}
-use Rattle.runner.specs.Streams.{outputTaken, outputNext, outputBytes, outputTook, creditIn, creditAnswer, creditNext}
+use Rattle.runner.specs.Range.{fresh}
+use Rattle.runner.specs.Streams.{outputTaken, outputNext, outputStore, outputTook, creditIn, creditAnswer, creditNext}
 use Rattle.account.specs.Call as Call
 use Rattle.account.specs.Call.{Conf, Call, Answer, Done}
 use Rattle.account.specs.Claim.{Opens}
@@ -41,7 +41,7 @@ use Rattle.account.proofs.Demand.{same-run}
 abbrev pub conf : Conf
 conf = record {
   key = record { id = 7; generation = 2 };
-  limits = record { chunk = 4; input = record { unit = Bytes; size = 8 }; output = record { unit = Bytes; size = 8 }; shared = false };
+  limits = limitsFor 4 (bytesWindow 8) (bytesWindow 8) false;
   timers = record { timeout = MaybeDuration.None; grace = 10; settlement = 5 };
 }
 
@@ -98,25 +98,25 @@ answersOf ds = map (λ (d : Done). d .answer) ds
 -- only the first four bytes of the store are written
 computed : (a0 a1 a2 a3 : ℕ) (rest lengths : List ℕ)
     → answersOf (run (begun conf 0 (a0 ∷ a1 ∷ a2 ∷ a3 ∷ rest) lengths) calls) ≡ answers
-unfolding next answer said admits cost wrap ringRead ringFrom ringWrite copied takenIn sent ifElse closeRunnerInput endGrace giveUp abandonLaunch abandonOpenStreams beginTermination passGrace terminate passTimeout passSettlement giveUpUnlessClean passGiveUp dropLaunch dropStreams passAbandonment fire ticked cancelled cancelAnswer cancelNext noteStarted noteLaunch launchedNext isReady outcomeOf sendableOf order choose outputPaid outputSent effect payload fresh outputTaken outputNext outputBytes outputTook creditIn creditAnswer creditNext
+unfolding next answer said admits cost wrap ringRead ringFrom ringWrite copied takenIn sent ifElse closeRunnerInput endGrace giveUp abandonLaunch abandonOpenStreams beginTermination passGrace terminate passTimeout passSettlement giveUpUnlessClean passGiveUp dropLaunch dropStreams passAbandonment fire ticked cancelled cancelAnswer cancelNext noteStarted noteLaunch launchedNext isReady outcomeOf sendableOf order choose outputPaid outputSent effect payload fresh outputTaken outputNext outputStore outputTook creditIn creditAnswer creditNext
 computed a0 a1 a2 a3 rest lengths = refl
 
-plain : (bytes lengths : List ℕ) → 16 ≤ length bytes → answersOf (run (begun conf 0 bytes lengths) calls) ≡ answers
-plain [] lengths h = absurd (omega arith)
-plain (a0 ∷ []) lengths h = absurd (omega arith)
-plain (a0 ∷ a1 ∷ []) lengths h = absurd (omega arith)
-plain (a0 ∷ a1 ∷ a2 ∷ []) lengths h = absurd (omega arith)
-plain (a0 ∷ a1 ∷ a2 ∷ a3 ∷ rest) lengths h = computed a0 a1 a2 a3 rest lengths
+-- what holds of every store whose first four bytes are named holds of every one that open takes
+pub named-four : (P : List ℕ → Type 0) → ((a0 a1 a2 a3 : ℕ) (rest : List ℕ) → P (a0 ∷ a1 ∷ a2 ∷ a3 ∷ rest)) → (bytes : List ℕ) → 16 ≤ length bytes → P bytes
+named-four P p [] h = absurd (omega arith)
+named-four P p (a0 ∷ []) h = absurd (omega arith)
+named-four P p (a0 ∷ a1 ∷ []) h = absurd (omega arith)
+named-four P p (a0 ∷ a1 ∷ a2 ∷ []) h = absurd (omega arith)
+named-four P p (a0 ∷ a1 ∷ a2 ∷ a3 ∷ rest) h = p a0 a1 a2 a3 rest
 
-both-do : (b c : Bool) (x : Refusal) → b ≡ true → c ≡ true → cond (b && c) Reply.Ok (Reply.Refused x) ≡ Reply.Ok
-both-do b c x e f = rw (e, f) refl
+plain : (bytes lengths : List ℕ) → 16 ≤ length bytes → answersOf (run (begun conf 0 bytes lengths) calls) ≡ answers
+plain bytes lengths h =
+    named-four (λ (b : List ℕ). answersOf (run (begun conf 0 b lengths) calls) ≡ answers) (λ a0 a1 a2 a3 rest. computed a0 a1 a2 a3 rest lengths) bytes h
 
 -- line 1: open is answered ok
 pub open-ok : (bytes lengths : List ℕ) → 16 ≤ length bytes → Opens conf 0 bytes lengths
-unfolding Calls.«open» opens bytesWith
-open-ok bytes lengths h =
-    both-do (bytesDo (conf .limits) bytes) (lengthsDo (conf .limits) lengths) (openStop (conf .limits))
-    (le-leb 16 (length bytes) h) (le-leb 0 (length lengths) (omega arith))
+unfolding Calls.«open» bytesWith
+open-ok bytes lengths h = rw (le-leb 16 (length bytes) h, le-leb 0 (length lengths) (omega arith)) refl
 
 -- lines 2 to 14
 pub session : (bytes lengths : List ℕ) → 16 ≤ length bytes → answersOf (Step.run (Step.opened conf 0 bytes lengths) calls) ≡ answers

@@ -1,17 +1,21 @@
 -- The streams side by side: what one of them has after a change of each, or of one.
-use mathlib.Core.Bool.{false, true≢false}
+use mathlib.Core.Bool.{Bool, true, false, true≢false}
 use mathlib.Core.Path.{_≡_, refl}
 use mathlib.Core.List.{List, [], _∷_}
 use mathlib.Core.Logic.{_⊎_, inl, inr}
-use Prim.Native.Nat.{ℕ, _+_, _*_, _≤_}
+use Prim.Native.Nat.{ℕ, _+_, _≤_}
 use native.Mathlib.Omega.{arith}
 use Rattle.exec.specs.declared.Stream.{Stream}
 use Rattle.exec.specs.declared.Stream.the-variants.{Stdout, Stderr}
 use Rattle.exec.specs.Each.{Each, one, onOne, per, both}
-use Rattle.exec.specs.Stream.{same}
+use Rattle.exec.specs.Stream.{sameStream, everyStream, sumOfStreams}
 use Rattle.stdio.specs.declared.output.Output.{Output}
-use Rattle.stdio.specs.Outputs.{eachOutput}
-use Rattle.runner.specs.State.{outputIn, putOutput, base}
+use Rattle.stdio.specs.Outputs.{eachOutput, outputIn, putOutput}
+use Rattle.runner.specs.State.{base}
+
+pub same-self : (x : Stream) → sameStream x x ≡ true
+same-self Stdout = refl
+same-self Stderr = refl
 
 -- ---- each changed
 
@@ -31,11 +35,15 @@ pub one-per : {A : Type 0} (f : Stream → A) (x : Stream) → one x (per f) ≡
 one-per f Stdout = refl
 one-per f Stderr = refl
 
+-- what holds of each holds of all
+pub of-every : (p : Stream → Bool) → ((x : Stream) → p x ≡ true) → everyStream p ≡ true
+of-every p h = rw (h Stdout, h Stderr) refl
+
 -- ---- one changed: a claim on each stream holds if it holds of that one, and held of the others
 
 -- two that are kept of it
 pub on-two : {A B : Type 0} (P : Stream → A → B → Type 0) (y : Stream) (f : A → A) (g : B → B) (d : Each A) (e : Each B)
-    → P y (f (one y d)) (g (one y e)) → ((x : Stream) → same y x ≡ false → P x (one x d) (one x e)) → (x : Stream) → P x (one x (onOne y f d)) (one x (onOne y g e))
+    → P y (f (one y d)) (g (one y e)) → ((x : Stream) → sameStream y x ≡ false → P x (one x d) (one x e)) → (x : Stream) → P x (one x (onOne y f d)) (one x (onOne y g e))
 on-two P Stdout f g d e p h Stdout = p
 on-two P Stdout f g d e p h Stderr = h Stderr refl
 on-two P Stderr f g d e p h Stdout = h Stdout refl
@@ -43,12 +51,12 @@ on-two P Stderr f g d e p h Stderr = p
 
 -- one that is kept of it
 pub on-each : {A : Type 0} (P : Stream → A → Type 0) (y : Stream) (g : A → A) (e : Each A)
-    → P y (g (one y e)) → ((x : Stream) → same y x ≡ false → P x (one x e)) → (x : Stream) → P x (one x (onOne y g e))
+    → P y (g (one y e)) → ((x : Stream) → sameStream y x ≡ false → P x (one x e)) → (x : Stream) → P x (one x (onOne y g e))
 on-each {A} P y g e p h = on-two (λ (x : Stream) (a b : A). P x a) y g g e e p h
 
 -- its output, and one that is kept of it
 pub on-one : {A : Type 0} (P : Stream → Output → A → Type 0) (y : Stream) (o : Output) (g : A → A) (os : List Output) (e : Each A)
-    → P y o (g (one y e)) → ((x : Stream) → same y x ≡ false → P x (outputIn x os) (one x e)) → (x : Stream) → P x (outputIn x (putOutput y o os)) (one x (onOne y g e))
+    → P y o (g (one y e)) → ((x : Stream) → sameStream y x ≡ false → P x (outputIn x os) (one x e)) → (x : Stream) → P x (outputIn x (putOutput y o os)) (one x (onOne y g e))
 on-one P Stdout o g os e p h Stdout = p
 on-one P Stdout o g os e p h Stderr = h Stderr refl
 on-one P Stderr o g os e p h Stdout = h Stdout refl
@@ -56,17 +64,17 @@ on-one P Stderr o g os e p h Stderr = p
 
 -- its output
 pub on-out : (P : Stream → Output → Type 0) (y : Stream) (o : Output) (os : List Output)
-    → P y o → ((x : Stream) → same y x ≡ false → P x (outputIn x os)) → (x : Stream) → P x (outputIn x (putOutput y o os))
+    → P y o → ((x : Stream) → sameStream y x ≡ false → P x (outputIn x os)) → (x : Stream) → P x (outputIn x (putOutput y o os))
 on-out P y o os p h = on-one (λ (x : Stream) (o : Output) (a : Stream). P x o) y o (λ (a : Stream). a) os (per (λ (x : Stream). x)) p h
 
 -- ---- the rings
 
 -- they stand before the inbox, and apart from each other
-pub base-behind : (x : Stream) (c : ℕ) → base x c + c ≤ 2 * c
+pub base-behind : (x : Stream) (c : ℕ) → base x c + c ≤ sumOfStreams (λ (y : Stream). c)
 base-behind Stdout c = omega arith
 base-behind Stderr c = omega arith
 
-pub bases-apart : (y x : Stream) (c : ℕ) → same y x ≡ false → (base x c + c ≤ base y c) ⊎ (base y c + c ≤ base x c)
+pub bases-apart : (y x : Stream) (c : ℕ) → sameStream y x ≡ false → (base x c + c ≤ base y c) ⊎ (base y c + c ≤ base x c)
 bases-apart Stdout Stdout c e = absurd (true≢false e)
 bases-apart Stdout Stderr c e = inr (omega arith)
 bases-apart Stderr Stdout c e = inl (omega arith)

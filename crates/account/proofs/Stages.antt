@@ -15,7 +15,7 @@ use Rattle.lifecycle.specs.Life.{isFenced, isSettled, expired}
 use Rattle.lifecycle.specs.Setters.{setTimeoutAt, setGiveUpAt, setSettling}
 use Rattle.runner.specs.State.{withClocks, withLife}
 use Rattle.runner.specs.Life as Life
-use Rattle.runner.specs.Life.{isCleanedUp, endGrace, giveUp, abandonLaunch, abandonOpenStreams, beginTermination, passGrace, terminate, passTimeout, passSettlement, giveUpUnlessClean, passGiveUp, dropLaunch, dropStreams, passAbandonment, fire, ticked, noteLaunch, noteExit, detached, giveUpSoon}
+use Rattle.runner.specs.Life.{isCleanedUp, endGrace, giveUp, abandonLaunch, abandonOpenStreams, beginTermination, passGrace, terminate, passTimeout, passSettlement, giveUpUnlessClean, passGiveUp, dropLaunch, dropStreams, passAbandonment, fire, ticked, noteLaunch, noteExit, silenced, giveUpSoon}
 
 abbrev pub graceIf : Bool → Runner → Runner
 graceIf b r = cond b (endGrace r) r
@@ -68,7 +68,7 @@ abbrev pub late : Runner → Bool
 late r = r .flags .finished || r .clocks .terminated
 
 abbrev pub detachedNow : ℕ → Runner → Runner
-detachedNow now r = giveUpSoon (endGrace (detached r)) now
+detachedNow now r = giveUpSoon (endGrace (silenced r)) now
 
 abbrev pub detachIf : Bool → Bool → ℕ → Cause → Runner → Runner
 detachIf f d now c r = cond (f || d) r (detachedNow now (terminate r now c))

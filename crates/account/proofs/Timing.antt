@@ -32,9 +32,10 @@ use Rattle.lifecycle.specs.Life.{exitKnown, isFenced}
 use Rattle.lifecycle.specs.Setters.{setTimeoutAt}
 use Rattle.stdio.specs.Input.{closeInput, closeWhenTaken, popIn, endInput, receiveInput, writtenInput}
 use Rattle.stdio.specs.Output.{abandoned, closedOut, failedOut, hungUp, lostOut, endedOut, askedOut, sentOut}
-use Rattle.runner.specs.State.{withClocks, withInput, withOutputs, withFlow, outOf, putOutput, at}
+use Rattle.stdio.specs.Outputs.{putOutput}
+use Rattle.runner.specs.State.{withClocks, withInput, withOutputs, withFlow, outOf, at}
 use Rattle.runner.specs.Life as Life
-use Rattle.runner.specs.Life.{awaitsLaunch, isCleanedUp, closeRunnerInput, endGrace, giveUp, abandonLaunch, abandonOpenStreams, terminate, dropLaunch, ticked, noteStarted, noteLaunch, launchedNext, settledNext, noteExit, noteExitOnce, exitedNext, detached, giveUpSoon, cutOff, cutOffOnce, detachNext}
+use Rattle.runner.specs.Life.{awaitsLaunch, isCleanedUp, closeRunnerInput, endGrace, giveUp, abandonLaunch, abandonOpenStreams, terminate, dropLaunch, ticked, noteStarted, noteLaunch, launchedNext, settledNext, noteExit, noteExitOnce, exitedNext, silenced, giveUpSoon, cutOff, cutOffOnce, detachNext}
 use Rattle.runner.specs.Streams.{room, outputFilled, outputNext, discardedNext, closedNext, failedNext, hungUpNext, creditNext, isTaken, inputReceived, inputNext, endNext, writtenNext}
 use Rattle.runner.specs.Message.{choose, plain, outputPaid, outputSent, effect, wish, handed, wishEffect}
 use Rattle.account.specs.Call as Call
@@ -139,7 +140,7 @@ module _ (P : Deadline → Type 0) (lower : (d e : Deadline) → P d → P (earl
   low-cancel (Admission.Refused z) now c s h = same h
 
   low-detachedNow : (now : ℕ) (s : Runner) → Phase P s → Low s (detachedNow now s)
-  unfolding endGrace detached giveUpSoon
+  unfolding endGrace silenced giveUpSoon
   low-detachedNow now s h = record {
     hold = (h .0, h .1, right (dry-grace s), go (h .3));
     less = λ n. omega arith;

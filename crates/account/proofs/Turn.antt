@@ -1,4 +1,4 @@
--- The turn: a stream that Terminal reports untruncated was sent whole, was closed by the program, and stays as it is.
+-- The turn: a stream that Terminal reports untruncated was sent whole and closed by the program, and no byte is added to it any more.
 use mathlib.Core.Bool.{Bool, true, false, not, _&&_, _||_, true≢false, false≢true}
 use mathlib.Core.Path.{_≡_, refl, sym, ap, _∙_, subst, subst⁻¹}
 use mathlib.Core.List.{List, [], _∷_, _++_, append-nil}
@@ -42,7 +42,7 @@ use Rattle.account.specs.Step.{State}
 use Rattle.account.specs.Account.{Account, Replay, Tally, add, account, start, tallyOf, cut, count}
 use Rattle.account.specs.Claim.{Opens, IsPrefix, isMessage, isTerminal}
 use Rattle.account.specs.Records.{Entry, EntryDone, call, readRecord, writeRecord, callOf, roomy, made, callsOf, consCall, consDone, donesOf, runEntries, entryAccount, Whole}
-use Rattle.account.specs.TurnClaim.{Has, closing, answered, tallied, Turn}
+use Rattle.account.specs.TurnClaim.{Has, closing, answerAfter, tallied, Turn}
 use Rattle.account.proofs.Plain.{next, answer, afterAll, run, begun}
 use Rattle.account.proofs.Stages.{launchedIf}
 use Rattle.account.proofs.Sides.{on-out, one-per}
@@ -52,6 +52,7 @@ use Rattle.account.proofs.Lists.{Course, running, over, open-course, pl
 use Rattle.account.proofs.Range.{lent}
 use Rattle.account.proofs.Demand.{opens-by, same-run, same-answer, same-account as plain-account}
 use Rattle.account.proofs.Records.{same-dones, calls-append, good-open, same-account, at-terminal, whole}
+use Rattle.account.proofs.Spared.{dropped-marks, failed-marks, spared}
 use Rattle.account.proofs.Flags.{and-l, either, or-false-l, or-false-r}
 
 -- ---- rows: a prefix that is not shorter is the whole
@@ -77,10 +78,10 @@ unmarked t e = or-false-r (ltb (length (t .sent)) (length (t .taken))) (t .mark)
 -- ---- own: by the account a stream that is closed and not marked was closed by the program
 
 -- over calls: the call that closed it
-abbrev closed-by : Stream → Done
-closed-by x = record { call = Call.outputClosed x; answer = Call.Ok }
+abbrev closing-call : Stream → Done
+closing-call x = record { call = Call.outputClosed x; answer = Call.Ok }
 
-closed-now : (x : Stream) (c : Call) (s : State) → c ≡ Call.outputClosed x → closed-by x ≡ record { call = c; answer = answer s c }
+closed-now : (x : Stream) (c : Call) (s : State) → c ≡ Call.outputClosed x → closing-call x ≡ record { call = c; answer = answer s c }
 unfolding answer
 closed-now x c s e = rw e refl
 
@@ -89,7 +90,7 @@ module _ (G : Stream → Type 0) where
   abbrev Owns : Stream → Bool → Tally → Type 0
   Owns x k t = k ≡ true → t .mark ≡ false → G x
 
-  list-own : (cs : List Call) (s : State) (a : Account) → ((x : Stream) → Has (closed-by x) (run s cs) → G x) → All Owns a → All Owns (account a (run s cs))
+  list-own : (cs : List Call) (s : State) (a : Account) → ((x : Stream) → Has (closing-call x) (run s cs) → G x) → All Owns a → All Owns (account a (run s cs))
   list-own [] s a g h = h
   list-own (c ∷ cs) s a g h =
       list-own cs (next s c) (add a c (answer s c)) (λ x m. g x (inr m))
@@ -235,7 +236,7 @@ module _ (z : Account) where
 abbrev Unclosing : Stream → Option Call → Type 0
 Unclosing x m = m ≡ some (Call.outputClosed x) → ⊥
 
-unclosed : (m : Option Call) (r : Answer) (x : Stream) (ds : List Done) → Unclosing x m → Has (closed-by x) (consDone m r ds) → Has (closed-by x) ds
+unclosed : (m : Option Call) (r : Answer) (x : Stream) (ds : List Done) → Unclosing x m → Has (closing-call x) (consDone m r ds) → Has (closing-call x) ds
 unclosed none r x ds n h = h
 unclosed (some c) r x ds n (inl e) = absurd (n (ap (λ (d : Done). some (d .call)) (sym e)))
 unclosed (some c) r x ds n (inr h) = h
@@ -252,8 +253,8 @@ read-unclosed conf now b x (Parsed.Read Record.Eof) e = let z : false ≡ true =
 read-unclosed conf now b x (Parsed.Read Record.Close) e = let z : false ≡ true = cc in false≢true z
 read-unclosed conf now b x (Parsed.Refused y) e = none-unclosed x e
 
-closing-at : (conf : Conf) (x : Stream) (e : Entry) (r : Answer) (ds : List Done) (es : List EntryDone) → (Has (closed-by x) ds → Has (closing x) es)
-    → Has (closed-by x) (consDone (made conf e) r ds) → Has (closing x) (record { entry = e; answer = r } ∷ es)
+closing-at : (conf : Conf) (x : Stream) (e : Entry) (r : Answer) (ds : List Done) (es : List EntryDone) → (Has (closing-call x) ds → Has (closing x) es)
+    → Has (closing-call x) (consDone (made conf e) r ds) → Has (closing x) (record { entry = e; answer = r } ∷ es)
 unfolding made
 closing-at conf x (call c) r ds es g (inl e) = inl (ap (λ (d : Done). record { entry = call (d .call); answer = d .answer }) e)
 closing-at conf x (call c) r ds es g (inr h) = inr (g h)
@@ -262,7 +263,7 @@ closing-at conf x (readRecord now channel b) r ds es g h =
 closing-at conf x (writeRecord channel buffer) r ds es g h =
     inr (g (unclosed _ r x ds (either (Unclosing x) (isChannel (conf .limits) && roomy conf buffer) _ none (λ e. let z : false ≡ true = cc in false≢true z) (none-unclosed x)) h))
 
-closing-in : (conf : Conf) (x : Stream) (ds : List EntryDone) → Has (closed-by x) (donesOf conf ds) → Has (closing x) ds
+closing-in : (conf : Conf) (x : Stream) (ds : List EntryDone) → Has (closing-call x) (donesOf conf ds) → Has (closing x) ds
 closing-in conf x [] h = h
 closing-in conf x (d ∷ ds) h = closing-at conf x (d .entry) (d .answer) (donesOf conf ds) ds (closing-in conf x ds) h
 
@@ -282,7 +283,7 @@ module _ (conf : Conf) (now : ℕ) (bytes lengths : List ℕ) (op : Opens conf n
   w : Whole conf now bytes lengths
   w = whole conf now bytes lengths op
 
-  uncut : (es : List Entry) (e : Entry) (o : Outcome) (x : Stream) → answered conf now bytes lengths es e ≡ Call.Says (Call.Terminal o) → isTruncated o x ≡ false
+  uncut : (es : List Entry) (e : Entry) (o : Outcome) (x : Stream) → answerAfter conf now bytes lengths es e ≡ Call.Says (Call.Terminal o) → isTruncated o x ≡ false
       → cut (tallied conf now bytes lengths es x) ≡ false
   uncut es e o x h u = sym (w .marks es e o h x) ∙ u
 
@@ -296,7 +297,7 @@ module _ (conf : Conf) (now : ℕ) (bytes lengths : List ℕ) (op : Opens conf n
   to-plain : (es : List Entry) → entryAccount conf now bytes lengths es ≡ plain es
   to-plain es = same-account conf now bytes lengths op es ∙ plain-account conf now bytes lengths op (callsOf conf es)
 
-  terminal-call : (es : List Entry) (e : Entry) → isTerminal (answered conf now bytes lengths es e) ≡ true
+  terminal-call : (es : List Entry) (e : Entry) → isTerminal (answerAfter conf now bytes lengths es e) ≡ true
       → (c : Call) × (made conf e ≡ some c) × (isTerminal (answer (state es) c) ≡ true)
   terminal-call es e h =
       let q = at-terminal conf now bytes lengths op es e h in
@@ -306,7 +307,7 @@ module _ (conf : Conf) (now : ℕ) (bytes lengths : List ℕ) (op : Opens conf n
   own-at es x =
       list-own (λ (y : Stream). Has (closing y) (runEntries (Step.opened conf now bytes lengths) es)) (callsOf conf es) (begun conf now bytes lengths) (start conf now)
       (λ y m. closing-in conf y (runEntries (Step.opened conf now bytes lengths) es)
-      (subst⁻¹ (Has (closed-by y)) (same-dones conf es (Step.opened conf now bytes lengths) (good-open conf now bytes lengths op) ∙ same-run conf now bytes lengths op (callsOf conf es)) m))
+      (subst⁻¹ (Has (closing-call y)) (same-dones conf es (Step.opened conf now bytes lengths) (good-open conf now bytes lengths op) ∙ same-run conf now bytes lengths op (callsOf conf es)) m))
       (start-own _ conf now) x
 
   final-at : (es : List Entry) (e : Entry) (ds : List Entry) (c : Call) → made conf e ≡ some c → isTerminal (answer (state es) c) ≡ true → All (Same (plain es)) (plain (es ++ (e ∷ ds)))
@@ -323,6 +324,8 @@ module _ (conf : Conf) (now : ℕ) (bytes lengths : List ℕ) (op : Opens conf n
         let course = open-course conf now bytes lengths (lent (conf .limits) bytes lengths (opens-by conf now bytes lengths op)) (callsOf conf es) in
         own-at es x (replay-shut x (state es) (plain es) (q .0) course (q .2))
         (subst (λ (a : Account). tallyOf x a .mark ≡ false) (to-plain es) (unmarked (tallied conf now bytes lengths es x) (uncut es e o x h u))));
+    undropped = λ es e o x n h u l. spared conf now bytes lengths op es e o x (Call.discarded x n) (dropped-marks x n l) h u;
+    unfailed = λ es e o x h u. spared conf now bytes lengths op es e o x (Call.outputFailed x) (failed-marks x) h u;
     final = λ es e ds x h. (let q = terminal-call es e h in
         rw (to-plain (es ++ (e ∷ ds)), to-plain es) (final-at es e ds (q .0) (q .1) (q .2) x));
   }

@@ -15,9 +15,13 @@ use Rattle.exec.specs.Key.{admits}
 use Rattle.exec.specs.Limits.{cost}
 use Rattle.ring.specs.FrameLaws.{pop-most}
 use Rattle.credit.specs.declared.inbox.Inbox.{Inbox}
-use Rattle.credit.specs.Inbox.{newInbox, inboxHeld, pushed, freedBy, framesPopped, poppedBox, popFreed}
+use Rattle.credit.specs.Inbox.{newInbox, inboxHeld, pushed, freedBy, framesPopped, popInbox, popFreed}
+use Rattle.exec.specs.declared.Received.{Received}
+use Rattle.exec.specs.declared.Received.the-variants.{Refused}
+use Rattle.exec.specs.declared.Refusal.{Refusal}
+use Rattle.exec.specs.declared.Refusal.the-variants as Refusal
 use Rattle.stdio.specs.declared.input.Input.{Input}
-use Rattle.stdio.specs.Input.{receiveAnswer, asked-of, isPaid, receiveInput, endInput, writtenInput}
+use Rattle.stdio.specs.Input.{receiveAnswer, isReceipt, answered, receiveInput, endInput, writtenInput}
 use Rattle.runner.specs.declared.answer.Request.the-variants as Request
 use Rattle.runner.specs.declared.message.Choice.{Choice}
 use Rattle.runner.specs.declared.message.Choice.the-variants as Choice
@@ -59,18 +63,22 @@ unfolding cost
 pushed-held Bytes n b = refl
 pushed-held Frames n b = refl
 
--- charged (paid), and dropped (closed): the charge is lost
-receive-by : (l : Limits) (i : Input) (n : ℕ) (p c : Bool) → isPaid l i n ≡ p → i .closed ≡ c
-    → unitsIn l (receiveInput l i n) + cond (p && c) (cost (l .input .unit) n) 0 ≡ unitsIn l i
-unfolding receiveInput
-receive-by l i n false c ep ec = rw ep (omega arith)
-receive-by l i n true true ep ec = rw (ep, ec) (omega (arith, paid l i n ep .enough))
-receive-by l i n true false ep ec =
-    rw (ep, ec, pushed-held (l .input .unit) n (i .inbox)) (omega (arith, paid l i n ep .enough))
+-- charged, and dropped where the answer is Late: the charge is lost
+module _ (l : Limits) (i : Input) (n : ℕ) where
+  abbrev Kept : Received → Type 0
+  Kept x = receiveAnswer l i n ≡ x → unitsIn l (receiveInput l i n) + cond (isLate (receivedAs x)) (cost (l .input .unit) n) 0 ≡ unitsIn l i
 
--- an answer is Late exactly then
-late-is : (l : Limits) (i : Input) (n : ℕ) → isLate (receivedAs (receiveAnswer l i n)) ≡ (isPaid l i n && i .closed)
-late-is l i n = asked-of (λ x. isLate (receivedAs x)) (λ x. refl) (λ closed. closed) refl refl l i n
+  refused : (x : Refusal) → Kept (Refused x)
+  unfolding receiveInput
+  refused x e = rw e (omega arith)
+
+  receive-by : unitsIn l (receiveInput l i n) + cond (isLate (receivedAs (receiveAnswer l i n))) (cost (l .input .unit) n) 0 ≡ unitsIn l i
+  unfolding receiveInput
+  receive-by =
+      answered l i n Kept (refused Refusal.Ended) (refused Refusal.Chunk) (refused Refusal.Window)
+      (λ p e. rw e (omega (arith, paid l i n (ap isReceipt e) .enough)))
+      (λ p e. rw (e, pushed-held (l .input .unit) n (i .inbox)) (omega (arith, paid l i n (ap isReceipt e) .enough)))
+      refl
 
 received-units : (a : Admission) (r : Runner) (n : ℕ) (f : Bool) → r .flags .finished ≡ f
     → unitsIn (r .limits) (inputNext a r n .input) + lateCost f (r .limits) n (receivedAs (inputAnswer a r n)) ≡ unitsIn (r .limits) (r .input)
@@ -79,8 +87,7 @@ received-units (Admission.Refused x) r n f e = omega arith
 received-units Admission.Stale r n f e = omega arith
 received-units Admission.Own r n true e = rw e (omega arith)
 received-units Admission.Own r n false e =
-    rw (e, late-is (r .limits) (r .input) n, and-true (isPaid (r .limits) (r .input) n && r .input .closed))
-    (receive-by (r .limits) (r .input) n (isPaid (r .limits) (r .input) n) (r .input .closed) refl refl)
+    rw (e, and-true (isLate (receivedAs (receiveAnswer (r .limits) (r .input) n)))) (receive-by (r .limits) (r .input) n)
 
 -- ---- bytes to the workload
 
@@ -101,7 +108,7 @@ unfolding writtenInput
 written-by l lengths i count true e h = rw e refl
 written-by l lengths i count false e h =
     let p = popped-by (l .input .unit) l lengths i (min count (i .inbox .length)) (omega arith) h in
-    let q = held-of (l .input .unit) (poppedBox l (min count (i .inbox .length)) (popFreed l (i .inbox) count lengths) (i .inbox))
+    let q = held-of (l .input .unit) (popInbox l (i .inbox) count lengths)
     (record { start = 0; length = i .inbox .length - min count (i .inbox .length); first = 0; frames = framesPopped (l .input .unit) (popFreed l (i .inbox) count lengths) (i .inbox .frames) }) refl refl in
     rw e (omega (arith, p, q))
 

@@ -55,9 +55,9 @@ mk r ts = record { rep = r; tallies = ts }
 abbrev pub marked : Bool → Tally → Tally
 marked b t = record { taken = t .taken; sent = t .sent; mark = b || t .mark }
 
--- a stream that is not closed is marked
-abbrev pub unlessClosed : (closed : Bool) → Tally → Tally
-unlessClosed closed t = marked (not closed) t
+-- marked, unless the stream's end was there already
+abbrev pub markedUnless : (over : Bool) → Tally → Tally
+markedUnless over t = marked (not over) t
 
 abbrev pub onTally : Stream → (Tally → Tally) → Account → Account
 onTally x f a = mk (a .rep) (onOne x f (a .tallies))
@@ -174,7 +174,7 @@ giveUpA true false a =
     (withTimes (a .rep .timeout) (a .rep .begun) Never (a .rep .abandon)
     (withWork (a .rep .launch) true (a .rep .left) true Fenced (a .rep .detached)
     (withStreams (alike true) (a .rep .hung) (a .rep))))
-    (both unlessClosed (a .rep .closed) (a .tallies))
+    (both markedUnless (a .rep .closed) (a .tallies))
 
 -- the launch is still waited for
 abbrev pub waitsR : Replay → Bool
@@ -196,7 +196,7 @@ abandonStreamsA true a =
     mk
     (withTimes (a .rep .timeout) (a .rep .begun) (a .rep .giveUp) Never
     (withStreams (both (λ (c h : Bool). c || not h) (a .rep .closed) (a .rep .hung)) (a .rep .hung) (a .rep)))
-    (both unlessClosed (both _||_ (a .rep .closed) (a .rep .hung)) (a .tallies))
+    (both markedUnless (both _||_ (a .rep .closed) (a .rep .hung)) (a .tallies))
 
 unfoldable pub abandonA : (due : Bool) → Account → Account
 abandonA false a = a

@@ -72,43 +72,43 @@ abbrev pub Silent : List Done → Type 0
 Silent [] = Unit
 Silent (d ∷ ds) = (isMessage (d .answer) ≡ false) × Silent ds
 
-abbrev pub counts : Call → ℕ → ℕ
-counts (credit k p u) n = n
-counts (input k b) n = n
-counts (endInput k) n = n
-counts (cancel now k c) n = n
-counts (launched x) n = n
-counts (output x b) n = n
-counts (discarded x k) n = n
-counts (outputClosed x) n = n
-counts (outputFailed x) n = n
-counts (outputHungUp x) n = n
-counts (inputWritten k) n = n
-counts inputClosed n = n
-counts (exited now x) n = n
-counts (settled ok) n = n
-counts (dropped now) n = n
-counts (reset now) n = n
-counts (disconnect now) n = n
-counts (tick now) n = n
-counts nextRequest n = n
-counts (nextMessage k) n = suc n
-counts (readAllowance x) n = n
-counts pendingInput n = n
-counts deadline n = n
-counts isFinished n = n
-counts isDetached n = n
-counts awaitsSettlement n = n
-counts buffered n = n
-counts highWater n = n
-counts memoryBound n = n
-counts key n = n
-counts limits n = n
+abbrev pub countsMessage : Call → ℕ → ℕ
+countsMessage (credit k p u) n = n
+countsMessage (input k b) n = n
+countsMessage (endInput k) n = n
+countsMessage (cancel now k c) n = n
+countsMessage (launched x) n = n
+countsMessage (output x b) n = n
+countsMessage (discarded x k) n = n
+countsMessage (outputClosed x) n = n
+countsMessage (outputFailed x) n = n
+countsMessage (outputHungUp x) n = n
+countsMessage (inputWritten k) n = n
+countsMessage inputClosed n = n
+countsMessage (exited now x) n = n
+countsMessage (settled ok) n = n
+countsMessage (dropped now) n = n
+countsMessage (reset now) n = n
+countsMessage (disconnect now) n = n
+countsMessage (tick now) n = n
+countsMessage nextRequest n = n
+countsMessage (nextMessage k) n = suc n
+countsMessage (readAllowance x) n = n
+countsMessage pendingInput n = n
+countsMessage deadline n = n
+countsMessage isFinished n = n
+countsMessage isDetached n = n
+countsMessage awaitsSettlement n = n
+countsMessage buffered n = n
+countsMessage highWater n = n
+countsMessage memoryBound n = n
+countsMessage key n = n
+countsMessage limits n = n
 
 -- how many of the calls are next_message
 abbrev pub messages : List Call → ℕ
 messages [] = 0
-messages (c ∷ cs) = counts c (messages cs)
+messages (c ∷ cs) = countsMessage c (messages cs)
 
 -- refused by 10, 11 or 12
 abbrev pub isStop : Answer → Bool

@@ -5,17 +5,12 @@ use mathlib.Core.Path.{_≡_}
 use mathlib.Core.List.{List, [], _∷_}
 use Prim.Native.Nat.{ℕ}
 use lib.Dec.{eqb}
-use lib.ListN.{length}
 use Rattle.runner.specs.Calls as Calls
 use Rattle.channel.specs.Calls as Channel
 use Rattle.account.specs.Call as Call
 use Rattle.account.specs.Call.{Call}
 use Rattle.account.specs.Step.{State, next, answer}
 use Rattle.account.specs.Records.{Entry, writeRecord, nextEntry, answerEntry}
-
--- the runner has two credit accounts, as the type of its array says; a list in antt may have any number
-abbrev pub TwoAccounts : State → Type 0
-TwoAccounts s = length (s .runner .credits) ≡ 2
 
 abbrev pub among : ℕ → List ℕ → Bool
 among n [] = false
@@ -32,13 +27,13 @@ ofRecords = 13 ∷ 20 ∷ 21 ∷ 22 ∷ 23 ∷ 24 ∷ 25 ∷ []
 -- DEMAND 1, of refusals: for every state, call or record, and number
 pub record Refusals : Type 0 where
   -- a call that is refused leaves the runner and both stores as they were
-  pub call-kept : (s : State) (c : Call) (n : ℕ) → TwoAccounts s → answer s c ≡ Call.Refused n → next s c ≡ s
+  pub call-kept : (s : State) (c : Call) (n : ℕ) → answer s c ≡ Call.Refused n → next s c ≡ s
   -- and next_message the buffer
   pub message-kept : (s : State) (buffer : List ℕ) (n : ℕ) → answer s (Call.nextMessage buffer) ≡ Call.Refused n
       → Calls.nextMessage (s .runner) (s .bytes) buffer .buffer ≡ buffer
   pub call-number : (s : State) (c : Call) (n : ℕ) → answer s c ≡ Call.Refused n → among n ofCalls ≡ true
   -- so does a record that is refused
-  pub entry-kept : (s : State) (e : Entry) (n : ℕ) → TwoAccounts s → answerEntry s e ≡ Call.Refused n → nextEntry s e ≡ s
+  pub entry-kept : (s : State) (e : Entry) (n : ℕ) → answerEntry s e ≡ Call.Refused n → nextEntry s e ≡ s
   -- and a record that is not written leaves the record buffer
   pub buffer-kept : (s : State) (channel : ℕ) (buffer : List ℕ) (n : ℕ) → answerEntry s (writeRecord channel buffer) ≡ Call.Refused n
       → Channel.writeRecord (s .runner) channel (s .bytes) buffer .buffer ≡ buffer
