@@ -15,7 +15,7 @@ use Rattle.exec.specs.declared.Stream.{Stream}
 use Rattle.exec.specs.Each.{Each, one, onOne, alike, both, every}
 use Rattle.exec.specs.Key.{admits}
 use Rattle.exec.specs.Time.{after, then, earliest, due, timeoutAt}
-use Rattle.account.specs.Call.{Conf, Done, Call, key, limits, credit, input, endInput, cancel, launched, readAllowance, output, discarded, outputClosed, outputFailed, outputHungUp, pendingInput, inputWritten, inputClosed, exited, settled, dropped, reset, disconnect, tick, deadline, nextRequest, nextMessage, isFinished, isDetached, awaitsSettlement, memoryBound, buffered, highWater, Answer, Ok, Applied, Stale, Late, Refused, Taken, Pending, Value, Time, Truth, Asks, Says, IsKey, AreLimits, Nothing, Message, Credit, Started, Output, End, InputClosed, Terminal}
+use Rattle.account.specs.Call.{Conf, Done, Call, key, limits, credit, input, endInput, cancel, launched, readAllowance, output, discarded, outputClosed, outputFailed, outputHungUp, pendingInput, inputWritten, inputClosed, exited, settled, dropped, reset, disconnect, tick, deadline, nextRequest, nextMessage, isFinished, isDetached, awaitsSettlement, memoryBound, buffered, highWater, Answer, Ok, Applied, Stale, Late, Refused, Taken, Pending, Value, Time, Truth, Asks, Says, IsKey, AreLimits, Nothing, isRefused, Message, Credit, Started, Output, End, InputClosed, Terminal}
 
 -- Where the settlement stands, by what was reported and what time has passed.
 pub data Settling : Type 0 where
@@ -350,23 +350,6 @@ adds a highWater r = a
 adds a memoryBound r = a
 adds a key r = a
 adds a limits r = a
-
-abbrev pub isRefused : Answer → Bool
-isRefused Ok = false
-isRefused Applied = false
-isRefused Stale = false
-isRefused Late = false
-isRefused (Refused n) = true
-isRefused (Taken n) = false
-isRefused (Pending b) = false
-isRefused (Value n) = false
-isRefused (Time d) = false
-isRefused (Truth b) = false
-isRefused (Asks r) = false
-isRefused (Says m) = false
-isRefused (IsKey k) = false
-isRefused (AreLimits l) = false
-isRefused Nothing = false
 
 -- a refused call adds nothing
 unfoldable pub add : Account → Call → Answer → Account

@@ -1,5 +1,5 @@
 -- The runner's calls after open, and what they answer: 01's words, numbers and values. Nothing here knows the runner.
-use mathlib.Core.Bool.{Bool}
+use mathlib.Core.Bool.{Bool, true, false}
 use mathlib.Core.List.{List}
 use Prim.Native.Nat.{ℕ}
 use Rattle.exec.specs.declared.Cause.{Cause}
@@ -85,6 +85,24 @@ pub data Answer : Type 0 where
   IsKey : Key → Answer
   AreLimits : Limits → Answer
   Nothing : Answer
+
+-- refused, by whatever number
+abbrev pub isRefused : Answer → Bool
+isRefused Ok = false
+isRefused Applied = false
+isRefused Stale = false
+isRefused Late = false
+isRefused (Refused n) = true
+isRefused (Taken n) = false
+isRefused (Pending b) = false
+isRefused (Value n) = false
+isRefused (Time d) = false
+isRefused (Truth b) = false
+isRefused (Asks r) = false
+isRefused (Says m) = false
+isRefused (IsKey k) = false
+isRefused (AreLimits l) = false
+isRefused Nothing = false
 
 -- a call that was made, with its answer
 pub record Done : Type 0 where

@@ -15,7 +15,7 @@ use Rattle.runner.specs.declared.answer.Noting.{Noting}
 use Rattle.runner.specs.declared.runner.Runner.{Runner}
 use Rattle.runner.specs.Calls as Calls
 use Rattle.account.specs.Call as Account
-use Rattle.account.specs.Call.{Call}
+use Rattle.account.specs.Call.{Call, isRefused}
 use Rattle.account.specs.Step.{State, next, answer}
 use Rattle.card.specs.declared.answers.Answer.{Answer}
 use Rattle.card.specs.declared.answers.Answer.the-variants as Answers
@@ -29,7 +29,7 @@ use Rattle.card.specs.declared.opening.MaybeOpening.the-variants as Mayb
 use Rattle.card.specs.declared.opening.Opening as Openings
 use Rattle.grammar.specs.Lines.{zeros, lineCall}
 use Rattle.grammar.specs.Feed as Feed
-use Rattle.grammar.specs.Feed.{Session, isRefused, isBack, timeOf, remembered, openedBy, first, later, answered, tooLong, answerOf, lineEnds, hold, eat, feeds}
+use Rattle.grammar.specs.Feed.{Session, isBack, timeOf, remembered, openedBy, first, later, answered, tooLong, answerOf, lineEnds, hold, eat, feeds}
 use Rattle.card.specs.Meaning.{openingIs}
 use Rattle.card.specs.Answering.{answerIs}
 use Rattle.card.specs.Making.{timeIs, stateOf, Made}

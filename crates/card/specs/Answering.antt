@@ -5,12 +5,12 @@ use mathlib.Core.Path.{_≡_, refl}
 use Prim.Native.Nat.{ℕ}
 use lib.ListN.{take}
 use Rattle.account.specs.Call as Call
+use Rattle.account.specs.Call.{isRefused}
 use Rattle.account.specs.Step.{messageOf, requestOf}
 use Rattle.runner.specs.declared.answer.Message.{Message}
 use Rattle.runner.specs.declared.answer.Message.the-variants as Message
 use Rattle.runner.specs.declared.answer.Request.{Request}
 use Rattle.runner.specs.declared.answer.Request.the-variants as Request
-use Rattle.grammar.specs.Feed.{isRefused}
 use Rattle.card.specs.declared.answers.Answer.{Answer}
 use Rattle.card.specs.declared.answers.Answer.the-variants as Answer
 

@@ -8,7 +8,7 @@ use Rattle.exec.specs.declared.Reply.{Reply}
 use Rattle.exec.specs.declared.Reply.the-variants as Reply
 use Rattle.runner.specs.declared.runner.Runner.{Runner}
 use Rattle.account.specs.Call as Account
-use Rattle.account.specs.Call.{Call}
+use Rattle.account.specs.Call.{Call, isRefused}
 use Rattle.account.specs.Step.{State, next, answer, replied}
 use Rattle.card.specs.declared.feed.Answered as Code
 use Rattle.card.specs.declared.feed.Card.{Card}
@@ -21,7 +21,7 @@ use Rattle.card.specs.declared.opening.Opening as Openings
 use Rattle.card.specs.declared.opening.MaybeOpening.the-variants as MaybeOpening
 use Rattle.grammar.specs.Lines.{zeros}
 use Rattle.grammar.specs.Feed as Feed
-use Rattle.grammar.specs.Feed.{Session, lineEnds, first, tooLong, isRefused, timeOf, remembered}
+use Rattle.grammar.specs.Feed.{Session, lineEnds, first, tooLong, timeOf, remembered}
 use Rattle.card.specs.Meaning.{openingIs}
 use Rattle.card.specs.Answering.{answerIs}
 use Rattle.card.specs.Making.{stateOf}

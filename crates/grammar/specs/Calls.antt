@@ -9,12 +9,12 @@ use native.Mathlib.Omega.{arith}
 use lib.Dec.{eqb}
 use lib.ListN.{length}
 use Rattle.account.specs.Call as Call
-use Rattle.account.specs.Call.{Call, Answer, Done}
+use Rattle.account.specs.Call.{Call, Answer, Done, isRefused}
 use Rattle.account.specs.Step.{State, next, answer, after, run}
 use Rattle.account.specs.Refused.{among}
 use Rattle.grammar.specs.Lines.{lineCall}
 use Rattle.grammar.specs.Answers.{lineText}
-use Rattle.grammar.specs.Feed.{Stage, First, Running, Over, Session, Step, Answered, isBack, isRefused, timeOf, remembered, later, answered, tooLong, isShort, answerOf, lineEnds, hold, eat, feeds, ends}
+use Rattle.grammar.specs.Feed.{Stage, First, Running, Over, Session, Step, Answered, isBack, timeOf, remembered, later, answered, tooLong, isShort, answerOf, lineEnds, hold, eat, feeds, ends}
 
 -- ---- the calls
 

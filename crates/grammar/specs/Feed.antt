@@ -10,7 +10,7 @@ use Rattle.exec.specs.declared.Reply.{Reply}
 use Rattle.exec.specs.declared.Reply.the-variants as Reply
 use Rattle.runner.specs.Calls as Calls
 use Rattle.account.specs.Call as Call
-use Rattle.account.specs.Call.{Call, Answer}
+use Rattle.account.specs.Call.{Call, Answer, isRefused}
 use Rattle.account.specs.Step.{State, replied, next, answer, opened}
 use Rattle.grammar.specs.Lines.{Opening, lineCall, lineOpen, zeros}
 use Rattle.grammar.specs.Answers.{lineText}
@@ -36,23 +36,6 @@ pub record Step : Type 0 where
   pub printed : List ℕ
 
 -- ---- a line
-
-abbrev pub isRefused : Answer → Bool
-isRefused Call.Ok = false
-isRefused Call.Applied = false
-isRefused Call.Stale = false
-isRefused Call.Late = false
-isRefused (Call.Refused n) = true
-isRefused (Call.Taken n) = false
-isRefused (Call.Pending b) = false
-isRefused (Call.Value n) = false
-isRefused (Call.Time d) = false
-isRefused (Call.Truth b) = false
-isRefused (Call.Asks q) = false
-isRefused (Call.Says m) = false
-isRefused (Call.IsKey k) = false
-isRefused (Call.AreLimits l) = false
-isRefused Call.Nothing = false
 
 -- a call's own time
 abbrev pub timeOf : Call → Option ℕ
