@@ -10,13 +10,12 @@ use Rattle.ring.specs.Runs.{copied}
 use Rattle.ring.specs.Lent.{copied-all}
 use Rattle.card.specs.declared.feed.Answered.{Answered}
 use Rattle.card.specs.declared.feed.Card.{Card}
-use Rattle.card.specs.declared.feed.Printed.{Printed}
 use Rattle.grammar.specs.Answers.{lineText}
 use Rattle.grammar.specs.Feed as Feed
-use Rattle.grammar.specs.Feed.{Session, answerOf, lineEnds}
+use Rattle.grammar.specs.Feed.{lineEnds}
 use Rattle.card.specs.Answering.{answerIs}
 use Rattle.card.specs.Written.{Wrote, same-text}
-use Rattle.card.specs.Standing.{standingIs, sessionOf, placeOf, Answers, EndsLine}
+use Rattle.card.specs.Standing.{Lent, placeOf, Answers, answerAt, EndsLine}
 use Rattle.card.specs.Laying.{put}
 use Rattle.card.proofs.Standings.{placed-is}
 
@@ -59,15 +58,15 @@ hold-area line piece held from to n f t e =
     let rest : take (65536 - held) (take (to - from) d) ≡ take n d = take-both (65536 - held) (to - from) n d (omega arith) e in
     sym (ap (λ (x : List ℕ). put line held x) rest ∙ ap (copied line held (take n d) 0) size ∙ copied-all line held (take n d) n size)
 
-pub ends-line : (c : Card) (r : Answered) (line bytes lengths bytes′ lengths′ work out then : List ℕ) (at to : ℕ)
-    → Answers (answerOf (standingIs (c .standing) bytes lengths) (take (c .held - 0) line)) (placeOf (c .standing) bytes lengths) r bytes′ lengths′ work
-    → Wrote 131200 out then at to (lineText (c .lines + 1) (answerIs (r .answer) work))
-    → EndsLine (sessionOf c line bytes lengths) (placeOf (c .standing) bytes lengths) (record { card = record { standing = r .standing; lines = c .lines + 1; held = 0 }; at = to }) line bytes′ lengths′ out then at
+pub ends-line : (c : Card) (before : Lent) (r : Answered) (after : Lent) (work : List ℕ) (at to : ℕ)
+    → Answers (answerAt (take (c .held - 0) (before .line))) (c .standing) (before .stores) r (after .stores) work
+    → Wrote 131200 (before .out) (after .out) at to (lineText (c .lines + 1) (answerIs (r .answer) work))
+    → EndsLine at c before (record { card = record { standing = r .standing; lines = c .lines + 1; held = 0 }; at = to }) after
 unfolding lineEnds
-ends-line c r line bytes lengths bytes′ lengths′ work out then at to h w =
+ends-line c before r after work at to h w =
     let z : c .held - 0 ≡ c .held = omega arith in
     let k = rw z at h in
-    let stage = placed-is (r .standing) bytes′ lengths′ _ _ (k .0) in
+    let stage = placed-is (placeOf (r .standing) (after .stores)) _ _ (k .0) in
     record {
       stands = record {
         session = ap (λ (s : Feed.Stage). record { stage = s; lines = c .lines + 1; held = [] }) stage;

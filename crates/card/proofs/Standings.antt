@@ -34,34 +34,30 @@ use Rattle.card.specs.Meaning.{openingIs}
 use Rattle.card.specs.Answering.{answerIs}
 use Rattle.card.specs.Making.{timeIs, stateOf, Made}
 use Rattle.card.specs.Zeros.{zeros-length}
-use Rattle.card.specs.Standing as To
-use Rattle.card.specs.Standing.{stageIs, standingIs, Place, placeOf, placed, AnswersAny, openedAs, firstOf, madeBy}
+use Rattle.card.specs.Standing.{Stores, stores, Place, placeOf, stageIs, stageAt, placed, Told, AnswersFirst, openedAs, firstOf, madeAt}
 
 abbrev place : Stages.Stage → State → (last : ℕ) → Place
 place x s last = record { stage = x; state = s; last = last }
 
--- the place that a standing has
-pub placed-own : (s : Standing) (b l : List ℕ) → placeOf s b l ≡ placed (standingIs s b l) (placeOf s b l)
+-- a place is that of its own stage
+pub placed-own : (p : Place) → p ≡ placed (stageAt p) p
 unfolding placed
-placed-own s b l = by (s .stage)
+placed-own p = by (p .stage)
   where
-    by : (x : Stages.Stage) → place x (stateOf (s .runner) b l) (s .last) ≡ placed (stageIs x (s .runner) (s .last) b l) (place x (stateOf (s .runner) b l) (s .last))
+    by : (x : Stages.Stage) → place x (p .state) (p .last) ≡ placed (stageIs x (p .state) (p .last)) (place x (p .state) (p .last))
     by Stage.First = refl
     by Stage.Running = refl
     by Stage.Over = refl
 
--- and what it stands for
-abbrev stageAt : Place → Feed.Stage
-stageAt p = stageIs (p .stage) (p .state .runner) (p .last) (p .state .bytes) (p .state .lengths)
-
+-- and has the stage that it was made for
 stage-placed : (x : Feed.Stage) (p : Place) → stageAt (placed x p) ≡ x
 unfolding placed
 stage-placed Feed.First p = refl
 stage-placed (Feed.Running s last) p = refl
 stage-placed Feed.Over p = refl
 
-pub placed-is : (s : Standing) (b l : List ℕ) (x : Feed.Stage) (p : Place) → placeOf s b l ≡ placed x p → standingIs s b l ≡ x
-placed-is s b l x p h = ap stageAt h ∙ stage-placed x p
+pub placed-is : (q : Place) (x : Feed.Stage) (p : Place) → q ≡ placed x p → stageAt q ≡ x
+placed-is q x p h = ap stageAt h ∙ stage-placed x p
 
 -- ---- a runner that is open stays open
 
@@ -125,11 +121,11 @@ placed-on s bs p = placed-twice (s .stage) (feeds s bs .session .stage) p (feeds
 -- a refusal that leaves all but the stage
 pub refused-made : (r : Answered) (x : Stages.Stage) (runner : Runner) (last : ℕ) (a : Answer) (z : Account.Answer) (b l w : List ℕ)
     → (r .standing ≡ record { stage = x; runner = runner; last = last }) × (r .answer ≡ a) → answerIs a w ≡ z
-    → (y : Stages.Stage) → To.Answers (record { stage = stageIs x runner last b l; answer = z }) (place y (stateOf runner b l) last) r b l w
+    → (y : Stages.Stage) → Told (record { stage = stageIs x (stateOf runner b l) last; answer = z }) (place y (stateOf runner b l) last) r (stores b l) w
 unfolding placed
-refused-made r x runner last a z b l w h e y = (ap (λ (s : Standing). placeOf s b l) (h .0) ∙ by x, ap (λ (t : Answer). answerIs t w) (h .1) ∙ e)
+refused-made r x runner last a z b l w h e y = (ap (λ (s : Standing). placeOf s (stores b l)) (h .0) ∙ by x, ap (λ (t : Answer). answerIs t w) (h .1) ∙ e)
   where
-    by : (x : Stages.Stage) → place x (stateOf runner b l) last ≡ placed (stageIs x runner last b l) (place y (stateOf runner b l) last)
+    by : (x : Stages.Stage) → place x (stateOf runner b l) last ≡ placed (stageIs x (stateOf runner b l) last) (place y (stateOf runner b l) last)
     by Stage.First = refl
     by Stage.Running = refl
     by Stage.Over = refl
@@ -137,17 +133,18 @@ refused-made r x runner last a z b l w h e y = (ap (λ (s : Standing). placeOf s
 -- 30
 pub bad-made : (r : Answered) (x : Stages.Stage) (runner : Runner) (last : ℕ) (b l w : List ℕ)
     → (r .standing ≡ record { stage = x; runner = runner; last = last }) × (r .answer ≡ Answers.Refused 30)
-    → (y : Stages.Stage) → To.Answers (record { stage = stageIs x runner last b l; answer = Account.Refused 30 }) (place y (stateOf runner b l) last) r b l w
+    → (y : Stages.Stage) → Told (record { stage = stageIs x (stateOf runner b l) last; answer = Account.Refused 30 }) (place y (stateOf runner b l) last) r (stores b l) w
 bad-made r x runner last b l w h y = refused-made r x runner last (Answers.Refused 30) (Account.Refused 30) b l w h refl y
 
 -- a call that is not refused by 31
-pub made-by : (m : Making) (s : State) (c : Call) (was : Place) (b l w : List ℕ) (last last′ : ℕ) (refused : Bool) (time : MaybeTime) → Made s c m b l w
-    → refused ≡ isRefused (answerIs (m .answer) w) → timeIs time ≡ timeOf c → last′ ≡ remembered refused (timeIs time) last
-    → To.Answers (madeBy c s last) was (record { standing = record { stage = Stage.Running; runner = m .runner; last = last′ }; answer = m .answer }) b l w
+pub made-at : (m : Making) (was : Place) (c : Call) (b l w : List ℕ) (last : ℕ) (refused : Bool) (time : MaybeTime) → Made (was .state) c m b l w
+    → refused ≡ isRefused (answerIs (m .answer) w) → timeIs time ≡ timeOf c → last ≡ remembered refused (timeIs time) (was .last)
+    → Told (madeAt c was) was (record { standing = record { stage = Stage.Running; runner = m .runner; last = last }; answer = m .answer }) (stores b l) w
 unfolding placed
-made-by m s c was b l w last last′ refused time h r t e =
-    let k : last′ ≡ remembered (isRefused (answer s c)) (timeOf c) last = e ∙ ap (λ (x : Bool). remembered x (timeIs time) last) (r ∙ ap isRefused (h .1)) ∙ rw t refl in
-    (ap (λ (x : State). place Stage.Running x last′) (h .0) ∙ ap (place Stage.Running (next s c)) k, h .1)
+made-at m was c b l w last refused time h r t e =
+    let s = was .state in
+    let k : last ≡ remembered (isRefused (answer s c)) (timeOf c) (was .last) = e ∙ ap (λ (x : Bool). remembered x (timeIs time) (was .last)) (r ∙ ap isRefused (h .1)) ∙ rw t refl in
+    (ap (λ (x : State). place Stage.Running x last) (h .0) ∙ ap (place Stage.Running (next s c)) k, h .1)
 
 -- the first line: whether it opens a runner is decided by how long the stores are
 same-opening : (k : Key) (m : Limits) (t : Timers) (now : ℕ) (b l : List ℕ) → length b ≡ 65536 → length l ≡ 1024
@@ -155,12 +152,13 @@ same-opening : (k : Key) (m : Limits) (t : Timers) (now : ℕ) (b l : List ℕ) 
 unfolding Calls.«open»
 same-opening k m t now b l hb hl = rw (hb, hl, zeros-length 65536, zeros-length 1024) refl
 
-pub opened-first : (o : Openings.Opening) (was : Place) (r : Answered) (n : Noting) (b l b′ l′ : List ℕ) → n ≡ Calls.«open» (o .key) (o .limits) (o .timers) (o .now) b l
-    → length b ≡ 65536 → length l ≡ 1024 → AnswersAny (openedAs (n .reply) (n .runner) (o .now)) was r b′ l′ → AnswersAny (firstOf o) was r b′ l′
+pub opened-first : (o : Openings.Opening) (s : Standing) (before : Stores) (r : Answered) (after : Stores) (n : Noting)
+    → n ≡ Calls.«open» (o .key) (o .limits) (o .timers) (o .now) (before .bytes) (before .lengths) → length (before .bytes) ≡ 65536 → length (before .lengths) ≡ 1024
+    → AnswersFirst (openedAs (n .reply) (n .runner) (o .now)) s before r after → AnswersFirst (firstOf o) s before r after
 unfolding first
-opened-first o was r n b l b′ l′ e hb hl h w = by (Calls.«open» (o .key) (o .limits) (o .timers) (o .now) (zeros 65536) (zeros 1024) .reply) (rw (e ∙ same-opening (o .key) (o .limits) (o .timers) (o .now) b l hb hl) at (h w))
+opened-first o s before r after n e hb hl h w = by (Calls.«open» (o .key) (o .limits) (o .timers) (o .now) (zeros 65536) (zeros 1024) .reply) (rw (e ∙ same-opening (o .key) (o .limits) (o .timers) (o .now) (before .bytes) (before .lengths) hb hl) at (h w))
   where
-    by : (x : Reply) → To.Answers (openedAs x (Calls.«open» (o .key) (o .limits) (o .timers) (o .now) (zeros 65536) (zeros 1024) .runner) (o .now)) was r b′ l′ w
-        → To.Answers (openedBy x (record { conf = record { key = o .key; limits = o .limits; timers = o .timers }; now = o .now })) was r b′ l′ w
+    by : (x : Reply) → Told (openedAs x (Calls.«open» (o .key) (o .limits) (o .timers) (o .now) (zeros 65536) (zeros 1024) .runner) (o .now)) (placeOf s before) r after w
+        → Told (openedBy x (record { conf = record { key = o .key; limits = o .limits; timers = o .timers }; now = o .now })) (placeOf s before) r after w
     by Reply.Ok h = h
     by (Reply.Refused y) h = h

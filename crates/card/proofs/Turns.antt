@@ -1,23 +1,25 @@
 -- A turn from line to line, and turns one after the other.
 use mathlib.Core.Bool.{Bool, true, false, cond, _&&_, true≢false}
-use lib.Dec.{eqb, leb}
+use lib.Dec.{eqb, ltb, leb}
 use borrow.Author.Tests.{eq-eqb, ne-eqb, leb-true, eqb-true}
 use Rattle.credit.specs.RangeLaws.{both}
 use mathlib.Core.Path.{_≡_, refl, sym, ap, _∙_}
-use mathlib.Core.List.{List, [], _++_}
-use Prim.Native.Nat.{ℕ, zero, suc, _+_, _-_, _≤_, _<_, min}
+use mathlib.Core.List.{List, [], _∷_, _++_}
+use Prim.Native.Nat.{ℕ, _+_, _-_, _≤_, _<_}
 use native.Mathlib.Omega.{arith}
-use lib.ListN.{length, take, drop, length-take, length-drop, take-append-drop}
+use lib.ListN.{length, take, drop, length-drop}
 use native.Mathlib.Nat.{zero-add, sub-zero}
-use lib.Seq.{take-all, length-take-le, take-append-add, drop-drop}
-use Rattle.ring.specs.Runs.{copied, copied-zero}
+use lib.Seq.{length-take-le, take-add, drop-drop}
+use Rattle.ring.specs.Runs.{copied-zero}
 use Rattle.card.specs.declared.feed.Card.{Card}
+use Rattle.card.specs.declared.feed.Printed.{Printed}
+use Rattle.card.specs.declared.feed.Standing.{Standing}
 use Rattle.card.specs.declared.feed.Turn.{Turn}
 use Rattle.grammar.specs.Feed.{Session, lineEnds, feeds, pieces, ends}
-use Rattle.card.specs.Feeding.{eaten, goesOn, lineLength, holdAll, line-most, all-held, line-answered, line-stopped}
-use Rattle.card.specs.Laying.{laid, laid-pieces, put, line-lays, line-laid}
-use Rattle.card.specs.Standing.{sessionOf, Place, placeOf, placed, Stands, Holds}
-use Rattle.card.specs.Turning.{Passes, Goes, isReady, ended}
+use Rattle.card.specs.Feeding.{eaten, goesOn, lineLength, holdAll, line-most, line-feeds, to-line-end, feeds-end, all-held, line-answered, line-stopped}
+use Rattle.card.specs.Laying.{laid, laid-pieces, laid-end, line-lays}
+use Rattle.card.specs.Standing.{Lent, Place, placeOf, placeIn, sessionOf, placed, Stands, Holds, EndsLine}
+use Rattle.card.specs.Turning.{If, Answered, Stopped, Passes, Feeds, toEat, Goes, isReady, Fed, ended}
 use Rattle.card.proofs.Standings.{placed-own, placed-on}
 use Rattle.card.specs.Written.{Wrote, same-text, joined}
 
@@ -36,175 +38,172 @@ wrote-none out then at to e h l = record {
 
 -- ---- what a card stands for
 
-pub own : (c : Card) (line bytes lengths : List ℕ) → c .held ≤ 65536 → length line ≡ 65536 → Stands (sessionOf c line bytes lengths) (placeOf (c .standing) bytes lengths) c line bytes lengths
-own c line bytes lengths h l = record {
+pub own : (c : Card) (x : Lent) → c .held ≤ 65536 → length (x .line) ≡ 65536 → Stands (sessionOf c x) (placeIn c x) c x
+own c x h l = record {
   session = refl;
-  place = placed-own (c .standing) bytes lengths;
-  held = sym (length-take-le (c .held) line (omega arith));
+  place = placed-own (placeIn c x);
+  held = sym (length-take-le (c .held) (x .line) (omega arith));
   most = h;
 }
 
-pub stands-as : {s s′ : Session} {was : Place} {c : Card} {line bytes lengths : List ℕ} → s ≡ s′ → Stands s was c line bytes lengths → Stands s′ was c line bytes lengths
+pub stands-as : {s s′ : Session} {was : Place} {c : Card} {x : Lent} → s ≡ s′ → Stands s was c x → Stands s′ was c x
 stands-as e h = rw e at h
 
--- what it stands for after more bytes
-stands-on : {s : Session} {was : Place} {c r : Card} {line bytes lengths line′ bytes′ lengths′ : List ℕ} (bs : List ℕ) → Stands s was c line bytes lengths
-    → Stands (feeds s bs .session) (placeOf (c .standing) bytes lengths) r line′ bytes′ lengths′ → Stands (feeds s bs .session) was r line′ bytes′ lengths′
-stands-on {s} {was} bs h g = record {
-  session = g .session;
-  place = g .place ∙ ap (placed (feeds s bs .session .stage)) (h .place) ∙ placed-on s bs was;
-  held = g .held;
-  most = g .most;
-}
+stands-at : {s : Session} {was was′ : Place} {c : Card} {x : Lent} → was ≡ was′ → Stands s was c x → Stands s was′ c x
+stands-at e h = rw e at h
 
--- bytes of a line that are held
-pub held-session : (c r : Card) (line line′ bytes lengths bs : List ℕ) → Holds c r line line′ bs → sessionOf r line′ bytes lengths ≡ holdAll (sessionOf c line bytes lengths) bs
-unfolding holdAll
-held-session c r line line′ bytes lengths bs h =
-    rw (h .standing, h .lines, h .held) refl
+-- ---- bytes that are eaten
 
-pub held-area : (c r : Card) (line line′ bytes lengths bs : List ℕ) (n : ℕ) → Holds c r line line′ (take n bs) → n ≡ lineLength bs → c .held ≤ 65536 → length line ≡ 65536
-    → line′ ≡ laid (sessionOf c line bytes lengths) line (take n bs)
-held-area c r line line′ bytes lengths bs n h e m l =
-    let s = sessionOf c line bytes lengths in
-    let size : length (take (c .held) line) ≡ c .held = length-take-le (c .held) line (omega arith) in
-    let k = line-lays bs s line (omega arith) l in
-    let k₁ : laid s line (take n bs) ≡ put line (length (take (c .held) line)) (take (65536 - length (take (c .held) line)) (take n bs)) = rw e k in
-    h .area ∙ sym (k₁ ∙ ap (λ (x : ℕ). put line x (take (65536 - x) (take n bs))) size)
+-- none
+feeds-none : (c : Card) (x : Lent) (at : ℕ) → c .held ≤ 65536 → length (x .line) ≡ 65536 → at ≤ length (x .out) → Feeds [] c x at c x at
+unfolding feeds laid
+feeds-none c x at h l r = record { stands = own c x h l; area = refl; printed = wrote-none (x .out) (x .out) at at refl refl r }
 
-pub held-most : (n : ℕ) (line : List ℕ) → n ≤ 65536 → length (take n line) ≤ 65536
-held-most n line h = omega (arith, length-take n line)
+-- some, and then more
+feeds-on : (a b : List ℕ) (c d e : Card) (x y z : Lent) (at m to : ℕ) → Feeds a c x at d y m → Feeds b d y m e z to → Feeds (a ++ b) c x at e z to
+feeds-on a b c d e x y z at m to f g =
+    let s = sessionOf c x in
+    let between = f .stands .session in
+    let p = pieces s a b in
+    let after : feeds (sessionOf d y) b .session ≡ feeds s (a ++ b) .session = ap (λ (t : Session). feeds t b .session) between ∙ sym (p .0) in
+    let text = ap (λ (t : Session). feeds s a .printed ++ feeds t b .printed) between ∙ sym (p .1) in
+    let k = stands-as after (g .stands) in
+    record {
+      stands = record {
+        session = k .session;
+        place = k .place ∙ ap (placed (feeds s (a ++ b) .session .stage)) (f .stands .place) ∙ rw (p .0) (placed-on (feeds s a .session) b (placeIn c x));
+        held = k .held;
+        most = k .most;
+      };
+      area = g .area ∙ ap (λ (t : Session). laid t (y .line) b) between ∙ ap (λ (t : List ℕ). laid (feeds s a .session) t b) (f .area) ∙ sym (laid-pieces s (x .line) a b);
+      printed = same-text text (bound (joined (f .printed) (g .printed)));
+    }
 
-module _ (s : Session) (was : Place) (t r : Turn) (line line′ bytes lengths piece out then : List ℕ) (end : ℕ) (short : length (s .held) ≤ 65536)
-    (e : end ≡ t .used + lineLength (drop (t .used) piece)) (from : t .used ≤ length piece) (room : t .at ≤ length out)
-    (area : line′ ≡ laid s line (take (end - t .used) (drop (t .used) piece))) where
-  to-end : end - t .used ≡ lineLength (drop (t .used) piece)
+-- the end of a line
+feeds-line : (c : Card) (x : Lent) (r : Printed) (y : Lent) (at : ℕ) → EndsLine at c x r y → y .line ≡ x .line → Feeds (10 ∷ []) c x at (r .card) y (r .at)
+feeds-line c x r y at h l =
+    let e = feeds-end (sessionOf c x) in
+    record { stands = stands-as (sym (e .0)) (h .stands); area = l ∙ sym (laid-end (sessionOf c x) (x .line)); printed = same-text (sym (e .1)) (bound (h .printed)) }
+
+-- ---- a turn
+
+-- the line area with other bytes
+abbrev pub withLine : Lent → List ℕ → Lent
+withLine x line = record { line = line; stores = x .stores; out = x .out }
+
+-- the bytes of the line are held first
+module _ (piece : List ℕ) (t : Turn) (before : Lent) (c : Card) (line : List ℕ) (end : ℕ) (few : t .card .held ≤ 65536) (size : length (before .line) ≡ 65536)
+    (e : end ≡ t .used + lineLength (drop (t .used) piece)) (from : t .used ≤ length piece) (room : t .at ≤ length (before .out))
+    (h : Holds (take (end - t .used) (drop (t .used) piece)) (t .card) (before .line) c line) (size′ : length line ≡ 65536) where
+  abbrev bs : List ℕ
+  bs = drop (t .used) piece
+
+  abbrev s : Session
+  s = sessionOf (t .card) before
+
+  abbrev mid : Lent
+  mid = withLine before line
+
+  to-end : end - t .used ≡ lineLength bs
   to-end = omega arith
 
-  area-line : line′ ≡ laid s line (take (lineLength (drop (t .used) piece)) (drop (t .used) piece))
-  area-line = area ∙ ap (λ (n : ℕ). laid s line (take n (drop (t .used) piece))) to-end
+  held-length : length (take (t .card .held) (before .line)) ≡ t .card .held
+  held-length = length-take-le (t .card .held) (before .line) (omega arith)
 
-  -- the line ends within the piece
-  go-pass : (b : Bool) → end < length piece → goesOn s (length out - t .at) ≡ b
-      → Passes b (holdAll s (take (lineLength (drop (t .used) piece)) (drop (t .used) piece))) was r line′ bytes lengths out then (t .at) end
-      → Goes s was t r line line′ bytes lengths piece out then
-  go-pass true l g p =
-      let n = lineLength (drop (t .used) piece) in
-      let size = length-drop (t .used) piece in
-      let a = line-answered s (length out - t .at) (drop (t .used) piece) n short refl (omega arith) g in
-      let w = same-text (sym (a .1)) (p .printed) in
-      let left : length out - t .at - length (lineEnds (holdAll s (take n (drop (t .used) piece))) .printed) ≡ length out - r .at =
-      let q = p .printed .ends in omega arith in
-      record {
-        k = n + 1;
-        used = let u = p .used in omega arith;
-        most = let u = p .used in omega arith;
-        stands = stands-as (sym (a .0)) (p .stands);
-        area = area-line ∙ sym (line-laid s line (drop (t .used) piece) n refl (omega arith));
-        printed = bound w;
-        eats = a .2 ∙ rw (p .more, a .0, left) refl;
-        further = λ h. omega arith;
-      }
-  go-pass false l g p =
-      let n = lineLength (drop (t .used) piece) in
-      let size = length-drop (t .used) piece in
-      let a = line-stopped s (length out - t .at) (drop (t .used) piece) n short refl (omega arith) g in
-      record {
-        k = n;
-        used = let u = p .used in omega arith;
-        most = let u = p .used in omega arith;
-        stands = stands-as (sym (a .0)) (p .stands);
-        area = area-line;
-        printed = same-text (sym (a .1)) (wrote-none out then (t .at) (r .at) (p .printed) (p .same-at) room);
-        eats = a .2 ∙ rw (p .more) (omega arith);
-        further = λ h. absurd (true≢false (sym h ∙ p .more));
-      }
+  held-few : length (take (t .card .held) (before .line)) ≤ 65536
+  held-few = omega (arith, held-length)
 
-  -- the code's own: the bytes of the line are held first
-  pub go-passed : (s₁ : Session) (was₁ : Place) → s₁ ≡ holdAll s (take (end - t .used) (drop (t .used) piece)) → was₁ ≡ was → end < length piece
-      → Passes (goesOn s₁ (length out - t .at)) s₁ was₁ r line′ bytes lengths out then (t .at) end → Goes s was t r line line′ bytes lengths piece out then
+  held-session : sessionOf c mid ≡ holdAll s (take (lineLength bs) bs)
   unfolding holdAll
-  go-passed s₁ was₁ h w l p =
-      let q = rw (h, w, to-end) at p in
-      go-pass (goesOn s (length out - t .at)) l refl q
+  held-session = rw (h .standing, h .lines, h .held, to-end) refl
 
-  -- or it does not end within the piece
-  pub go-held : (s₁ : Session) (was₁ : Place) → s₁ ≡ holdAll s (take (end - t .used) (drop (t .used) piece)) → was₁ ≡ was → end ≡ length piece → Stands s₁ was₁ (r .card) line′ bytes lengths → then ≡ out
-      → r .used ≡ end → r .at ≡ t .at → r .more ≡ false → Goes s was t r line line′ bytes lengths piece out then
-  go-held s₁ was₁ h w l st o u a m =
-      let n = lineLength (drop (t .used) piece) in
-      let size : length (drop (t .used) piece) ≡ length piece - t .used = length-drop (t .used) piece in
-      let whole : n ≡ length (drop (t .used) piece) = omega arith in
-      let all : take n (drop (t .used) piece) ≡ drop (t .used) piece = take-all n (drop (t .used) piece) (omega arith) in
-      let f = all-held s (length out - t .at) (drop (t .used) piece) short whole in
+  held-area : line ≡ laid s (before .line) (take (lineLength bs) bs)
+  held-area = h .area ∙ sym (line-lays bs s (before .line) held-few size ∙ rw (held-length, to-end) refl)
+
+  held-fed : Feeds (take (lineLength bs) bs) (t .card) before (t .at) c mid (t .at)
+  held-fed =
+      let f = line-feeds s bs held-few in
+      let place = ap (λ (x : Standing). placeOf x (before .stores)) (h .standing) in
       record {
-        k = n;
-        used = omega arith;
-        most = omega arith;
-        stands = stands-as (h ∙ rw (to-end, all) (sym (f .0))) (rw w at st);
-        area = area-line;
-        printed = same-text (rw all (sym (f .1))) (wrote-none out then (t .at) (r .at) o a room);
-        eats = f .2 ∙ rw m (omega arith);
-        further = λ x. absurd (true≢false (sym x ∙ m));
+        stands = stands-as (held-session ∙ sym (f .0)) (stands-at place (own c mid (h .most) size′));
+        area = held-area;
+        printed = same-text (sym (f .1)) (wrote-none (before .out) (before .out) (t .at) (t .at) refl refl room);
       }
+
+  -- and no more is eaten
+  go-stop : eaten s (length (before .out) - t .at) bs ≡ lineLength bs → Goes piece t before (record { card = c; used = end; at = t .at; more = false }) mid
+  go-stop n = record {
+    k = lineLength bs;
+    used = e;
+    most = omega (arith, line-most bs, length-drop (t .used) piece);
+    fed = held-fed;
+    eats = n ∙ omega arith;
+    further = λ q. absurd (true≢false (sym q));
+  }
+
+  -- the line does not end within the piece
+  pub go-held : end ≡ length piece → Goes piece t before (record { card = c; used = end; at = t .at; more = false }) mid
+  go-held l = go-stop (all-held s (length (before .out) - t .at) bs held-few (omega (arith, length-drop (t .used) piece)))
+
+  -- or it does
+  module _ (r : Turn) (after : Lent) (l : end < length piece) (same : after .line ≡ line) where
+    less : lineLength bs < length bs
+    less = omega (arith, length-drop (t .used) piece)
+
+    go-answered : goesOn s (length (before .out) - t .at) ≡ true → Answered (t .at) end c mid r after → Goes piece t before r after
+    go-answered g p =
+        let used = p .used in
+        let ends = p .ends .printed .ends in
+        let out = p .ends .printed .size in
+        let text = ap (λ (x : Session). length (lineEnds x .printed)) held-session in
+        let left : length (after .out) - r .at ≡ length (before .out) - t .at - length (lineEnds (holdAll s (take (lineLength bs) bs)) .printed) = omega arith in
+        let next : sessionOf (r .card) after ≡ lineEnds (holdAll s (take (lineLength bs) bs)) .session = p .ends .stands .session ∙ ap (λ (x : Session). lineEnds x .session) held-session in
+        let on : r .used ≡ t .used + (lineLength bs + 1) = omega arith in
+        let rest : drop (r .used) piece ≡ drop (lineLength bs + 1) bs = rw on (sym (drop-drop (lineLength bs + 1) (t .used) piece)) in
+        record {
+          k = lineLength bs + 1;
+          used = on;
+          most = omega arith;
+          fed = rw (to-line-end bs less) (feeds-on _ _ _ _ _ _ _ _ _ _ _ held-fed (feeds-line c mid (record { card = r .card; at = r .at }) after (t .at) (p .ends) same));
+          eats = rw (p .more, next, left, rest) (line-answered s (length (before .out) - t .at) bs held-few less g);
+          further = λ x. omega arith;
+        }
+
+    go-if : (b : Bool) → goesOn s (length (before .out) - t .at) ≡ b → If b (Answered (t .at) end c mid r after) (Stopped (t .at) end c mid r after) → Goes piece t before r after
+    go-if true g p = go-answered g p
+    go-if false g p = rw (p .result, p .kept) (go-stop (line-stopped s (length (before .out) - t .at) bs held-few less g))
+
+    pub go-passed : Passes (t .at) end c mid r after → Goes piece t before r after
+    go-passed p = go-if _ (ap (λ (n : ℕ). leb 131200 (length (before .out) - t .at) && ltb n 18446744073709551615) (sym (h .lines))) p
 
 -- ---- turns one after the other
 
 -- what is so far eaten of a piece
-pub record So (s₀ : Session) (was : Place) (t : Turn) (line₀ line bytes lengths piece out then : List ℕ) : Type 0 where
+pub record So (piece : List ℕ) (c : Card) (before : Lent) (t : Turn) (x : Lent) : Type 0 where
   pub most : t .used ≤ length piece
-  pub stands : Stands (feeds s₀ (take (t .used) piece) .session) was (t .card) line bytes lengths
-  pub area : line ≡ laid s₀ line₀ (take (t .used) piece)
-  pub printed : Wrote (length out) out then 0 (t .at) (feeds s₀ (take (t .used) piece) .printed)
-  pub eats : eaten s₀ (length out) piece
-      ≡ t .used + cond (t .more) (eaten (feeds s₀ (take (t .used) piece) .session) (length out - t .at) (drop (t .used) piece)) 0
+  pub fed : Feeds (take (t .used) piece) c before 0 (t .card) x (t .at)
+  pub eats : eaten (sessionOf c before) (length (before .out)) piece ≡ t .used + cond (t .more) (toEat piece t x) 0
 
-pub so-first : (t : Turn) (line bytes lengths piece out : List ℕ) → t .used ≡ 0 → t .at ≡ 0 → t .more ≡ true → t .card .held ≤ 65536 → length line ≡ 65536
-    → So (sessionOf (t .card) line bytes lengths) (placeOf (t .card .standing) bytes lengths) t line line bytes lengths piece out out
-unfolding feeds laid
-so-first t line bytes lengths piece out u a m h l =
-    let s₀ = sessionOf (t .card) line bytes lengths in
-    record {
-      most = omega arith;
-      stands = rw u (own (t .card) line bytes lengths h l);
-      area = rw u refl;
-      printed = rw u (wrote-none out out 0 (t .at) refl a (omega arith));
-      eats = rw (u, a, m) (sym (zero-add _) ∙ ap (λ (n : ℕ). 0 + eaten s₀ n piece) (sym (sub-zero (length out))));
-    }
+pub so-first : (piece : List ℕ) (c : Card) (x : Lent) → c .held ≤ 65536 → length (x .line) ≡ 65536 → So piece c x (record { card = c; used = 0; at = 0; more = true }) x
+so-first piece c x h l = record {
+  most = omega arith;
+  fed = feeds-none c x 0 h l (omega arith);
+  eats = sym (zero-add _) ∙ ap (λ (n : ℕ). 0 + eaten (sessionOf c x) n piece) (sym (sub-zero (length (x .out))));
+}
 
-split : (n k : ℕ) (s : List ℕ) → n ≤ length s → take (n + k) s ≡ take n s ++ take k (drop n s)
-split n k s h =
-    let l : length (take n s) ≡ n = length-take-le n s h in
-    ap (take (n + k)) (sym (take-append-drop n s))
-    ∙ ap (λ (m : ℕ). take (m + k) (take n s ++ drop n s)) (sym l)
-    ∙ take-append-add (take n s) (drop n s) k
-
-pub so-next : (s₀ : Session) (was : Place) (t r : Turn) (line₀ line bytes lengths line′ bytes′ lengths′ piece out mid then : List ℕ)
-    → So s₀ was t line₀ line bytes lengths piece out mid → t .more ≡ true
-    → Goes (sessionOf (t .card) line bytes lengths) (placeOf (t .card .standing) bytes lengths) t r line line′ bytes′ lengths′ piece mid then
-    → So s₀ was r line₀ line′ bytes′ lengths′ piece out then
-so-next s₀ was t r line₀ line bytes lengths line′ bytes′ lengths′ piece out mid then h m g₀ =
-    let now = feeds s₀ (take (t .used) piece) .session in
-    let g : Goes now (placeOf (t .card .standing) bytes lengths) t r line line′ bytes′ lengths′ piece mid then = rw (h .stands .session) at g₀ in
-    let bs = take (g .k) (drop (t .used) piece) in
-    let parts : take (r .used) piece ≡ take (t .used) piece ++ bs = ap (λ (n : ℕ). take n piece) (g .used) ∙ split (t .used) (g .k) piece (h .most) in
-    let p = pieces s₀ (take (t .used) piece) bs in
-    let after : feeds now bs .session ≡ feeds s₀ (take (r .used) piece) .session = rw parts (sym (p .0)) in
-    let size = h .printed .size in
-    let used = g .used in
-    let first : eaten s₀ (length out) piece ≡ t .used + eaten now (length out - t .at) (drop (t .used) piece) = rw m at (h .eats) in
-    let then₁ = rw (size, drop-drop (g .k) (t .used) piece, after) at (g .eats) in
+pub so-next : (piece : List ℕ) (c : Card) (before : Lent) (t r : Turn) (x y : Lent) → So piece c before t x → t .more ≡ true → Goes piece t x r y → So piece c before r y
+so-next piece c before t r x y h m g =
+    let parts = ap (λ (n : ℕ). take n piece) (g .used) ∙ take-add (t .used) (g .k) piece in
+    let first : eaten (sessionOf c before) (length (before .out)) piece ≡ t .used + toEat piece t x = rw m at (h .eats) in
     record {
       most = g .most;
-      stands = stands-as after (stands-on bs (h .stands) (g .stands));
-      area = g .area ∙ ap (λ (x : List ℕ). laid now x bs) (h .area) ∙ sym (laid-pieces s₀ line₀ (take (t .used) piece) bs) ∙ ap (laid s₀ line₀) (sym parts);
-      printed = same-text (rw parts (sym (p .1))) (bound (joined (h .printed) (g .printed)));
-      eats = first ∙ ap (λ (n : ℕ). t .used + n) then₁ ∙ rw used (omega arith);
+      fed = rw parts (feeds-on _ _ _ _ _ _ _ _ _ _ _ (h .fed) (g .fed));
+      eats = first ∙ ap (λ (n : ℕ). t .used + n) (g .eats) ∙ (let u = g .used in omega arith);
     }
 
-pub so-last : (s₀ : Session) (was : Place) (t : Turn) (line₀ line bytes lengths piece out then : List ℕ) → So s₀ was t line₀ line bytes lengths piece out then → t .more ≡ false
-    → (t .used ≡ eaten s₀ (length out) piece)
-so-last s₀ was t line₀ line bytes lengths piece out then h m = let e = rw m at (h .eats) in omega (arith, e)
+pub so-last : (piece : List ℕ) (c : Card) (before : Lent) (t : Turn) (x : Lent) → So piece c before t x → t .more ≡ false
+    → Fed piece c before (record { card = t .card; used = t .used; printed = t .at }) x
+so-last piece c before t x h m = let e = rw m at (h .eats) in record { used = omega (arith, e); fed = h .fed }
 
 -- the turns come to an end
 pub fewer : (b : Bool) (used used′ n k : ℕ) → used′ ≡ used + k → used′ ≤ n → (b ≡ true → 0 < k) → used ≤ n → cond b (n + 1 - used′) 0 < n + 1 - used

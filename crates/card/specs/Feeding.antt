@@ -128,7 +128,7 @@ line-eaten s room (b ∷ bs) h = by (eqb b 10) refl (line-eaten (holding s (hold
         ∙ ap suc (f ∙ ap (λ (x : Session). lineLength bs + eaten x room (drop (lineLength bs) bs)) (held-on s b (take (lineLength bs) bs)))
         ∙ omega arith
 
--- C: the line's end
+-- the line's end
 end-of : (bs : List ℕ) → lineLength bs < length bs → drop (lineLength bs) bs ≡ 10 ∷ drop (suc (lineLength bs)) bs
 unfolding lineLength
 end-of [] h = absurd (omega arith)
@@ -143,11 +143,15 @@ end-of (b ∷ bs) h = by (eqb b 10) refl (end-of bs) h
 pub line-end : (bs : List ℕ) → lineLength bs < length bs → drop (lineLength bs) bs ≡ 10 ∷ drop (lineLength bs + 1) bs
 line-end bs h = rw add-one (end-of bs h)
 
--- the end of a line is eaten, or not yet
-feeds-end : (s : Session) → (feeds s (10 ∷ []) .session ≡ lineEnds s .session) × (feeds s (10 ∷ []) .printed ≡ lineEnds s .printed)
+-- the bytes to the end of a line, and its end
+pub to-line-end : (bs : List ℕ) → lineLength bs < length bs → take (lineLength bs + 1) bs ≡ take (lineLength bs) bs ++ (10 ∷ [])
+to-line-end bs h = take-add (lineLength bs) 1 bs ∙ ap (λ (x : List ℕ). take (lineLength bs) bs ++ take 1 x) (line-end bs h)
+
+pub feeds-end : (s : Session) → (feeds s (10 ∷ []) .session ≡ lineEnds s .session) × (feeds s (10 ∷ []) .printed ≡ lineEnds s .printed)
 unfolding feeds eat
 feeds-end s = (refl, append-nil (lineEnds s .printed))
 
+-- the end of a line is eaten, or not yet
 eaten-end : (s : Session) (room : ℕ) (run rest : List ℕ) → goesOn s room ≡ true
     → eaten (holdAll s run) room (10 ∷ rest) ≡ suc (eaten (lineEnds (holdAll s run) .session) (room - length (lineEnds (holdAll s run) .printed)) rest)
 unfolding eaten holdAll
@@ -161,51 +165,29 @@ eaten-all : (s : Session) (room : ℕ) → eaten s room [] ≡ 0
 unfolding eaten
 eaten-all s room = refl
 
--- D: a piece without an end of a line is held and eaten whole
-pub all-held : (s : Session) (room : ℕ) (bs : List ℕ) → length (s .held) ≤ 65536 → lineLength bs ≡ length bs
-    → (feeds s bs .session ≡ holdAll s bs) × (feeds s bs .printed ≡ []) × (eaten s room bs ≡ length bs)
+-- C: a piece without an end of a line is eaten whole
+pub all-held : (s : Session) (room : ℕ) (bs : List ℕ) → length (s .held) ≤ 65536 → lineLength bs ≡ length bs → eaten s room bs ≡ lineLength bs
 all-held s room bs h e =
-    let t : take (lineLength bs) bs ≡ bs = take-all (lineLength bs) bs (omega arith) in
-    let f : Fed s bs = rw t at (line-feeds s bs h) in
+    let held = holdAll s (take (lineLength bs) bs) in
     let d : drop (lineLength bs) bs ≡ [] = rw e (drop-length bs) in
-    let n : eaten (holdAll s (take (lineLength bs) bs)) room (drop (lineLength bs) bs) ≡ 0 =
-    ap (λ (x : List ℕ). eaten (holdAll s (take (lineLength bs) bs)) room x) d ∙ eaten-all (holdAll s (take (lineLength bs) bs)) room in
-    let l = line-eaten s room bs h in
-    (f .0, f .1, omega arith)
+    let n : eaten held room (drop (lineLength bs) bs) ≡ 0 = ap (eaten held room) d ∙ eaten-all held room in
+    line-eaten s room bs h ∙ omega arith
 
--- E: a line that is answered
-pub line-answered : (s : Session) (room : ℕ) (bs : List ℕ) (k : ℕ) → length (s .held) ≤ 65536 → k ≡ lineLength bs → k < length bs → goesOn s room ≡ true
-    → (feeds s (take (k + 1) bs) .session ≡ lineEnds (holdAll s (take k bs)) .session)
-    × (feeds s (take (k + 1) bs) .printed ≡ lineEnds (holdAll s (take k bs)) .printed)
-    × (eaten s room bs ≡ (k + 1) + eaten (lineEnds (holdAll s (take k bs)) .session) (room - length (lineEnds (holdAll s (take k bs)) .printed)) (drop (k + 1) bs))
-line-answered s room bs k h e l g =
-    let d : drop k bs ≡ 10 ∷ drop (k + 1) bs = rw e (line-end bs (omega arith)) in
-    let t : take (k + 1) bs ≡ take k bs ++ (10 ∷ []) = take-add k 1 bs ∙ ap (λ (x : List ℕ). take k bs ++ take 1 x) d in
-    let f : Fed s (take k bs) = rw e (line-feeds s bs h) in
-    let p = pieces s (take k bs) (10 ∷ []) in
-    let after = feeds-end (feeds s (take k bs) .session) in
-    let a : eaten s room bs ≡ k + eaten (holdAll s (take k bs)) room (drop k bs) = rw e (line-eaten s room bs h) in
-    let n : eaten (holdAll s (take k bs)) room (drop k bs) ≡ suc (eaten (lineEnds (holdAll s (take k bs)) .session) (room - length (lineEnds (holdAll s (take k bs)) .printed)) (drop (k + 1) bs)) =
-    ap (λ (x : List ℕ). eaten (holdAll s (take k bs)) room x) d ∙ eaten-end s room (take k bs) (drop (k + 1) bs) g in (
-      ap (λ (x : List ℕ). feeds s x .session) t ∙ p .0 ∙ after .0 ∙ ap (λ (x : Session). lineEnds x .session) (f .0),
-      ap (λ (x : List ℕ). feeds s x .printed) t
-          ∙ p .1
-          ∙ ap (λ (x : List ℕ). x ++ feeds (feeds s (take k bs) .session) (10 ∷ []) .printed) (f .1)
-          ∙ after .1
-          ∙ ap (λ (x : Session). lineEnds x .printed) (f .0),
-      omega arith,
-    )
+-- D: a line that is answered, and what is behind it
+pub line-answered : (s : Session) (room : ℕ) (bs : List ℕ) → length (s .held) ≤ 65536 → lineLength bs < length bs → goesOn s room ≡ true
+    → eaten s room bs
+    ≡ lineLength bs + 1 + eaten (lineEnds (holdAll s (take (lineLength bs) bs)) .session) (room - length (lineEnds (holdAll s (take (lineLength bs) bs)) .printed)) (drop (lineLength bs + 1) bs)
+line-answered s room bs h l g =
+    let run = take (lineLength bs) bs in
+    let n = ap (eaten (holdAll s run) room) (line-end bs l) ∙ eaten-end s room run (drop (lineLength bs + 1) bs) g in
+    line-eaten s room bs h ∙ ap (λ (x : ℕ). lineLength bs + x) n ∙ omega arith
 
--- F: a line that is not answered yet
-pub line-stopped : (s : Session) (room : ℕ) (bs : List ℕ) (k : ℕ) → length (s .held) ≤ 65536 → k ≡ lineLength bs → k < length bs → goesOn s room ≡ false
-    → (feeds s (take k bs) .session ≡ holdAll s (take k bs)) × (feeds s (take k bs) .printed ≡ []) × (eaten s room bs ≡ k)
-line-stopped s room bs k h e l g =
-    let d : drop k bs ≡ 10 ∷ drop (k + 1) bs = rw e (line-end bs (omega arith)) in
-    let f : Fed s (take k bs) = rw e (line-feeds s bs h) in
-    let a : eaten s room bs ≡ k + eaten (holdAll s (take k bs)) room (drop k bs) = rw e (line-eaten s room bs h) in
-    let n : eaten (holdAll s (take k bs)) room (drop k bs) ≡ 0 =
-    ap (λ (x : List ℕ). eaten (holdAll s (take k bs)) room x) d ∙ eaten-stop s room (take k bs) (drop (k + 1) bs) g in
-    (f .0, f .1, omega arith)
+-- E: a line that is not answered yet
+pub line-stopped : (s : Session) (room : ℕ) (bs : List ℕ) → length (s .held) ≤ 65536 → lineLength bs < length bs → goesOn s room ≡ false → eaten s room bs ≡ lineLength bs
+line-stopped s room bs h l g =
+    let run = take (lineLength bs) bs in
+    let n = ap (eaten (holdAll s run) room) (line-end bs l) ∙ eaten-stop s room run (drop (lineLength bs + 1) bs) g in
+    line-eaten s room bs h ∙ ap (λ (x : ℕ). lineLength bs + x) n ∙ omega arith
 
 pub line-over : (s : List ℕ) → lineLength (drop (length s) s) ≡ 0
 unfolding lineLength

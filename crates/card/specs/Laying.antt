@@ -29,7 +29,7 @@ laid-pieces s line [] b = refl
 laid-pieces s line (x ∷ a) b = laid-pieces (eat s x .session) (cond (eqb x 10) line (set line (length (s .held)) x)) a b
 
 -- an end of a line is put nowhere
-laid-end : (s : Session) (line : List ℕ) → laid s line (10 ∷ []) ≡ line
+pub laid-end : (s : Session) (line : List ℕ) → laid s line (10 ∷ []) ≡ line
 unfolding laid
 laid-end s line = refl
 
@@ -84,7 +84,7 @@ lays-more b run q f s line h l = laid-other s line b run q ∙ by (ltb (length (
         ∙ ap (λ (k : ℕ). put line n (take k run)) none
         ∙ sym (ap (λ (k : ℕ). put line n (take k (b ∷ run))) none)
 
--- A: TO THE END OF THE LINE
+-- TO THE END OF THE LINE
 pub line-lays : (bs : List ℕ) → Lays (take (lineLength bs) bs)
 unfolding lineLength
 line-lays [] = lays-none
@@ -93,10 +93,3 @@ line-lays (b ∷ bs) = by (eqb b 10) refl (line-lays bs)
     by : (e : Bool) → eqb b 10 ≡ e → Lays (take (lineLength bs) bs) → Lays (take (cond e 0 (suc (lineLength bs))) (b ∷ bs))
     by true q f = lays-none
     by false q f = lays-more b (take (lineLength bs) bs) q f
-
--- B: and its end changes nothing
-pub line-laid : (s : Session) (line bs : List ℕ) (k : ℕ) → k ≡ lineLength bs → k < length bs → laid s line (take (k + 1) bs) ≡ laid s line (take k bs)
-line-laid s line bs k e l =
-    let d : drop k bs ≡ 10 ∷ drop (k + 1) bs = rw e (line-end bs (omega arith)) in
-    let t : take (k + 1) bs ≡ take k bs ++ (10 ∷ []) = take-add k 1 bs ∙ ap (λ (x : List ℕ). take k bs ++ take 1 x) d in
-    ap (laid s line) t ∙ laid-pieces s line (take k bs) (10 ∷ []) ∙ laid-end (feeds s (take k bs) .session) (laid s line (take k bs))

@@ -1,7 +1,7 @@
--- Where a session of the code stands.
+-- Where a session of the code stands, and what is lent to it.
 use mathlib.Core.Path.{_≡_}
 use mathlib.Core.List.{List, _++_}
-use mathlib.Core.Option.{some}
+use mathlib.Core.Option.{Option}
 use Prim.Native.Nat.{ℕ, _-_, _≤_}
 use lib.ListN.{length, take}
 use Rattle.exec.specs.declared.Reply.{Reply}
@@ -21,61 +21,92 @@ use Rattle.card.specs.declared.opening.Opening as Openings
 use Rattle.card.specs.declared.opening.MaybeOpening.the-variants as MaybeOpening
 use Rattle.grammar.specs.Lines.{zeros}
 use Rattle.grammar.specs.Feed as Feed
-use Rattle.grammar.specs.Feed.{Session, lineEnds, first, tooLong, timeOf, remembered}
+use Rattle.grammar.specs.Feed.{Session, lineEnds, first, later, answered, tooLong, answerOf, timeOf, remembered}
 use Rattle.card.specs.Meaning.{openingIs}
 use Rattle.card.specs.Answering.{answerIs}
 use Rattle.card.specs.Making.{stateOf}
 use Rattle.card.specs.Laying.{put}
 
-abbrev pub stageIs : Stages.Stage → Runner → (last : ℕ) → (bytes lengths : List ℕ) → Feed.Stage
-stageIs Stage.First r last bytes lengths = Feed.First
-stageIs Stage.Running r last bytes lengths = Feed.Running (stateOf r bytes lengths) last
-stageIs Stage.Over r last bytes lengths = Feed.Over
+-- ---- what is lent
 
-abbrev pub standingIs : Standing → (bytes lengths : List ℕ) → Feed.Stage
-standingIs s bytes lengths = stageIs (s .stage) (s .runner) (s .last) bytes lengths
+-- the runner's stores
+pub record Stores : Type 0 where
+  pub bytes : List ℕ
+  pub lengths : List ℕ
 
--- the session: the line that has not ended stands at the start of the line area
-abbrev pub sessionOf : Card → (line bytes lengths : List ℕ) → Session
-sessionOf c line bytes lengths = record { stage = standingIs (c .standing) bytes lengths; lines = c .lines; held = take (c .held) line }
+abbrev pub stores : (bytes lengths : List ℕ) → Stores
+stores bytes lengths = record { bytes = bytes; lengths = lengths }
 
--- ---- what a session does not tell: the runner, its stores and the last time while no runner is open
+-- what is lent to a card: the line area, the runner's stores and the output area
+pub record Lent : Type 0 where
+  pub line : List ℕ
+  pub stores : Stores
+  pub out : List ℕ
 
--- where a card stands, with the runner's stores
+abbrev pub lent : (line bytes lengths out : List ℕ) → Lent
+lent line bytes lengths out = record { line = line; stores = stores bytes lengths; out = out }
+
+-- how long they are, with the area for work
+abbrev pub Areas : (line bytes lengths work : List ℕ) → Type 0
+Areas line bytes lengths work = (length line ≡ 65536) × (length bytes ≡ 65536) × (length lengths ≡ 1024) × (length work ≡ 65536)
+
+-- ---- where a card stands
+
+-- with the runner's stores
 pub record Place : Type 0 where
   pub stage : Stages.Stage
   pub state : State
   pub last : ℕ
 
-abbrev pub placeOf : Standing → (bytes lengths : List ℕ) → Place
-placeOf s bytes lengths = record { stage = s .stage; state = stateOf (s .runner) bytes lengths; last = s .last }
+abbrev pub placeOf : Standing → Stores → Place
+placeOf s x = record { stage = s .stage; state = stateOf (s .runner) (x .bytes) (x .lengths); last = s .last }
 
--- the place of a stage: its runner, or, while none is open, what was there
+abbrev pub placeIn : Card → Lent → Place
+placeIn c x = placeOf (c .standing) (x .stores)
+
+-- the session's stage
+abbrev pub stageIs : Stages.Stage → State → (last : ℕ) → Feed.Stage
+stageIs Stage.First s last = Feed.First
+stageIs Stage.Running s last = Feed.Running s last
+stageIs Stage.Over s last = Feed.Over
+
+abbrev pub stageAt : Place → Feed.Stage
+stageAt p = stageIs (p .stage) (p .state) (p .last)
+
+-- the session: the line that has not ended stands at the start of the line area
+abbrev pub sessionOf : Card → Lent → Session
+sessionOf c x = record { stage = stageAt (placeIn c x); lines = c .lines; held = take (c .held) (x .line) }
+
+-- a session does not tell the runner, its stores and the last time while no runner is open: they are as they were
 unfoldable pub placed : Feed.Stage → (was : Place) → Place
 placed Feed.First was = record { stage = Stage.First; state = was .state; last = was .last }
 placed (Feed.Running s last) was = record { stage = Stage.Running; state = s; last = last }
 placed Feed.Over was = record { stage = Stage.Over; state = was .state; last = was .last }
 
 -- A CARD AND ITS STORES ARE A SESSION'S, all of them; `was` is the place before
-pub record Stands (s : Session) (was : Place) (c : Card) (line bytes lengths : List ℕ) : Type 0 where
-  pub session : sessionOf c line bytes lengths ≡ s
-  pub place : placeOf (c .standing) bytes lengths ≡ placed (s .stage) was  -- the standing and both stores
+pub record Stands (s : Session) (was : Place) (c : Card) (x : Lent) : Type 0 where
+  pub session : sessionOf c x ≡ s
+  pub place : placeIn c x ≡ placed (s .stage) was  -- the standing and both stores
   pub held : c .held ≡ length (s .held)
   pub most : c .held ≤ 65536
 
 -- ---- a line
 
--- a line's answer as it is told
-abbrev pub Answers : Feed.Answered → (was : Place) → Code.Answered → (bytes lengths work : List ℕ) → Type 0
-Answers x was r bytes lengths work = (placeOf (r .standing) bytes lengths ≡ placed (x .stage) was) × (answerIs (r .answer) work ≡ x .answer)
+-- what a line makes: the place after it, with both stores, and its answer
+abbrev pub Told : Feed.Answered → (was : Place) → Code.Answered → (after : Stores) → (work : List ℕ) → Type 0
+Told f was r after work = (placeOf (r .standing) after ≡ placed (f .stage) was) × (answerIs (r .answer) work ≡ f .answer)
 
--- (whatever stands in `work`)
-abbrev pub AnswersAny : Feed.Answered → (was : Place) → Code.Answered → (bytes lengths : List ℕ) → Type 0
-AnswersAny x was r bytes lengths = (work : List ℕ) → Answers x was r bytes lengths work
+-- A LINE IS ANSWERED AS f SAYS OF THE PLACE BEFORE IT
+abbrev pub Answers : (f : Place → Feed.Answered) → Standing → (before : Stores) → Code.Answered → (after : Stores) → (work : List ℕ) → Type 0
+Answers f s before r after work = Told (f (placeOf s before)) (placeOf s before) r after work
 
--- (whatever stands in the stores, which are kept)
-abbrev pub AnswersAll : ((bytes lengths : List ℕ) → Feed.Answered) → Standing → Code.Answered → Type 0
-AnswersAll f s r = (bytes lengths work : List ℕ) → Answers (f bytes lengths) (placeOf s bytes lengths) r bytes lengths work
+-- (a first line, of any place, whatever stands in `work`)
+abbrev pub AnswersFirst : Feed.Answered → Standing → (before : Stores) → Code.Answered → (after : Stores) → Type 0
+AnswersFirst f s before r after = (work : List ℕ) → Told f (placeOf s before) r after work
+
+-- (whatever stands in the stores, which are kept, and in `work`)
+abbrev pub AnswersAny : (f : Place → Feed.Answered) → Standing → Code.Answered → Type 0
+AnswersAny f s r = (x : Stores) (work : List ℕ) → Answers f s x r x work
 
 -- what open made, from its reply
 abbrev pub openedAs : Reply → Runner → (now : ℕ) → Feed.Answered
@@ -86,25 +117,35 @@ abbrev pub firstOf : Openings.Opening → Feed.Answered
 firstOf o = first (openingIs (MaybeOpening.Some o))
 
 -- a call that is not refused by 31
-abbrev pub madeBy : Call → State → (last : ℕ) → Feed.Answered
-madeBy c s last = record { stage = Feed.Running (next s c) (remembered (isRefused (answer s c)) (timeOf c) last); answer = answer s c }
+abbrev pub madeAt : Call → Place → Feed.Answered
+madeAt c p = record {
+  stage = Feed.Running (next (p .state) c) (remembered (isRefused (answer (p .state) c)) (timeOf c) (p .last));
+  answer = answer (p .state) c;
+}
 
-abbrev pub tooLongAt : Standing → (bytes lengths : List ℕ) → Feed.Answered
-tooLongAt s bytes lengths = tooLong (standingIs s bytes lengths)
+abbrev pub laterAt : Option Call → Place → Feed.Answered
+laterAt c p = later c (p .state) (p .last)
 
--- the areas that the code is lent: for a line, the runner's stores, and work
-abbrev pub Areas : (line bytes lengths work : List ℕ) → Type 0
-Areas line bytes lengths work = (length line ≡ 65536) × (length bytes ≡ 65536) × (length lengths ≡ 1024) × (length work ≡ 65536)
+abbrev pub answeredAt : (line : List ℕ) → Place → Feed.Answered
+answeredAt line p = answered (stageAt p) line
+
+abbrev pub tooLongAt : Place → Feed.Answered
+tooLongAt p = tooLong (stageAt p)
+
+abbrev pub answerAt : (line : List ℕ) → Place → Feed.Answered
+answerAt line p = answerOf (stageAt p) line
+
+-- ---- the line that is held
 
 -- bytes of a line are held as far as there is room for them, and nothing else changes
-pub record Holds (c r : Card) (line then bytes : List ℕ) : Type 0 where
+pub record Holds (bytes : List ℕ) (c : Card) (line : List ℕ) (r : Card) (line′ : List ℕ) : Type 0 where
   pub standing : r .standing ≡ c .standing
   pub lines : r .lines ≡ c .lines
-  pub held : take (r .held) then ≡ take 65536 (take (c .held) line ++ bytes)
+  pub held : take (r .held) line′ ≡ take 65536 (take (c .held) line ++ bytes)
   pub most : r .held ≤ 65536
-  pub area : then ≡ put line (c .held) (take (65536 - c .held) bytes)
+  pub area : line′ ≡ put line (c .held) (take (65536 - c .held) bytes)
 
--- the line that is held is answered, and its answer written
-pub record EndsLine (s : Session) (was : Place) (r : Printed) (line bytes lengths out then : List ℕ) (at : ℕ) : Type 0 where
-  pub stands : Stands (lineEnds s .session) was (r .card) line bytes lengths
-  pub printed : Wrote 131200 out then at (r .at) (lineEnds s .printed)
+-- the line that is held is answered, and its answer written from index `at` on
+pub record EndsLine (at : ℕ) (c : Card) (before : Lent) (r : Printed) (after : Lent) : Type 0 where
+  pub stands : Stands (lineEnds (sessionOf c before) .session) (placeIn c before) (r .card) after
+  pub printed : Wrote 131200 (before .out) (after .out) at (r .at) (lineEnds (sessionOf c before) .printed)

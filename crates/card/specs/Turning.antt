@@ -14,39 +14,51 @@ use Rattle.exec.specs.Time.{newTimers}
 use Rattle.runner.specs.Calls as Calls
 use Rattle.exec.specs.Limits.{noLimits}
 use Rattle.grammar.specs.Feed.{Session, start, lineEnds, feeds, ends}
-use Rattle.card.specs.Standing.{sessionOf, Place, placeOf, Stands}
-use Rattle.card.specs.Feeding.{eaten}
+use Rattle.card.specs.Standing.{Lent, sessionOf, placeIn, Stands, EndsLine}
+use Rattle.card.specs.Feeding.{goesOn, eaten}
 use Rattle.card.specs.Laying.{laid}
 use Rattle.card.specs.Written.{Wrote}
 
--- a line that is held ends at index end: it is answered, or nothing changes
-pub record Answered (s : Session) (was : Place) (r : Turn) (line bytes lengths out then : List ℕ) (at end : ℕ) : Type 0 where
-  pub stands : Stands (lineEnds s .session) was (r .card) line bytes lengths
-  pub printed : Wrote 131200 out then at (r .at) (lineEnds s .printed)
+-- the claim of the one case or of the other
+abbrev pub If : Bool → (this that : Type 0) → Type 0
+If true this that = this
+If false this that = that
+
+-- ---- from line to line
+
+-- the line that is held ends at index `end` of the piece: it is answered from index `at` of the output area on
+pub record Answered (at end : ℕ) (c : Card) (before : Lent) (r : Turn) (after : Lent) : Type 0 where
+  pub ends : EndsLine at c before (record { card = r .card; at = r .at }) after
   pub used : r .used ≡ end + 1
   pub more : r .more ≡ true
 
-pub record Stopped (s : Session) (was : Place) (r : Turn) (line bytes lengths out then : List ℕ) (at end : ℕ) : Type 0 where
-  pub stands : Stands s was (r .card) line bytes lengths
-  pub printed : then ≡ out
-  pub same-at : r .at ≡ at
-  pub used : r .used ≡ end
-  pub more : r .more ≡ false
+-- or nothing changes
+pub record Stopped (at end : ℕ) (c : Card) (before : Lent) (r : Turn) (after : Lent) : Type 0 where
+  pub result : r ≡ record { card = c; used = end; at = at; more = false }
+  pub kept : after ≡ before
 
-abbrev pub Passes : Bool → Session → (was : Place) → Turn → (line bytes lengths out then : List ℕ) → (at end : ℕ) → Type 0
-Passes true s was r line bytes lengths out then at end = Answered s was r line bytes lengths out then at end
-Passes false s was r line bytes lengths out then at end = Stopped s was r line bytes lengths out then at end
+abbrev pub Passes : (at end : ℕ) → Card → (before : Lent) → Turn → (after : Lent) → Type 0
+Passes at end c before r after =
+    If (goesOn (sessionOf c before) (length (before .out) - at)) (Answered at end c before r after) (Stopped at end c before r after)
+
+-- BYTES ARE EATEN: WHAT THEY FEED THE SESSION IS PRINTED FROM INDEX `at` TO BEFORE INDEX `to`, AND THE CARD, ITS STORES AND THE LINE
+-- AREA ARE AS IT LEAVES THEM
+pub record Feeds (bytes : List ℕ) (c : Card) (before : Lent) (at : ℕ) (r : Card) (after : Lent) (to : ℕ) : Type 0 where
+  pub stands : Stands (feeds (sessionOf c before) bytes .session) (placeIn c before) r after
+  pub area : after .line ≡ laid (sessionOf c before) (before .line) bytes
+  pub printed : Wrote (length (before .out)) (before .out) (after .out) at to (feeds (sessionOf c before) bytes .printed)
+
+-- how many bytes are still to be eaten
+abbrev pub toEat : (piece : List ℕ) → Turn → Lent → ℕ
+toEat piece t x = eaten (sessionOf (t .card) x) (length (x .out) - t .at) (drop (t .used) piece)
 
 -- k bytes further on
-pub record Goes (s : Session) (was : Place) (t r : Turn) (line line′ bytes lengths piece out then : List ℕ) : Type 0 where
+pub record Goes (piece : List ℕ) (t : Turn) (before : Lent) (r : Turn) (after : Lent) : Type 0 where
   pub k : ℕ
   pub used : r .used ≡ t .used + k
   pub most : r .used ≤ length piece
-  pub stands : Stands (feeds s (take k (drop (t .used) piece)) .session) was (r .card) line′ bytes lengths
-  pub area : line′ ≡ laid s line (take k (drop (t .used) piece))
-  pub printed : Wrote (length out) out then (t .at) (r .at) (feeds s (take k (drop (t .used) piece)) .printed)
-  pub eats : eaten s (length out - t .at) (drop (t .used) piece)
-      ≡ k + cond (r .more) (eaten (feeds s (take k (drop (t .used) piece)) .session) (length out - r .at) (drop k (drop (t .used) piece))) 0
+  pub fed : Feeds (take k (drop (t .used) piece)) (t .card) before (t .at) (r .card) after (r .at)
+  pub eats : toEat piece t before ≡ k + cond (r .more) (toEat piece r after) 0
   pub further : r .more ≡ true → 0 < k
 
 -- ---- a piece
@@ -63,33 +75,29 @@ newCard = record {
   held = 0;
 }
 
-pub new-starts : (line bytes lengths : List ℕ) → sessionOf newCard line bytes lengths ≡ start
+pub new-starts : (x : Lent) → sessionOf newCard x ≡ start
 unfolding newCard
-new-starts line bytes lengths = refl
+new-starts x = refl
 
 -- the areas are a session's
 abbrev pub isReady : Card → (line bytes lengths : ℕ) → Bool
 isReady c line bytes lengths = leb (c .held) 65536 && eqb line 65536 && eqb bytes 65536 && eqb lengths 1024
 
--- SO MUCH IS EATEN: WHAT THAT FEEDS THE SESSION IS PRINTED, AND THE CARD, ITS STORES AND THE LINE AREA ARE AS IT LEAVES THEM
-pub record Fed (s : Session) (was : Place) (r : Eaten) (line line′ bytes lengths piece out then : List ℕ) : Type 0 where
-  pub used : r .used ≡ eaten s (length out) piece
-  pub stands : Stands (feeds s (take (r .used) piece) .session) was (r .card) line′ bytes lengths
-  pub area : line′ ≡ laid s line (take (r .used) piece)
-  pub printed : Wrote (length out) out then 0 (r .printed) (feeds s (take (r .used) piece) .printed)
+abbrev pub canEat : Card → Lent → Bool
+canEat c x = isReady c (length (x .line)) (length (x .stores .bytes)) (length (x .stores .lengths))
+
+-- so much is eaten
+pub record Fed (piece : List ℕ) (c : Card) (before : Lent) (r : Eaten) (after : Lent) : Type 0 where
+  pub used : r .used ≡ eaten (sessionOf c before) (length (before .out)) piece
+  pub fed : Feeds (take (r .used) piece) c before 0 (r .card) after (r .printed)
 
 -- nothing is eaten, and nothing changes
-pub record Left (c : Card) (r : Eaten) (line line′ bytes bytes′ lengths lengths′ out then : List ℕ) : Type 0 where
+pub record Left (c : Card) (before : Lent) (r : Eaten) (after : Lent) : Type 0 where
   pub result : r ≡ record { card = c; used = 0; printed = 0 }
-  pub same-line : line′ ≡ line
-  pub same-bytes : bytes′ ≡ bytes
-  pub same-lengths : lengths′ ≡ lengths
-  pub same-out : then ≡ out
+  pub kept : after ≡ before
 
-abbrev pub Eats : Bool → Card → Eaten → (line line′ bytes bytes′ lengths lengths′ piece out then : List ℕ) → Type 0
-Eats true c r line line′ bytes bytes′ lengths lengths′ piece out then =
-    Fed (sessionOf c line bytes lengths) (placeOf (c .standing) bytes lengths) r line line′ bytes′ lengths′ piece out then
-Eats false c r line line′ bytes bytes′ lengths lengths′ piece out then = Left c r line line′ bytes bytes′ lengths lengths′ out then
+abbrev pub Eats : (piece : List ℕ) → Card → (before : Lent) → Eaten → (after : Lent) → Type 0
+Eats piece c before r after = If (canEat c before) (Fed piece c before r after) (Left c before r after)
 
 -- ---- the end of the input
 
@@ -97,15 +105,13 @@ Eats false c r line line′ bytes bytes′ lengths lengths′ piece out then = L
 unfoldable pub ended : Session → Session
 ended s = cond (eqb (length (s .held)) 0) s (lineEnds s .session)
 
-pub record Ended (s : Session) (was : Place) (r : Eaten) (line bytes lengths out then : List ℕ) : Type 0 where
+pub record Ended (c : Card) (before : Lent) (r : Eaten) (after : Lent) : Type 0 where
   pub used : r .used ≡ 0
-  pub stands : Stands (ended s) was (r .card) line bytes lengths
-  pub printed : Wrote (length out) out then 0 (r .printed) (ends s)
+  pub stands : Stands (ended (sessionOf c before)) (placeIn c before) (r .card) after
+  pub printed : Wrote (length (before .out)) (before .out) (after .out) 0 (r .printed) (ends (sessionOf c before))
 
-abbrev pub canFinish : Card → (line bytes lengths out : ℕ) → Bool
-canFinish c line bytes lengths out = isReady c line bytes lengths && ltb (c .lines) 18446744073709551615 && leb 131200 out
+abbrev pub canFinish : Card → Lent → Bool
+canFinish c x = canEat c x && ltb (c .lines) 18446744073709551615 && leb 131200 (length (x .out))
 
-abbrev pub Finishes : Bool → Card → Eaten → (line bytes bytes′ lengths lengths′ out then : List ℕ) → Type 0
-Finishes true c r line bytes bytes′ lengths lengths′ out then =
-    Ended (sessionOf c line bytes lengths) (placeOf (c .standing) bytes lengths) r line bytes′ lengths′ out then
-Finishes false c r line bytes bytes′ lengths lengths′ out then = Left c r line line bytes bytes′ lengths lengths′ out then
+abbrev pub Finishes : Card → (before : Lent) → Eaten → (after : Lent) → Type 0
+Finishes c before r after = If (canFinish c before) (Ended c before r after) (Left c before r after)

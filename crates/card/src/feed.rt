@@ -5,13 +5,13 @@ ghost use mathlib.Core.Option.{some};
 ghost use Prim.Native.Nat.{_+_, _-_, _≤_, _<_};
 ghost use lib.ListN.{length, take, drop};
 ghost use Rattle.grammar.specs.Lines.{zeros, lineOpen, lineCall};
-ghost use Rattle.grammar.specs.Feed.{isBack, remembered, first, later, answered, tooLong, answerOf, lineEnds};
-ghost use Rattle.card.specs.Meaning.{callIs, openingIs};
-ghost use Rattle.card.specs.Making.{timeIs, TimeIs, stateOf};
-ghost use Rattle.card.specs.Feeding.{lineLength, goesOn};
-ghost use Rattle.card.specs.Turning.{newCard, Passes, Goes, isReady, Fed, Eats, Ended, canFinish, Finishes};
+ghost use Rattle.grammar.specs.Feed.{isBack, remembered, first};
+ghost use Rattle.card.specs.Meaning.{callIs};
+ghost use Rattle.card.specs.Making.{timeIs, TimeIs};
+ghost use Rattle.card.specs.Feeding.{lineLength};
 ghost use Rattle.card.specs.declared.answers.Answer.the-variants as Answer;
-ghost use Rattle.card.specs.Standing.{standingIs, placeOf, Answers, AnswersAny, AnswersAll, openedAs, firstOf, madeBy, tooLongAt, sessionOf, Areas, Holds, EndsLine};
+ghost use Rattle.card.specs.Standing.{stores, lent, Areas, Answers, AnswersFirst, AnswersAny, openedAs, firstOf, madeAt, laterAt, answeredAt, tooLongAt, answerAt, Holds, EndsLine};
+ghost use Rattle.card.specs.Turning.{Passes, Goes, newCard, isReady, Fed, Eats, Ended, Finishes};
 use crate::answers;
 use crate::answers::Answer;
 use crate::calls::MaybeTime;
@@ -148,7 +148,8 @@ impl Standing {
         lengths: &mut [u32],
     ) -> Answered
         requires { ⌜ (length (now store) ≡ 65536) × (length (now lengths) ≡ 1024) ⌝ }
-        ensures { λ r. ⌜ AnswersAny (openedAs reply runner time) (placeOf self (now (store .entry)) (now (lengths .entry))) r (now (store .exit)) (now (lengths .exit)) ⌝ }
+        ensures { λ r. ⌜ AnswersFirst (openedAs reply runner time) self (stores (now (store .entry)) (now (lengths .entry)))
+            r (stores (now (store .exit)) (now (lengths .exit))) ⌝ }
     {
         match reply {
             Reply::Ok => {
@@ -173,7 +174,8 @@ impl Standing {
 
     fn open(self, opening: Opening, store: &mut [u8], lengths: &mut [u32]) -> Answered
         requires { ⌜ (length (now store) ≡ 65536) × (length (now lengths) ≡ 1024) ⌝ }
-        ensures { λ r. ⌜ AnswersAny (firstOf opening) (placeOf self (now (store .entry)) (now (lengths .entry))) r (now (store .exit)) (now (lengths .exit)) ⌝ }
+        ensures { λ r. ⌜ AnswersFirst (firstOf opening) self (stores (now (store .entry)) (now (lengths .entry)))
+            r (stores (now (store .exit)) (now (lengths .exit))) ⌝ }
     {
         let key = opening.key;
         let limits = opening.limits;
@@ -186,7 +188,8 @@ impl Standing {
 
     fn first(self, line: &[u8], store: &mut [u8], lengths: &mut [u32]) -> Answered
         requires { ⌜ (length (now line) ≤ 65535) × (length (now store) ≡ 65536) × (length (now lengths) ≡ 1024) ⌝ }
-        ensures { λ r. ⌜ AnswersAny (first (lineOpen (now (line .entry)))) (placeOf self (now (store .entry)) (now (lengths .entry))) r (now (store .exit)) (now (lengths .exit)) ⌝ }
+        ensures { λ r. ⌜ AnswersFirst (first (lineOpen (now (line .entry)))) self (stores (now (store .entry)) (now (lengths .entry)))
+            r (stores (now (store .exit)) (now (lengths .exit))) ⌝ }
     {
         let MaybeOpening::Some(opening) = open_of(line) else {
             return self.bad(Stage::Over);
@@ -205,7 +208,8 @@ impl Standing {
         work: &mut [u8],
     ) -> Answered
         requires { ⌜ (length (now store) ≡ 65536) × (length (now work) ≡ 65536) × TimeIs time call ⌝ }
-        ensures { λ r. ⌜ Answers (madeBy (callIs call (now (work .entry))) (stateOf (self .runner) (now (store .entry)) (now (lengths .entry))) (self .last)) (placeOf self (now (store .entry)) (now (lengths .entry))) r (now (store .exit)) (now (lengths .exit)) (now (work .exit)) ⌝ }
+        ensures { λ r. ⌜ Answers (madeAt (callIs call (now (work .entry)))) self (stores (now (store .entry)) (now (lengths .entry)))
+            r (stores (now (store .exit)) (now (lengths .exit))) (now (work .exit)) ⌝ }
     {
         let runner = self.runner;
         let making = make(runner, call, store, lengths, work);
@@ -222,7 +226,8 @@ impl Standing {
 
     fn call(self, call: Call, store: &mut [u8], lengths: &mut [u32], work: &mut [u8]) -> Answered
         requires { ⌜ (length (now store) ≡ 65536) × (length (now work) ≡ 65536) ⌝ }
-        ensures { λ r. ⌜ Answers (later (some (callIs call (now (work .entry)))) (stateOf (self .runner) (now (store .entry)) (now (lengths .entry))) (self .last)) (placeOf self (now (store .entry)) (now (lengths .entry))) r (now (store .exit)) (now (lengths .exit)) (now (work .exit)) ⌝ }
+        ensures { λ r. ⌜ Answers (laterAt (some (callIs call (now (work .entry))))) self (stores (now (store .entry)) (now (lengths .entry)))
+            r (stores (now (store .exit)) (now (lengths .exit))) (now (work .exit)) ⌝ }
     {
         let time = time_of(call);
         if is_back(time, self.last) {
@@ -242,7 +247,8 @@ impl Standing {
 
     fn later(self, line: &[u8], store: &mut [u8], lengths: &mut [u32], work: &mut [u8]) -> Answered
         requires { ⌜ (length (now line) ≤ 65535) × (length (now store) ≡ 65536) × (length (now work) ≡ 65536) ⌝ }
-        ensures { λ r. ⌜ Answers (later (lineCall (now (line .entry))) (stateOf (self .runner) (now (store .entry)) (now (lengths .entry))) (self .last)) (placeOf self (now (store .entry)) (now (lengths .entry))) r (now (store .exit)) (now (lengths .exit)) (now (work .exit)) ⌝ }
+        ensures { λ r. ⌜ Answers (laterAt (lineCall (now (line .entry)))) self (stores (now (store .entry)) (now (lengths .entry)))
+            r (stores (now (store .exit)) (now (lengths .exit))) (now (work .exit)) ⌝ }
     {
         let Line::Call(call) = call_of(line, work) else {
             return self.bad(Stage::Running);
@@ -260,7 +266,8 @@ impl Standing {
         work: &mut [u8],
     ) -> Answered
         requires { ⌜ (length (now line) ≤ 65535) × (length (now store) ≡ 65536) × (length (now lengths) ≡ 1024) × (length (now work) ≡ 65536) ⌝ }
-        ensures { λ r. ⌜ Answers (answered (standingIs self (now (store .entry)) (now (lengths .entry))) (now (line .entry))) (placeOf self (now (store .entry)) (now (lengths .entry))) r (now (store .exit)) (now (lengths .exit)) (now (work .exit)) ⌝ }
+        ensures { λ r. ⌜ Answers (answeredAt (now (line .entry))) self (stores (now (store .entry)) (now (lengths .entry)))
+            r (stores (now (store .exit)) (now (lengths .exit))) (now (work .exit)) ⌝ }
     {
         let stage = self.stage;
         match stage {
@@ -272,7 +279,7 @@ impl Standing {
 
     // A line of more than 65,535 bytes is refused whole; it is the first line where it stands first.
     fn too_long(self) -> Answered
-        ensures { λ r. ⌜ AnswersAll (tooLongAt self) self r ⌝ }
+        ensures { λ r. ⌜ AnswersAny tooLongAt self r ⌝ }
     {
         let stage = self.stage;
         match stage {
@@ -284,7 +291,8 @@ impl Standing {
 
     fn answer(self, line: &[u8], store: &mut [u8], lengths: &mut [u32], work: &mut [u8]) -> Answered
         requires { ⌜ (length (now store) ≡ 65536) × (length (now lengths) ≡ 1024) × (length (now work) ≡ 65536) ⌝ }
-        ensures { λ r. ⌜ Answers (answerOf (standingIs self (now (store .entry)) (now (lengths .entry))) (now (line .entry))) (placeOf self (now (store .entry)) (now (lengths .entry))) r (now (store .exit)) (now (lengths .exit)) (now (work .exit)) ⌝ }
+        ensures { λ r. ⌜ Answers (answerAt (now (line .entry))) self (stores (now (store .entry)) (now (lengths .entry)))
+            r (stores (now (store .exit)) (now (lengths .exit))) (now (work .exit)) ⌝ }
     {
         if line.len() <= 65535 {
             return self.answered(line, store, lengths, work);
@@ -315,7 +323,7 @@ impl Card {
     // Bytes of a line, of which no more are held than tell that it is too long.
     fn hold(self, line: &mut [u8], piece: &[u8], from: usize, to: usize) -> Card
         requires { ⌜ (from ≤ to) × (to ≤ length (now piece)) × (self .held ≤ 65536) × (length (now line) ≡ 65536) ⌝ }
-        ensures { λ r. ⌜ Holds self r (now (line .entry)) (now (line .exit)) (take (to - from) (drop from (now (piece .entry)))) ⌝ }
+        ensures { λ r. ⌜ Holds (take (to - from) (drop from (now (piece .entry)))) self (now (line .entry)) r (now (line .exit)) ⌝ }
     {
         let held = self.held;
         let n = smaller(to - from, 65536 - held);
@@ -339,7 +347,8 @@ impl Card {
         at: usize,
     ) -> Printed
         requires { ⌜ Areas (now line) (now store) (now lengths) (now work) × (self .held ≤ 65536) × (self .lines < 18446744073709551615) × (at + 131200 ≤ length (now out)) ⌝ }
-        ensures { λ r. ⌜ EndsLine (sessionOf self (now (line .entry)) (now (store .entry)) (now (lengths .entry))) (placeOf (self .standing) (now (store .entry)) (now (lengths .entry))) r (now (line .entry)) (now (store .exit)) (now (lengths .exit)) (now (out .entry)) (now (out .exit)) at ⌝ }
+        ensures { λ r. ⌜ EndsLine at self (lent (now (line .entry)) (now (store .entry)) (now (lengths .entry)) (now (out .entry)))
+            r (lent (now (line .entry)) (now (store .exit)) (now (lengths .exit)) (now (out .exit))) ⌝ }
     {
         let held = self.held;
         let number = self.lines + 1;
@@ -382,7 +391,8 @@ impl Card {
         at: usize,
     ) -> Turn
         requires { ⌜ Areas (now line) (now store) (now lengths) (now work) × (self .held ≤ 65536) × (at ≤ length (now out)) × (end < 18446744073709551615) ⌝ }
-        ensures { λ r. ⌜ Passes (goesOn (sessionOf self (now (line .entry)) (now (store .entry)) (now (lengths .entry))) (length (now (out .entry)) - at)) (sessionOf self (now (line .entry)) (now (store .entry)) (now (lengths .entry))) (placeOf (self .standing) (now (store .entry)) (now (lengths .entry))) r (now (line .entry)) (now (store .exit)) (now (lengths .exit)) (now (out .entry)) (now (out .exit)) at end ⌝ }
+        ensures { λ r. ⌜ Passes at end self (lent (now (line .entry)) (now (store .entry)) (now (lengths .entry)) (now (out .entry)))
+            r (lent (now (line .entry)) (now (store .exit)) (now (lengths .exit)) (now (out .exit))) ⌝ }
     {
         if (131200 <= out.len() - at) & (self.lines < 18446744073709551615) {
             let printed = self.end_line(line, store, lengths, work, out, at);
@@ -414,7 +424,8 @@ fn go_on(
     out: &mut [u8],
 ) -> Turn
     requires { ⌜ Areas (now line) (now store) (now lengths) (now work) × (t .card .held ≤ 65536) × (t .at ≤ length (now out)) × (t .used ≤ length (now piece)) ⌝ }
-    ensures { λ r. ⌜ Goes (sessionOf (t .card) (now (line .entry)) (now (store .entry)) (now (lengths .entry))) (placeOf (t .card .standing) (now (store .entry)) (now (lengths .entry))) t r (now (line .entry)) (now (line .exit)) (now (store .exit)) (now (lengths .exit)) (now (piece .entry)) (now (out .entry)) (now (out .exit)) ⌝ }
+    ensures { λ r. ⌜ Goes (now (piece .entry)) t (lent (now (line .entry)) (now (store .entry)) (now (lengths .entry)) (now (out .entry)))
+        r (lent (now (line .exit)) (now (store .exit)) (now (lengths .exit)) (now (out .exit))) ⌝ }
 {
     let from = t.used;
     let at = t.at;
@@ -468,7 +479,8 @@ impl Card {
         out: &mut [u8],
     ) -> Eaten
         requires { ⌜ Areas (now line) (now store) (now lengths) (now work) × (self .held ≤ 65536) ⌝ }
-        ensures { λ r. ⌜ Fed (sessionOf self (now (line .entry)) (now (store .entry)) (now (lengths .entry))) (placeOf (self .standing) (now (store .entry)) (now (lengths .entry))) r (now (line .entry)) (now (line .exit)) (now (store .exit)) (now (lengths .exit)) (now (piece .entry)) (now (out .entry)) (now (out .exit)) ⌝ }
+        ensures { λ r. ⌜ Fed (now (piece .entry)) self (lent (now (line .entry)) (now (store .entry)) (now (lengths .entry)) (now (out .entry)))
+            r (lent (now (line .exit)) (now (store .exit)) (now (lengths .exit)) (now (out .exit))) ⌝ }
     {
         let mut t = Turn {
             card: self,
@@ -498,7 +510,8 @@ impl Card {
         piece: &[u8],
         out: &mut [u8],
     ) -> Eaten
-        ensures { λ r. ⌜ Eats (isReady self (length (now (line .entry))) (length (now (store .entry))) (length (now (lengths .entry)))) self r (now (line .entry)) (now (line .exit)) (now (store .entry)) (now (store .exit)) (now (lengths .entry)) (now (lengths .exit)) (now (piece .entry)) (now (out .entry)) (now (out .exit)) ⌝ }
+        ensures { λ r. ⌜ Eats (now (piece .entry)) self (lent (now (line .entry)) (now (store .entry)) (now (lengths .entry)) (now (out .entry)))
+            r (lent (now (line .exit)) (now (store .exit)) (now (lengths .exit)) (now (out .exit))) ⌝ }
     {
         if self.is_ready(line.len(), store.len(), lengths.len()) {
             let mut work = [0u8; 65536];
@@ -520,7 +533,8 @@ impl Card {
         out: &mut [u8],
     ) -> Eaten
         requires { ⌜ Areas (now line) (now store) (now lengths) (now work) × (self .held ≤ 65536) × (self .lines < 18446744073709551615) × (131200 ≤ length (now out)) ⌝ }
-        ensures { λ r. ⌜ Ended (sessionOf self (now (line .entry)) (now (store .entry)) (now (lengths .entry))) (placeOf (self .standing) (now (store .entry)) (now (lengths .entry))) r (now (line .entry)) (now (store .exit)) (now (lengths .exit)) (now (out .entry)) (now (out .exit)) ⌝ }
+        ensures { λ r. ⌜ Ended self (lent (now (line .entry)) (now (store .entry)) (now (lengths .entry)) (now (out .entry)))
+            r (lent (now (line .entry)) (now (store .exit)) (now (lengths .exit)) (now (out .exit))) ⌝ }
     {
         if 0 < self.held {
             let last = self.end_line(line, store, lengths, work, out, 0);
@@ -540,7 +554,8 @@ impl Card {
 
     // The end of the input ends a line that has begun. Where there is no room for its answer nothing changes.
     pub fn finish(self, line: &[u8], store: &mut [u8], lengths: &mut [u32], out: &mut [u8]) -> Eaten
-        ensures { λ r. ⌜ Finishes (canFinish self (length (now (line .entry))) (length (now (store .entry))) (length (now (lengths .entry))) (length (now (out .entry)))) self r (now (line .entry)) (now (store .entry)) (now (store .exit)) (now (lengths .entry)) (now (lengths .exit)) (now (out .entry)) (now (out .exit)) ⌝ }
+        ensures { λ r. ⌜ Finishes self (lent (now (line .entry)) (now (store .entry)) (now (lengths .entry)) (now (out .entry)))
+            r (lent (now (line .entry)) (now (store .exit)) (now (lengths .exit)) (now (out .exit))) ⌝ }
     {
         let ready = self.is_ready(line.len(), store.len(), lengths.len());
         if ready & (self.lines < 18446744073709551615) & (131200 <= out.len()) {

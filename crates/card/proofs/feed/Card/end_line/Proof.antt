@@ -1,6 +1,7 @@
 use Prim.Native.Nat.{_≤_}
 use lib.ListN.{length}
 use mathlib.Core.Path.{_≡_}
+use Rattle.card.specs.Standing.{lent}
 use Rattle.card.proofs.Held.{ends-line}
 use native.Mathlib.Omega.{arith}
 use borrow.Author.Needs.{needs}
@@ -17,7 +18,7 @@ write-line-requires c κs =
 returns : tie.Need-returns
 returns c =
     let a = c .before .before .before .before .before .before .before .before .before .before .before .before .before .before .before .before .before .before .before .before .before .before .before .before .args in
-    ends-line (a .self) (c .before .before .before .before .before .before .before .before .before .before .before .before .answer .result) (a .line .now) (a .store .now) (a .lengths .now) _ _ _ _ _ (a .at) (c .before .before .before .write-line .result) (c .before .before .before .before .before .before .before .before .before .before .before .before .answer .ensures) (c .before .before .before .write-line .ensures)
+    ends-line (a .self) (lent (a .line .now) (a .store .now) (a .lengths .now) (a .out .now)) (c .before .before .before .before .before .before .before .before .before .before .before .before .answer .result) _ _ (a .at) (c .before .before .before .write-line .result) (c .before .before .before .before .before .before .before .before .before .before .before .before .answer .ensures) (c .before .before .before .write-line .ensures)
 
 pub end-line-spec : {M : Type 1} → statement M
 end-line-spec =

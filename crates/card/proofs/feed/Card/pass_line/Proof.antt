@@ -1,4 +1,3 @@
-use Rattle.card.proofs.Turns.{own}
 use Prim.Native.Nat.{_-_}
 use lib.Dec.{leb, ltb}
 use lib.ListN.{length}
@@ -18,13 +17,10 @@ end-line-requires c κs =
 
 returns : tie.Need-returns
 returns c =
-    let e = c .before .before .before .before .before .before .before .before .before .end-line .ensures in
-    rw (c .before .before .before .before .before .before .before .before .before .before .before .before .before .before .if1 .taken) (record { stands = e .stands; printed = e .printed; used = refl; more = refl })
+    rw (c .before .before .before .before .before .before .before .before .before .before .before .before .before .before .if1 .taken) (record { ends = c .before .before .before .before .before .before .before .before .before .end-line .ensures; used = refl; more = refl })
 
 returns-2 : tie.Need-returns-2
-returns-2 c =
-    let s = c .before .before .before .before .before .before .before in
-    rw (c .if1 .left) (record { stands = own (s .args .self) (s .args .line .now) (s .args .store .now) (s .args .lengths .now) (s .pre .1) (s .pre .0 .0); printed = refl; same-at = refl; used = refl; more = refl })
+returns-2 c = rw (c .if1 .left) (record { result = refl; kept = refl })
 
 pub pass-line-spec : {M : Type 1} → statement M
 pass-line-spec =

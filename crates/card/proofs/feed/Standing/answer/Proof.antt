@@ -10,7 +10,7 @@ returns c = rw (le-leb _ _ (c .before .before .before .before .before .before .b
 
 returns-2 : tie.Need-returns-2
 unfolding answerOf
-returns-2 c = rw (lt-leb _ _ (c .before .if1 .left)) (c .too-long .ensures _ _ _)
+returns-2 c = rw (lt-leb _ _ (c .before .if1 .left)) (c .too-long .ensures _ _)
 
 pub answer-spec : {M : Type 1} → statement M
 answer-spec =

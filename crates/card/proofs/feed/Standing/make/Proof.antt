@@ -1,10 +1,15 @@
-use Rattle.card.proofs.Standings.{made-by}
+use Rattle.card.proofs.Standings.{made-at}
+use Rattle.card.specs.Standing.{stores, placeOf}
 use borrow.Author.Needs.{needs}
 use Rattle.card.proofs.feed.Standing.make.Statement.{statement}
 use Rattle.card.proofs.feed.Standing.make.Tie as tie
 
 returns : tie.Need-returns
-returns c = made-by (c .before .before .before .before .before .before .before .before .before .make .result) _ _ _ _ _ _ _ _ _ (c .before .before .before .before .before .before .before .before .before .before .before .before .before .before .before .before .before .args .time) (c .before .before .before .before .before .before .before .before .before .make .ensures) (c .before .is-refused .ensures _) (c .before .before .before .before .before .before .before .before .before .before .before .before .before .before .before .before .before .pre .2 _) (c .remember .ensures)
+returns c =
+    let s = c .before .before .before .before .before .before .before .before .before .before .before .before .before .before .before .before .before in
+    let a = s .args in
+    let m = c .before .before .before .before .before .before .before .before .before .make in
+    made-at (m .result) (placeOf (a .self) (stores (a .store .now) (a .lengths .now))) _ _ _ _ _ _ (a .time) (m .ensures) (c .before .is-refused .ensures _) (s .pre .2 _) (c .remember .ensures)
 
 pub make-spec : {M : Type 1} → statement M
 make-spec =

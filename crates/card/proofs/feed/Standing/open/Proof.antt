@@ -1,5 +1,5 @@
 use Rattle.card.proofs.Standings.{opened-first}
-use Rattle.card.specs.Standing.{placeOf}
+use Rattle.card.specs.Standing.{stores}
 use borrow.Author.Needs.{needs}
 use Rattle.card.proofs.feed.Standing.open.Statement.{statement}
 use Rattle.card.proofs.feed.Standing.open.Tie as tie
@@ -7,7 +7,7 @@ use Rattle.card.proofs.feed.Standing.open.Tie as tie
 returns : tie.Need-returns
 returns c =
     let s = c .before .before .before .before .before .before .before .before .before .before .before .before .before .before .before .before in
-    opened-first (s .args .opening) (placeOf (s .args .self) (s .args .store .now) (s .args .lengths .now)) (c .before .before .before .before .opened-by .result) (c .before .before .before .before .before .before .before .before .«open» .result) (s .args .store .now) (s .args .lengths .now) _ _ (c .before .before .before .before .before .before .before .before .«open» .ensures) (s .pre .0) (s .pre .1) (c .before .before .before .before .opened-by .ensures)
+    opened-first (s .args .opening) (s .args .self) (stores (s .args .store .now) (s .args .lengths .now)) (c .before .before .before .before .opened-by .result) _ (c .before .before .before .before .before .before .before .before .«open» .result) (c .before .before .before .before .before .before .before .before .«open» .ensures) (s .pre .0) (s .pre .1) (c .before .before .before .before .opened-by .ensures)
 
 pub open-spec : {M : Type 1} → statement M
 open-spec =

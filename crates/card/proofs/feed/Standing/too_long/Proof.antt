@@ -6,15 +6,15 @@ use Rattle.card.proofs.feed.Standing.too_long.Tie as tie
 
 returns : tie.Need-returns
 unfolding tooLong
-returns c b l w = rw (c .before .enum-told .given .1) (bad-made (c .bad .result) _ _ _ b l w (c .bad .ensures) _)
+returns c x w = rw (c .before .enum-told .given .1) (bad-made (c .bad .result) _ _ _ (x .bytes) (x .lengths) w (c .bad .ensures) _)
 
 returns-2 : tie.Need-returns-2
 unfolding tooLong
-returns-2 c b l w = rw (c .before .enum-told2 .given .1) (bad-made (c .bad2 .result) _ _ _ b l w (c .bad2 .ensures) _)
+returns-2 c x w = rw (c .before .enum-told2 .given .1) (bad-made (c .bad2 .result) _ _ _ (x .bytes) (x .lengths) w (c .bad2 .ensures) _)
 
 returns-3 : tie.Need-returns-3
 unfolding tooLong
-returns-3 c b l w = rw (c .before .enum-told3 .given .1) (bad-made (c .bad3 .result) _ _ _ b l w (c .bad3 .ensures) _)
+returns-3 c x w = rw (c .before .enum-told3 .given .1) (bad-made (c .bad3 .result) _ _ _ (x .bytes) (x .lengths) w (c .bad3 .ensures) _)
 
 pub too-long-spec : {M : Type 1} → statement M
 too-long-spec =
