@@ -1,7 +1,7 @@
 -- A line that is held, and its end.
 use mathlib.Core.Path.{_≡_, refl, sym, ap, _∙_}
 use mathlib.Core.List.{List, [], _∷_, _++_}
-use Prim.Native.Nat.{ℕ, zero, suc, _+_, _-_, _≤_, _<_, min}
+use Prim.Native.Nat.{ℕ, zero, suc, _+_, _-_, _≤_, min}
 use native.Mathlib.Omega.{arith}
 use native.Mathlib.Decide.{decLt}
 use lib.ListN.{length, take, drop, length-take, length-drop}
@@ -15,7 +15,7 @@ use Rattle.grammar.specs.Feed as Feed
 use Rattle.grammar.specs.Feed.{lineEnds}
 use Rattle.card.specs.Answering.{answerIs}
 use Rattle.card.specs.Written.{Wrote, same-text}
-use Rattle.card.specs.Standing.{Lent, placeOf, Answers, answerAt, EndsLine}
+use Rattle.card.specs.Standing.{Lent, placeOf, Answers, answerAt, Holds, EndsLine}
 use Rattle.card.specs.Laying.{put}
 use Rattle.card.proofs.Standings.{placed-is}
 
@@ -33,31 +33,31 @@ take-both k m n s l e =
       | no h ↦ let z : n ≡ m = omega arith in rw z (take-all k (take m s) (let t = length-take m s in omega (arith, t)))
     ]
 
-pub hold-copy : (line piece : List ℕ) (held from to n : ℕ) → held ≤ 65536 → length line ≡ 65536 → from ≤ to → to ≤ length piece → n ≡ min (to - from) (65536 - held)
-    → take (held + n) (copied line held piece from n) ≡ take 65536 (take held line ++ take (to - from) (drop from piece))
+-- as many bytes as there is room for are copied behind those that are held
+pub holds : (c : Card) (line piece : List ℕ) (from to n : ℕ) → c .held ≤ 65536 → length line ≡ 65536 → from ≤ to → to ≤ length piece → n ≡ min (to - from) (65536 - c .held)
+    → Holds (take (to - from) (drop from piece)) c line (record { standing = c .standing; lines = c .lines; held = c .held + n }) (copied line (c .held) piece from n)
 unfolding copied
-hold-copy line piece held from to n h l f t e =
+holds c line piece from to n h l f t e =
+    let held = c .held in
     let d = drop from piece in
     let ld : length d ≡ length piece - from = length-drop from piece in
     let a = take held line in
     let la : length a ≡ held = length-take-le held line (omega arith) in
     let head : length (a ++ take n d) ≡ held + n = length-paste-head line held d n (omega arith) (omega arith) in
     let all : 65536 ≡ length a + (65536 - held) = omega arith in
-    let rest : take (65536 - held) (take (to - from) d) ≡ take n d = take-both (65536 - held) (to - from) n d (omega arith) e in
-    take-at (a ++ take n d) (drop (held + n) line) (held + n) head
-    ∙ sym (ap (λ (k : ℕ). take k (a ++ take (to - from) d)) all ∙ take-append-add a (take (to - from) d) (65536 - held) ∙ ap (λ (x : List ℕ). a ++ x) rest)
-
--- and the area then
-pub hold-area : (line piece : List ℕ) (held from to n : ℕ) → from ≤ to → to ≤ length piece → n ≡ min (to - from) (65536 - held)
-    → copied line held piece from n ≡ put line held (take (65536 - held) (take (to - from) (drop from piece)))
-unfolding copied
-hold-area line piece held from to n f t e =
-    let d = drop from piece in
-    let ld : length d ≡ length piece - from = length-drop from piece in
     let size : length (take n d) ≡ n = length-take-le n d (omega arith) in
     let rest : take (65536 - held) (take (to - from) d) ≡ take n d = take-both (65536 - held) (to - from) n d (omega arith) e in
-    sym (ap (λ (x : List ℕ). put line held x) rest ∙ ap (copied line held (take n d) 0) size ∙ copied-all line held (take n d) n size)
+    record {
+      standing = refl;
+      lines = refl;
+      held =
+          take-at (a ++ take n d) (drop (held + n) line) (held + n) head
+          ∙ sym (ap (λ (k : ℕ). take k (a ++ take (to - from) d)) all ∙ take-append-add a (take (to - from) d) (65536 - held) ∙ ap (λ (x : List ℕ). a ++ x) rest);
+      most = omega arith;
+      area = sym (ap (λ (x : List ℕ). put line held x) rest ∙ ap (copied line held (take n d) 0) size ∙ copied-all line held (take n d) n size);
+    }
 
+-- the line that is held is answered
 pub ends-line : (c : Card) (before : Lent) (r : Answered) (after : Lent) (work : List ℕ) (at to : ℕ)
     → Answers (answerAt (take (c .held - 0) (before .line))) (c .standing) (before .stores) r (after .stores) work
     → Wrote 131200 (before .out) (after .out) at to (lineText (c .lines + 1) (answerIs (r .answer) work))

@@ -18,19 +18,16 @@ use Rattle.account.specs.Call as Account
 use Rattle.account.specs.Call.{Call, isRefused}
 use Rattle.account.specs.Step.{State, next, answer}
 use Rattle.card.specs.declared.answers.Answer.{Answer}
-use Rattle.card.specs.declared.answers.Answer.the-variants as Answers
 use Rattle.card.specs.declared.calls.Making.{Making}
 use Rattle.card.specs.declared.calls.MaybeTime.{MaybeTime}
 use Rattle.card.specs.declared.feed.Answered.{Answered}
 use Rattle.card.specs.declared.feed.Stage as Stages
 use Rattle.card.specs.declared.feed.Stage.the-variants as Stage
 use Rattle.card.specs.declared.feed.Standing.{Standing}
-use Rattle.card.specs.declared.opening.MaybeOpening.the-variants as MaybeOpening
 use Rattle.card.specs.declared.opening.Opening as Openings
 use Rattle.grammar.specs.Lines.{zeros, lineCall}
 use Rattle.grammar.specs.Feed as Feed
 use Rattle.grammar.specs.Feed.{Session, isBack, timeOf, remembered, openedBy, first, later, answered, tooLong, answerOf, lineEnds, hold, eat, feeds}
-use Rattle.card.specs.Meaning.{openingIs}
 use Rattle.card.specs.Answering.{answerIs}
 use Rattle.card.specs.Making.{timeIs, stateOf, Made}
 use Rattle.card.specs.Zeros.{zeros-length}
@@ -119,22 +116,16 @@ placed-on s bs p = placed-twice (s .stage) (feeds s bs .session .stage) p (feeds
 -- ---- a line
 
 -- a refusal that leaves all but the stage
-pub refused-made : (r : Answered) (x : Stages.Stage) (runner : Runner) (last : ℕ) (a : Answer) (z : Account.Answer) (b l w : List ℕ)
+pub refused-made : {x : Stages.Stage} {runner : Runner} {last : ℕ} {a : Answer} {z : Account.Answer} (r : Answered) (y : Stages.Stage) (b l w : List ℕ)
     → (r .standing ≡ record { stage = x; runner = runner; last = last }) × (r .answer ≡ a) → answerIs a w ≡ z
-    → (y : Stages.Stage) → Told (record { stage = stageIs x (stateOf runner b l) last; answer = z }) (place y (stateOf runner b l) last) r (stores b l) w
+    → Told (record { stage = stageIs x (stateOf runner b l) last; answer = z }) (place y (stateOf runner b l) last) r (stores b l) w
 unfolding placed
-refused-made r x runner last a z b l w h e y = (ap (λ (s : Standing). placeOf s (stores b l)) (h .0) ∙ by x, ap (λ (t : Answer). answerIs t w) (h .1) ∙ e)
+refused-made {x} {runner} {last} r y b l w h e = (ap (λ (s : Standing). placeOf s (stores b l)) (h .0) ∙ by x, ap (λ (t : Answer). answerIs t w) (h .1) ∙ e)
   where
     by : (x : Stages.Stage) → place x (stateOf runner b l) last ≡ placed (stageIs x (stateOf runner b l) last) (place y (stateOf runner b l) last)
     by Stage.First = refl
     by Stage.Running = refl
     by Stage.Over = refl
-
--- 30
-pub bad-made : (r : Answered) (x : Stages.Stage) (runner : Runner) (last : ℕ) (b l w : List ℕ)
-    → (r .standing ≡ record { stage = x; runner = runner; last = last }) × (r .answer ≡ Answers.Refused 30)
-    → (y : Stages.Stage) → Told (record { stage = stageIs x (stateOf runner b l) last; answer = Account.Refused 30 }) (place y (stateOf runner b l) last) r (stores b l) w
-bad-made r x runner last b l w h y = refused-made r x runner last (Answers.Refused 30) (Account.Refused 30) b l w h refl y
 
 -- a call that is not refused by 31
 pub made-at : (m : Making) (was : Place) (c : Call) (b l w : List ℕ) (last : ℕ) (refused : Bool) (time : MaybeTime) → Made (was .state) c m b l w

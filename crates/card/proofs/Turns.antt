@@ -1,7 +1,7 @@
 -- A turn from line to line, and turns one after the other.
 use mathlib.Core.Bool.{Bool, true, false, cond, _&&_, true≢false}
 use lib.Dec.{eqb, ltb, leb}
-use borrow.Author.Tests.{eq-eqb, ne-eqb, leb-true, eqb-true}
+use borrow.Author.Tests.{ne-eqb, leb-true, eqb-true}
 use Rattle.credit.specs.RangeLaws.{both}
 use mathlib.Core.Path.{_≡_, refl, sym, ap, _∙_}
 use mathlib.Core.List.{List, [], _∷_, _++_}
@@ -19,15 +19,15 @@ use Rattle.grammar.specs.Feed.{Session, lineEnds, feeds, pieces, ends}
 use Rattle.card.specs.Feeding.{eaten, goesOn, lineLength, holdAll, line-most, line-feeds, to-line-end, feeds-end, all-held, line-answered, line-stopped}
 use Rattle.card.specs.Laying.{laid, laid-pieces, laid-end, line-lays}
 use Rattle.card.specs.Standing.{Lent, Place, placeOf, placeIn, sessionOf, placed, Stands, Holds, EndsLine}
-use Rattle.card.specs.Turning.{If, Answered, Stopped, Passes, Feeds, toEat, Goes, isReady, Fed, ended}
+use Rattle.card.specs.Turning.{If, Answered, Stopped, Passes, Feeds, toEat, Goes, canEat, Fed, ended, Ended}
 use Rattle.card.proofs.Standings.{placed-own, placed-on}
 use Rattle.card.specs.Written.{Wrote, same-text, joined}
 
 -- a text within an area is no longer than it
-pub bound : {a : ℕ} {out then : List ℕ} {at to : ℕ} {text : List ℕ} → Wrote a out then at to text → Wrote (length out) out then at to text
+bound : {a : ℕ} {out then : List ℕ} {at to : ℕ} {text : List ℕ} → Wrote a out then at to text → Wrote (length out) out then at to text
 bound w = record { holds = w .holds; ends = w .ends; short = let e = w .ends in let r = w .room in omega arith; room = w .room; size = w .size }
 
-pub wrote-none : (out then : List ℕ) (at to : ℕ) → then ≡ out → to ≡ at → at ≤ length out → Wrote (length out) out then at to []
+wrote-none : (out then : List ℕ) (at to : ℕ) → then ≡ out → to ≡ at → at ≤ length out → Wrote (length out) out then at to []
 wrote-none out then at to e h l = record {
   holds = e ∙ copied-zero out at [] 0;
   ends = omega arith;
@@ -38,7 +38,7 @@ wrote-none out then at to e h l = record {
 
 -- ---- what a card stands for
 
-pub own : (c : Card) (x : Lent) → c .held ≤ 65536 → length (x .line) ≡ 65536 → Stands (sessionOf c x) (placeIn c x) c x
+own : (c : Card) (x : Lent) → c .held ≤ 65536 → length (x .line) ≡ 65536 → Stands (sessionOf c x) (placeIn c x) c x
 own c x h l = record {
   session = refl;
   place = placed-own (placeIn c x);
@@ -46,7 +46,7 @@ own c x h l = record {
   most = h;
 }
 
-pub stands-as : {s s′ : Session} {was : Place} {c : Card} {x : Lent} → s ≡ s′ → Stands s was c x → Stands s′ was c x
+stands-as : {s s′ : Session} {was : Place} {c : Card} {x : Lent} → s ≡ s′ → Stands s was c x → Stands s′ was c x
 stands-as e h = rw e at h
 
 stands-at : {s : Session} {was was′ : Place} {c : Card} {x : Lent} → was ≡ was′ → Stands s was c x → Stands s was′ c x
@@ -212,31 +212,26 @@ fewer false used used′ n k e l f m = omega arith
 
 -- ---- the end of the input
 
-pub ends-some : (s : Session) → 0 < length (s .held) → ends s ≡ lineEnds s .printed
-unfolding ends
-ends-some s h = simp (ne-eqb (length (s .held)) 0 (λ e. absurd (omega arith)))
+pub ended-some : (c : Card) (x : Lent) (r : Printed) (y : Lent) → c .held ≤ 65536 → length (x .line) ≡ 65536 → 0 < c .held → EndsLine 0 c x r y
+    → Ended c x (record { card = r .card; used = 0; printed = r .at }) y
+unfolding ended ends
+ended-some c x r y h l m e =
+    let size : length (take (c .held) (x .line)) ≡ c .held = length-take-le (c .held) (x .line) (omega arith) in
+    let some = ne-eqb (length (take (c .held) (x .line))) 0 (λ z. absurd (omega arith)) in
+    record { used = refl; stands = rw some (e .stands); printed = rw some (bound (e .printed)) }
 
-pub ends-none : (s : Session) → length (s .held) ≡ 0 → ends s ≡ []
-unfolding ends
-ends-none s h = simp (eq-eqb (length (s .held)) 0 h)
+pub ended-none : (c : Card) (x : Lent) → length (x .line) ≡ 65536 → c .held ≡ 0 → Ended c x (record { card = c; used = 0; printed = 0 }) x
+unfolding ended ends
+ended-none c x l m =
+    let none : eqb (length (take (c .held) (x .line))) 0 ≡ true = rw m refl in
+    record { used = refl; stands = rw none (own c x (omega arith) l); printed = rw none (wrote-none (x .out) (x .out) 0 0 refl refl (omega arith)) }
 
-pub ended-some : (s : Session) → 0 < length (s .held) → lineEnds s .session ≡ ended s
-unfolding ended
-ended-some s h = simp (ne-eqb (length (s .held)) 0 (λ e. absurd (omega arith)))
+-- ---- the areas are a session's
 
-pub ended-none : (s : Session) → length (s .held) ≡ 0 → s ≡ ended s
-unfolding ended
-ended-none s h = simp (eq-eqb (length (s .held)) 0 h)
-
-pub record Ready (held line bytes lengths : ℕ) : Type 0 where
-  pub few : held ≤ 65536
-  pub line-size : line ≡ 65536
-  pub bytes-size : bytes ≡ 65536
-  pub lengths-size : lengths ≡ 1024
-
-pub ready : (c : Card) (line bytes lengths : ℕ) → isReady c line bytes lengths ≡ true → Ready (c .held) line bytes lengths
-ready c line bytes lengths h =
-    let x = both (leb (c .held) 65536 && eqb line 65536 && eqb bytes 65536) (eqb lengths 1024) h in
-    let y = both (leb (c .held) 65536 && eqb line 65536) (eqb bytes 65536) (x .0) in
-    let z = both (leb (c .held) 65536) (eqb line 65536) (y .0) in
-    record { few = leb-true _ _ (z .0); line-size = eqb-true _ _ (z .1); bytes-size = eqb-true _ _ (y .1); lengths-size = eqb-true _ _ (x .1) }
+pub ready : (c : Card) (x : Lent) → canEat c x ≡ true
+    → (length (x .line) ≡ 65536) × (length (x .stores .bytes) ≡ 65536) × (length (x .stores .lengths) ≡ 1024) × (c .held ≤ 65536)
+ready c x h =
+    let lengths = both _ _ h in
+    let bytes = both _ _ (lengths .0) in
+    let line = both _ _ (bytes .0) in
+    (eqb-true _ _ (line .1), eqb-true _ _ (bytes .1), eqb-true _ _ (lengths .1), leb-true _ _ (line .0))

@@ -2,18 +2,22 @@
 use mathlib.Core.Bool.{Bool, true, false, cond, _&&_}
 use mathlib.Core.Path.{_≡_, refl, sym, ap, _∙_}
 use mathlib.Core.List.{List, [], _∷_, _++_, append-assoc, append-nil}
-use Prim.Native.Nat.{ℕ, zero, suc, _+_, _-_, _≤_, _<_}
+use Prim.Native.Nat.{ℕ, suc, _+_, _-_, _≤_, _<_}
 use native.Mathlib.Omega.{arith}
 use native.Mathlib.Numerals.{add-one}
 use lib.Dec.{eqb, ltb, leb}
 use lib.ListN.{length, take, drop, getD, length-append}
 use lib.Seq.{drop-cons, drop-length, take-all, take-append-le, take-add}
 use borrow.Author.Tests.{ltb-true, ltb-false, eqb-true}
-use Rattle.grammar.specs.Feed.{Session, Step, hold, lineEnds, eat, feeds, pieces}
+use Rattle.grammar.specs.Feed.{Session, Step, hold, lineEnds, eat, feeds}
 
 -- a line is answered where 131,200 bytes of the output area are free, which is more than any answer has, and where its number is a u64
 abbrev pub goesOn : Session → (room : ℕ) → Bool
 goesOn s room = leb 131200 room && ltb (s .lines) 18446744073709551615
+
+-- a session that holds these bytes of a line
+abbrev pub holding : Session → List ℕ → Session
+holding s l = record { stage = s .stage; lines = s .lines; held = l }
 
 -- how many bytes are eaten: all of them, or those before an end of a line that is not answered yet
 unfoldable pub eaten : Session → (room : ℕ) → List ℕ → ℕ
@@ -21,7 +25,7 @@ eaten s room [] = 0
 eaten s room (b ∷ rest) =
     cond (eqb b 10)
     (cond (goesOn s room) (suc (eaten (lineEnds s .session) (room - length (lineEnds s .printed)) rest)) 0)
-    (suc (eaten (record { stage = s .stage; lines = s .lines; held = hold b (s .held) }) room rest))
+    (suc (eaten (holding s (hold b (s .held))) room rest))
 
 -- ---- a line, and its end
 
@@ -30,9 +34,9 @@ unfoldable pub lineLength : List ℕ → ℕ
 lineLength [] = 0
 lineLength (b ∷ s) = cond (eqb b 10) 0 (suc (lineLength s))
 
--- bytes of a line that are held
+-- more bytes of a line are held
 unfoldable pub holdAll : Session → List ℕ → Session
-holdAll s bs = record { stage = s .stage; lines = s .lines; held = take 65536 (s .held ++ bs) }
+holdAll s bs = holding s (take 65536 (s .held ++ bs))
 
 pub line-turn : (s : List ℕ) (i : ℕ) → i < length s → lineLength (drop i s) ≡ cond (eqb (getD s i 0) 10) 0 (suc (lineLength (drop (i + 1) s)))
 unfolding lineLength
@@ -46,10 +50,6 @@ line-most (b ∷ s) = by (eqb b 10) (line-most s)
     by : (e : Bool) → lineLength s ≤ length s → cond e 0 (suc (lineLength s)) ≤ suc (length s)
     by true l = omega arith
     by false l = omega arith
-
--- a byte that is held
-abbrev pub holding : Session → List ℕ → Session
-holding s l = record { stage = s .stage; lines = s .lines; held = l }
 
 hold-most : (b : ℕ) (l : List ℕ) → length l ≤ 65536 → length (hold b l) ≤ 65536
 hold-most b l h = by (ltb (length l) 65536) refl
@@ -83,14 +83,14 @@ eaten-other : (s : Session) (room b : ℕ) (rest : List ℕ) → eqb b 10 ≡ fa
 unfolding eaten
 eaten-other s room b rest q = rw q refl
 
-abbrev Fed : Session → List ℕ → Type 0
-Fed s run = (feeds s run .session ≡ holdAll s run) × (feeds s run .printed ≡ [])
+abbrev pub Held : Session → List ℕ → Type 0
+Held s run = (feeds s run .session ≡ holdAll s run) × (feeds s run .printed ≡ [])
 
-fed-none : (s : Session) → length (s .held) ≤ 65536 → Fed s []
+fed-none : (s : Session) → length (s .held) ≤ 65536 → Held s []
 unfolding feeds
 fed-none s h = (sym (held-none s h), refl)
 
-fed-on : (s : Session) (b : ℕ) (run : List ℕ) → eqb b 10 ≡ false → Fed (holding s (hold b (s .held))) run → Fed s (b ∷ run)
+fed-on : (s : Session) (b : ℕ) (run : List ℕ) → eqb b 10 ≡ false → Held (holding s (hold b (s .held))) run → Held s (b ∷ run)
 unfolding feeds
 fed-on s b run q f = (
   ap (λ (t : Step). feeds (t .session) run .session) (eat-other s b q) ∙ f .0 ∙ held-on s b run,
@@ -98,13 +98,12 @@ fed-on s b run q f = (
 )
 
 -- A: TO THE END OF THE LINE, BYTES ARE HELD
-pub line-feeds : (s : Session) (bs : List ℕ) → length (s .held) ≤ 65536
-    → (feeds s (take (lineLength bs) bs) .session ≡ holdAll s (take (lineLength bs) bs)) × (feeds s (take (lineLength bs) bs) .printed ≡ [])
+pub line-feeds : (s : Session) (bs : List ℕ) → length (s .held) ≤ 65536 → Held s (take (lineLength bs) bs)
 unfolding lineLength
 line-feeds s [] h = fed-none s h
 line-feeds s (b ∷ bs) h = by (eqb b 10) refl (line-feeds (holding s (hold b (s .held))) bs (hold-most b (s .held) h))
   where
-    by : (e : Bool) → eqb b 10 ≡ e → Fed (holding s (hold b (s .held))) (take (lineLength bs) bs) → Fed s (take (cond e 0 (suc (lineLength bs))) (b ∷ bs))
+    by : (e : Bool) → eqb b 10 ≡ e → Held (holding s (hold b (s .held))) (take (lineLength bs) bs) → Held s (take (cond e 0 (suc (lineLength bs))) (b ∷ bs))
     by true q f = fed-none s h
     by false q f = fed-on s b (take (lineLength bs) bs) q f
 

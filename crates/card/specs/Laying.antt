@@ -5,13 +5,13 @@ use mathlib.Core.List.{List, [], _∷_, _++_}
 use Prim.Native.Nat.{ℕ, zero, suc, _+_, _-_, _≤_, _<_, min}
 use native.Mathlib.Omega.{arith}
 use lib.Dec.{eqb, ltb}
-use lib.ListN.{length, take, drop, set, length-append, length-take, length-set}
-use lib.Seq.{set-out, take-add}
+use lib.ListN.{length, take, set, length-append, length-take, length-set}
+use lib.Seq.{set-out}
 use borrow.Author.Tests.{ltb-true, ltb-false}
 use Rattle.ring.specs.Runs.{copied, copied-zero, copied-one}
 use Rattle.ring.specs.Lent.{copied-join}
 use Rattle.grammar.specs.Feed.{Session, hold, eat, feeds}
-use Rattle.card.specs.Feeding.{lineLength, line-end, holding}
+use Rattle.card.specs.Feeding.{lineLength, holding}
 
 -- the line area after bytes that a session eats: a byte that ends no line is put behind those that are held, within the area
 unfoldable pub laid : Session → (line : List ℕ) → (bytes : List ℕ) → List ℕ

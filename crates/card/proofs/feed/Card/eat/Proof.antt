@@ -1,5 +1,5 @@
 use Rattle.card.proofs.Turns.{ready}
-use lib.ListN.{length}
+use Rattle.card.specs.Standing.{lent}
 use mathlib.Core.Path.{refl, sym, _∙_}
 use borrow.Author.Needs.{needs}
 use Rattle.card.proofs.feed.Card.eat.Statement.{statement}
@@ -8,8 +8,8 @@ use Rattle.card.proofs.feed.Card.eat.Tie as tie
 eat-all-requires : tie.Need-eat-all-requires
 eat-all-requires c κs =
     let a = c .before .before .before .before .before .before .before .before .before .before .before .before .args in
-    let k = ready (a .self) (length (a .line .now)) (length (a .store .now)) (length (a .lengths .now)) (sym (c .before .before .before .before .before .before .is-ready .ensures) ∙ c .before .before .before .before .before .if1 .taken) in
-    ((k .line-size, k .bytes-size, k .lengths-size, search needs), k .few)
+    let k = ready (a .self) (lent (a .line .now) (a .store .now) (a .lengths .now) (a .out .now)) (sym (c .before .before .before .before .before .before .is-ready .ensures) ∙ c .before .before .before .before .before .if1 .taken) in
+    ((k .0, k .1, k .2, search needs), k .3)
 
 returns : tie.Need-returns
 returns c = rw (sym (c .before .before .before .before .before .before .before .before .before .before .before .before .before .before .before .before .is-ready .ensures) ∙ c .before .before .before .before .before .before .before .before .before .before .before .before .before .before .before .if1 .taken) (c .before .before .before .before .before .before .before .before .before .eat-all .ensures)

@@ -1,6 +1,4 @@
-use Rattle.card.proofs.Held.{hold-copy, hold-area}
-use native.Mathlib.Omega.{arith}
-use mathlib.Core.Path.{refl}
+use Rattle.card.proofs.Held.{holds}
 use borrow.Author.Needs.{needs}
 use Rattle.card.proofs.feed.Card.hold.Statement.{statement}
 use Rattle.card.proofs.feed.Card.hold.Tie as tie
@@ -9,13 +7,7 @@ returns : tie.Need-returns
 returns c =
     let s = c .before .before .before .before .before .before .before .before in
     let a = s .args in
-    record {
-      standing = refl;
-      lines = refl;
-      held = rw (c .before .before .before .copy-in .ensures) (hold-copy (a .line .now) (a .piece .now) (a .self .held) (a .from) (a .to) _ (s .pre .2) (s .pre .3) (s .pre .0) (s .pre .1) (c .before .before .before .before .before .smaller .ensures));
-      most = omega (arith, c .before .before .before .before .before .smaller .ensures);
-      area = rw (c .before .before .before .copy-in .ensures) (hold-area (a .line .now) (a .piece .now) (a .self .held) (a .from) (a .to) _ (s .pre .0) (s .pre .1) (c .before .before .before .before .before .smaller .ensures));
-    }
+    rw (c .before .before .before .copy-in .ensures) (holds (a .self) (a .line .now) (a .piece .now) (a .from) (a .to) _ (s .pre .2) (s .pre .3) (s .pre .0) (s .pre .1) (c .before .before .before .before .before .smaller .ensures))
 
 pub hold-spec : {M : Type 1} → statement M
 hold-spec =

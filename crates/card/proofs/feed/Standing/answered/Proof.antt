@@ -1,5 +1,6 @@
-use Rattle.card.proofs.Standings.{bad-made}
+use Rattle.card.proofs.Standings.{refused-made}
 use Rattle.grammar.specs.Feed.{answered}
+use mathlib.Core.Path.{refl}
 use borrow.Author.Needs.{needs}
 use Rattle.card.proofs.feed.Standing.answered.Statement.{statement}
 use Rattle.card.proofs.feed.Standing.answered.Tie as tie
@@ -18,7 +19,7 @@ returns-2 c =
 
 returns-3 : tie.Need-returns-3
 unfolding answered
-returns-3 c = rw (c .before .enum-told3 .given .1) (bad-made (c .bad .result) _ _ _ _ _ _ (c .bad .ensures) _)
+returns-3 c = rw (c .before .enum-told3 .given .1) (refused-made (c .bad .result) _ _ _ _ (c .bad .ensures) refl)
 
 pub answered-spec : {M : Type 1} → statement M
 answered-spec =

@@ -1,7 +1,7 @@
-use Rattle.card.proofs.Standings.{bad-made}
+use Rattle.card.proofs.Standings.{refused-made}
 use Rattle.card.specs.Meaning.{openingIs}
 use Rattle.grammar.specs.Feed.{first}
-use mathlib.Core.Path.{sym, ap, _∙_}
+use mathlib.Core.Path.{refl, sym, ap, _∙_}
 use borrow.Author.Needs.{needs}
 use Rattle.card.proofs.feed.Standing.first.Statement.{statement}
 use Rattle.card.proofs.feed.Standing.first.Tie as tie
@@ -10,7 +10,7 @@ returns : tie.Need-returns
 unfolding first
 returns c w =
     let e = sym (c .before .before .before .open-of .ensures) ∙ ap openingIs (c .before .enum-told .given .1) in
-    rw e (bad-made (c .bad .result) _ _ _ _ _ w (c .bad .ensures) _)
+    rw e (refused-made (c .bad .result) _ _ _ _ (c .bad .ensures) refl)
 
 returns-2 : tie.Need-returns-2
 returns-2 c w =

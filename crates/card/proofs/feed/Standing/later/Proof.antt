@@ -1,8 +1,8 @@
-use Rattle.card.proofs.Standings.{bad-made}
+use Rattle.card.proofs.Standings.{refused-made}
 use Rattle.card.specs.Meaning.{lineIs}
 use Rattle.grammar.specs.Feed.{later}
 use Rattle.card.specs.declared.lines.Line.{Line}
-use mathlib.Core.Path.{sym, ap, _∙_}
+use mathlib.Core.Path.{refl, sym, ap, _∙_}
 use borrow.Author.Needs.{needs}
 use Rattle.card.proofs.feed.Standing.later.Statement.{statement}
 use Rattle.card.proofs.feed.Standing.later.Tie as tie
@@ -11,7 +11,7 @@ returns : tie.Need-returns
 unfolding later
 returns c =
     let e = sym (c .before .before .before .before .before .call-of .ensures) ∙ ap (λ (x : Line). lineIs x (c .before .before .before .before .before .call-of .last .1 .0)) (c .before .enum-told .given .1) in
-    rw e (bad-made (c .bad .result) _ _ _ _ _ _ (c .bad .ensures) _)
+    rw e (refused-made (c .bad .result) _ _ _ _ (c .bad .ensures) refl)
 
 returns-2 : tie.Need-returns-2
 returns-2 c =

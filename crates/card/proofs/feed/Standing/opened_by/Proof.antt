@@ -17,7 +17,7 @@ returns c w =
 
 returns-2 : tie.Need-returns-2
 returns-2 c w =
-    rw (c .before .before .before .reply .given .1) (refused-made (c .refused .result) _ _ _ _ _ _ _ w (c .refused .ensures) (c .before .replied .ensures w) _)
+    rw (c .before .before .before .reply .given .1) (refused-made (c .refused .result) _ _ _ _ (c .refused .ensures) (c .before .replied .ensures w))
 
 pub opened-by-spec : {M : Type 1} → statement M
 opened-by-spec =
