@@ -171,7 +171,7 @@ module _ (piece : List ℕ) (t : Turn) (before : Lent) (c : Card) (line : List �
 
     go-if : (b : Bool) → goesOn s (length (before .out) - t .at) ≡ b → If b (Answered (t .at) end c mid r after) (Stopped (t .at) end c mid r after) → Goes piece t before r after
     go-if true g p = go-answered g p
-    go-if false g p = rw (p .result, p .kept) (go-stop (line-stopped s (length (before .out) - t .at) bs held-few less g))
+    go-if false g p = rw (p .0, p .1) (go-stop (line-stopped s (length (before .out) - t .at) bs held-few less g))
 
     pub go-passed : Passes (t .at) end c mid r after → Goes piece t before r after
     go-passed p = go-if _ (ap (λ (n : ℕ). leb 131200 (length (before .out) - t .at) && ltb n 18446744073709551615) (sym (h .lines))) p

@@ -52,7 +52,7 @@ Areas line bytes lengths work = (length line ≡ 65536) × (length bytes ≡ 655
 
 -- ---- where a card stands
 
--- with the runner's stores
+-- the stage, the runner with its stores, and the last time
 pub record Place : Type 0 where
   pub stage : Stages.Stage
   pub state : State
@@ -64,7 +64,7 @@ placeOf s x = record { stage = s .stage; state = stateOf (s .runner) (x .bytes) 
 abbrev pub placeIn : Card → Lent → Place
 placeIn c x = placeOf (c .standing) (x .stores)
 
--- the session's stage
+-- the stage of the session
 abbrev pub stageIs : Stages.Stage → State → (last : ℕ) → Feed.Stage
 stageIs Stage.First s last = Feed.First
 stageIs Stage.Running s last = Feed.Running s last
@@ -77,7 +77,8 @@ stageAt p = stageIs (p .stage) (p .state) (p .last)
 abbrev pub sessionOf : Card → Lent → Session
 sessionOf c x = record { stage = stageAt (placeIn c x); lines = c .lines; held = take (c .held) (x .line) }
 
--- a session does not tell the runner, its stores and the last time while no runner is open: they are as they were
+-- the place after a session came to a stage: the runner, its stores and the last time are the stage's; while no runner is open they
+-- are as they were
 unfoldable pub placed : Feed.Stage → (was : Place) → Place
 placed Feed.First was = record { stage = Stage.First; state = was .state; last = was .last }
 placed (Feed.Running s last) was = record { stage = Stage.Running; state = s; last = last }
@@ -92,19 +93,19 @@ pub record Stands (s : Session) (was : Place) (c : Card) (x : Lent) : Type 0 whe
 
 -- ---- a line
 
--- what a line makes: the place after it, with both stores, and its answer
+-- the place after a line, with both stores, and the line's answer, of which bytes may stand in `work`
 abbrev pub Told : Feed.Answered → (was : Place) → Code.Answered → (after : Stores) → (work : List ℕ) → Type 0
-Told f was r after work = (placeOf (r .standing) after ≡ placed (f .stage) was) × (answerIs (r .answer) work ≡ f .answer)
+Told a was r after work = (placeOf (r .standing) after ≡ placed (a .stage) was) × (answerIs (r .answer) work ≡ a .answer)
 
 -- A LINE IS ANSWERED AS f SAYS OF THE PLACE BEFORE IT
 abbrev pub Answers : (f : Place → Feed.Answered) → Standing → (before : Stores) → Code.Answered → (after : Stores) → (work : List ℕ) → Type 0
 Answers f s before r after work = Told (f (placeOf s before)) (placeOf s before) r after work
 
--- (a first line, of any place, whatever stands in `work`)
+-- (a first line: by its own words alone, and whatever stands in `work`)
 abbrev pub AnswersFirst : Feed.Answered → Standing → (before : Stores) → Code.Answered → (after : Stores) → Type 0
-AnswersFirst f s before r after = (work : List ℕ) → Told f (placeOf s before) r after work
+AnswersFirst a s before r after = (work : List ℕ) → Told a (placeOf s before) r after work
 
--- (whatever stands in the stores, which are kept, and in `work`)
+-- (whatever stands in the stores, which are not lent and stay, and in `work`)
 abbrev pub AnswersAny : (f : Place → Feed.Answered) → Standing → Code.Answered → Type 0
 AnswersAny f s r = (x : Stores) (work : List ℕ) → Answers f s x r x work
 
@@ -123,6 +124,7 @@ madeAt c p = record {
   answer = answer (p .state) c;
 }
 
+-- a line, at a place
 abbrev pub laterAt : Option Call → Place → Feed.Answered
 laterAt c p = later c (p .state) (p .last)
 

@@ -26,16 +26,15 @@ If false this that = that
 
 -- ---- from line to line
 
--- the line that is held ends at index `end` of the piece: it is answered from index `at` of the output area on
+-- the line that is held ends at index `end` of the piece: it is answered, from index `at` of the output area on
 pub record Answered (at end : ℕ) (c : Card) (before : Lent) (r : Turn) (after : Lent) : Type 0 where
   pub ends : EndsLine at c before (record { card = r .card; at = r .at }) after
   pub used : r .used ≡ end + 1
   pub more : r .more ≡ true
 
 -- or nothing changes
-pub record Stopped (at end : ℕ) (c : Card) (before : Lent) (r : Turn) (after : Lent) : Type 0 where
-  pub result : r ≡ record { card = c; used = end; at = at; more = false }
-  pub kept : after ≡ before
+abbrev pub Stopped : (at end : ℕ) → Card → (before : Lent) → Turn → (after : Lent) → Type 0
+Stopped at end c before r after = (r ≡ record { card = c; used = end; at = at; more = false }) × (after ≡ before)
 
 abbrev pub Passes : (at end : ℕ) → Card → (before : Lent) → Turn → (after : Lent) → Type 0
 Passes at end c before r after =
@@ -79,23 +78,23 @@ pub new-starts : (x : Lent) → sessionOf newCard x ≡ start
 unfolding newCard
 new-starts x = refl
 
--- the areas are a session's
+-- whether the areas are a session's, by how long they are
 abbrev pub isReady : Card → (line bytes lengths : ℕ) → Bool
 isReady c line bytes lengths = leb (c .held) 65536 && eqb line 65536 && eqb bytes 65536 && eqb lengths 1024
 
 abbrev pub canEat : Card → Lent → Bool
 canEat c x = isReady c (length (x .line)) (length (x .stores .bytes)) (length (x .stores .lengths))
 
--- so much is eaten
+-- as many bytes are eaten as the definition says
 pub record Fed (piece : List ℕ) (c : Card) (before : Lent) (r : Eaten) (after : Lent) : Type 0 where
   pub used : r .used ≡ eaten (sessionOf c before) (length (before .out)) piece
   pub fed : Feeds (take (r .used) piece) c before 0 (r .card) after (r .printed)
 
 -- nothing is eaten, and nothing changes
-pub record Left (c : Card) (before : Lent) (r : Eaten) (after : Lent) : Type 0 where
-  pub result : r ≡ record { card = c; used = 0; printed = 0 }
-  pub kept : after ≡ before
+abbrev pub Left : Card → (before : Lent) → Eaten → (after : Lent) → Type 0
+Left c before r after = (r ≡ record { card = c; used = 0; printed = 0 }) × (after ≡ before)
 
+-- A PIECE IS EATEN, AS FAR AS THERE IS ROOM FOR THE ANSWERS; WITH AREAS THAT ARE NOT A SESSION'S NOTHING CHANGES
 abbrev pub Eats : (piece : List ℕ) → Card → (before : Lent) → Eaten → (after : Lent) → Type 0
 Eats piece c before r after = If (canEat c before) (Fed piece c before r after) (Left c before r after)
 
@@ -105,6 +104,7 @@ Eats piece c before r after = If (canEat c before) (Fed piece c before r after) 
 unfoldable pub ended : Session → Session
 ended s = cond (eqb (length (s .held)) 0) s (lineEnds s .session)
 
+-- what it prints stands at the start of the output area
 pub record Ended (c : Card) (before : Lent) (r : Eaten) (after : Lent) : Type 0 where
   pub used : r .used ≡ 0
   pub stands : Stands (ended (sessionOf c before)) (placeIn c before) (r .card) after
@@ -113,5 +113,6 @@ pub record Ended (c : Card) (before : Lent) (r : Eaten) (after : Lent) : Type 0 
 abbrev pub canFinish : Card → Lent → Bool
 canFinish c x = canEat c x && ltb (c .lines) 18446744073709551615 && leb 131200 (length (x .out))
 
+-- THE END OF THE INPUT, WHERE THERE IS ROOM FOR AN ANSWER; ELSE NOTHING CHANGES
 abbrev pub Finishes : Card → (before : Lent) → Eaten → (after : Lent) → Type 0
 Finishes c before r after = If (canFinish c before) (Ended c before r after) (Left c before r after)

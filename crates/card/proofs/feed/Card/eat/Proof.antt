@@ -15,7 +15,7 @@ returns : tie.Need-returns
 returns c = rw (sym (c .before .before .before .before .before .before .before .before .before .before .before .before .before .before .before .before .is-ready .ensures) ∙ c .before .before .before .before .before .before .before .before .before .before .before .before .before .before .before .if1 .taken) (c .before .before .before .before .before .before .before .before .before .eat-all .ensures)
 
 returns-2 : tie.Need-returns-2
-returns-2 c = rw (sym (c .before .is-ready .ensures) ∙ c .if1 .left) (record { result = refl; kept = refl })
+returns-2 c = rw (sym (c .before .is-ready .ensures) ∙ c .if1 .left) (refl, refl)
 
 pub eat-spec : {M : Type 1} → statement M
 eat-spec =

@@ -20,7 +20,7 @@ returns : tie.Need-returns
 returns c = rw (rw (c .before .before .before .before .before .before .before .before .before .before .before .before .before .before .is-ready .ensures) at (c .before .before .before .before .before .before .before .before .before .before .before .before .if1 .taken)) (c .before .before .before .before .before .before .before .end-held .ensures)
 
 returns-2 : tie.Need-returns-2
-returns-2 c = rw (rw (c .before .before .is-ready .ensures) at (c .if1 .left)) (record { result = refl; kept = refl })
+returns-2 c = rw (rw (c .before .before .is-ready .ensures) at (c .if1 .left)) (refl, refl)
 
 pub finish-spec : {M : Type 1} → statement M
 finish-spec =

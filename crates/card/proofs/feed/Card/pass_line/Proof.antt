@@ -20,7 +20,7 @@ returns c =
     rw (c .before .before .before .before .before .before .before .before .before .before .before .before .before .before .if1 .taken) (record { ends = c .before .before .before .before .before .before .before .before .before .end-line .ensures; used = refl; more = refl })
 
 returns-2 : tie.Need-returns-2
-returns-2 c = rw (c .if1 .left) (record { result = refl; kept = refl })
+returns-2 c = rw (c .if1 .left) (refl, refl)
 
 pub pass-line-spec : {M : Type 1} → statement M
 pass-line-spec =
