@@ -6,9 +6,6 @@ use mathlib.Core.Option.{Option, none, some}
 use lib.Dec.{eqb, leb}
 use lib.ListN.{length}
 use Prim.Native.Nat.{ℕ}
-use Rattle.exec.specs.declared.Key.{Key}
-use Rattle.exec.specs.declared.Limits.{Limits}
-use Rattle.exec.specs.declared.Timers.{Timers}
 use Rattle.exec.specs.declared.Reply.{Reply}
 use Rattle.exec.specs.declared.Reply.the-variants as Reply
 use Rattle.runner.specs.declared.answer.Noting.{Noting}
@@ -138,18 +135,24 @@ made-at m was c b l w last refused time h r t e =
     (ap (λ (x : State). place Stage.Running x last) (h .0) ∙ ap (place Stage.Running (next s c)) k, h .1)
 
 -- the first line: whether it opens a runner is decided by how long the stores are
-same-opening : (k : Key) (m : Limits) (t : Timers) (now : ℕ) (b l : List ℕ) → length b ≡ 65536 → length l ≡ 1024
-    → Calls.«open» k m t now b l ≡ Calls.«open» k m t now (zeros 65536) (zeros 1024)
+abbrev noted : Openings.Opening → (bytes lengths : List ℕ) → Noting
+noted o bytes lengths = Calls.«open» (o .key) (o .limits) (o .timers) (o .now) bytes lengths
+
+abbrev opened : Openings.Opening → Noting
+opened o = noted o (zeros 65536) (zeros 1024)
+
+same-opening : (o : Openings.Opening) (x : Stores) → length (x .bytes) ≡ 65536 → length (x .lengths) ≡ 1024
+    → noted o (x .bytes) (x .lengths) ≡ opened o
 unfolding Calls.«open»
-same-opening k m t now b l hb hl = rw (hb, hl, zeros-length 65536, zeros-length 1024) refl
+same-opening o x hb hl = rw (hb, hl, zeros-length 65536, zeros-length 1024) refl
 
 pub opened-first : (o : Openings.Opening) (s : Standing) (before : Stores) (r : Answered) (after : Stores) (n : Noting)
-    → n ≡ Calls.«open» (o .key) (o .limits) (o .timers) (o .now) (before .bytes) (before .lengths) → length (before .bytes) ≡ 65536 → length (before .lengths) ≡ 1024
+    → n ≡ noted o (before .bytes) (before .lengths) → length (before .bytes) ≡ 65536 → length (before .lengths) ≡ 1024
     → AnswersFirst (openedAs (n .reply) (n .runner) (o .now)) s before r after → AnswersFirst (firstOf o) s before r after
 unfolding first
-opened-first o s before r after n e hb hl h w = by (Calls.«open» (o .key) (o .limits) (o .timers) (o .now) (zeros 65536) (zeros 1024) .reply) (rw (e ∙ same-opening (o .key) (o .limits) (o .timers) (o .now) (before .bytes) (before .lengths) hb hl) at (h w))
+opened-first o s before r after n e hb hl h w = by (opened o .reply) (rw (e ∙ same-opening o before hb hl) at (h w))
   where
-    by : (x : Reply) → Told (openedAs x (Calls.«open» (o .key) (o .limits) (o .timers) (o .now) (zeros 65536) (zeros 1024) .runner) (o .now)) (placeOf s before) r after w
+    by : (x : Reply) → Told (openedAs x (opened o .runner) (o .now)) (placeOf s before) r after w
         → Told (openedBy x (record { conf = record { key = o .key; limits = o .limits; timers = o .timers }; now = o .now })) (placeOf s before) r after w
     by Reply.Ok h = h
     by (Reply.Refused y) h = h

@@ -3,17 +3,8 @@ use borrow.Author.Needs.{needs}
 use Rattle.card.proofs.feed.is_back.Statement.{statement}
 use Rattle.card.proofs.feed.is_back.Tie as tie
 
-enum-told : tie.Need-enum-told
-enum-told c = search needs
-
-enum-known-time : tie.Need-enum-known-time
-enum-known-time c = search needs
-
-returns : tie.Need-returns
-returns c = search needs
-
 returns-2 : tie.Need-returns-2
 returns-2 c = rw (c .before .time .given .1) refl
 
 pub is-back-spec : {M : Type 1} → statement M
-is-back-spec = tie.close (tie.spec enum-told enum-known-time returns returns-2)
+is-back-spec = tie.close (tie.spec (search needs) (search needs) (λ c. search needs) returns-2)

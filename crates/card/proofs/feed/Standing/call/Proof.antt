@@ -7,47 +7,29 @@ use borrow.Author.Needs.{needs}
 use Rattle.card.proofs.feed.Standing.call.Statement.{statement}
 use Rattle.card.proofs.feed.Standing.call.Tie as tie
 
-time-of-requires : tie.Need-time-of-requires
-time-of-requires c κs = search needs
-
-is-back-requires : tie.Need-is-back-requires
-is-back-requires c κs = search needs
-
 returns : tie.Need-returns
 unfolding later placed
 returns c =
     let a = c .before .before .before .before .before .before .before .args in
     let e = sym (ap (λ (t : Option ℕ). isBack t (a .self .last)) (c .before .before .before .time-of .ensures (a .work .now))) ∙ sym (c .before .before .is-back .ensures) ∙ c .before .if1 .taken in
-    simp (e) (refl, refl)
-
-make-requires : tie.Need-make-requires
-make-requires c κs = search needs
-
-same-length : tie.Need-same-length
-same-length c = search needs
-
-same-length-2 : tie.Need-same-length-2
-same-length-2 c = search needs
-
-same-length-3 : tie.Need-same-length-3
-same-length-3 c = search needs
+    simp e (refl, refl)
 
 returns-2 : tie.Need-returns-2
 unfolding later
 returns-2 c =
     let a = c .before .before .before .before .before .before .before .before .before .before .before .before .before .before .before .before .args in
     let e = sym (ap (λ (t : Option ℕ). isBack t (a .self .last)) (c .before .before .before .before .before .before .before .before .before .before .before .before .time-of .ensures (a .work .now))) ∙ sym (c .before .before .before .before .before .before .before .before .before .before .before .is-back .ensures) ∙ c .before .before .before .before .before .before .before .before .before .before .if1 .left in
-    simp (e) (c .before .before .before .before .before .before .make .ensures)
+    simp e (c .before .before .before .before .before .before .make .ensures)
 
 pub call-spec : {M : Type 1} → statement M
 call-spec =
     tie.close
     (tie.spec
-    time-of-requires
-    is-back-requires
+    (search needs)
+    (search needs)
     returns
-    make-requires
-    same-length
-    same-length-2
-    same-length-3
+    (λ c κs. search needs)
+    (search needs)
+    (search needs)
+    (search needs)
     returns-2)
