@@ -15,6 +15,13 @@ key-spec =
     (search needs)
     (search needs)
     (search needs)
-    (λ c. simp (sym (c .before .before .wide2 .ensures) ∙ ap numberIs (c .enum-told2 .given .1), sym (c .before .before .before .before .before .before .wide .ensures) ∙ ap numberIs (c .before .before .before .before .i .given .1)))
+    (λ c. simp (
+      sym (c .before .before .wide2 .ensures) ∙ ap numberIs (c .enum-told2 .given .1),
+      sym (c .before .before .before .before .before .before .wide .ensures) ∙ ap numberIs (c .before .before .before .before .i .given .1),
+    ))
     (search needs)
-    (λ c. simp (sym (c .before .before .before .before .wide2 .ensures) ∙ ap numberIs (c .before .before .g .given .1), sym (c .before .before .before .before .before .before .before .before .wide .ensures) ∙ ap numberIs (c .before .before .before .before .before .before .i .given .1), c .new .ensures)))
+    (λ c. simp (
+      sym (c .before .before .before .before .wide2 .ensures) ∙ ap numberIs (c .before .before .g .given .1),
+      sym (c .before .before .before .before .before .before .before .before .wide .ensures) ∙ ap numberIs (c .before .before .before .before .before .before .i .given .1),
+      c .new .ensures,
+    )))

@@ -15,9 +15,20 @@ cancel-spec =
     (search needs)
     (search needs)
     (search needs)
-    (λ c w. simp (sym (c .before .before .key .ensures) ∙ ap keyIs (c .enum-told2 .given .1), sym (c .before .before .before .before .before .before .wide .ensures) ∙ ap numberIs (c .before .before .before .before .now .given .1)))
+    (λ c w. simp (
+      sym (c .before .before .key .ensures) ∙ ap keyIs (c .enum-told2 .given .1),
+      sym (c .before .before .before .before .before .before .wide .ensures) ∙ ap numberIs (c .before .before .before .before .now .given .1),
+    ))
     (search needs)
     (search needs)
     (search needs)
-    (λ c w. simp (sym (c .before .before .cause .ensures) ∙ ap causeIs (c .enum-told3 .given .1), sym (c .before .before .before .before .before .before .key .ensures) ∙ ap keyIs (c .before .before .before .before .key2 .given .1), sym (c .before .before .before .before .before .before .before .before .before .before .wide .ensures) ∙ ap numberIs (c .before .before .before .before .before .before .before .before .now .given .1)))
-    (λ c w. simp (sym (c .before .before .before .cause .ensures) ∙ ap causeIs (c .before .x .given .1), sym (c .before .before .before .before .before .before .before .key .ensures) ∙ ap keyIs (c .before .before .before .before .before .key2 .given .1), sym (c .before .before .before .before .before .before .before .before .before .before .before .wide .ensures) ∙ ap numberIs (c .before .before .before .before .before .before .before .before .before .now .given .1))))
+    (λ c w. simp (
+      sym (c .before .before .cause .ensures) ∙ ap causeIs (c .enum-told3 .given .1),
+      sym (c .before .before .before .before .before .before .key .ensures) ∙ ap keyIs (c .before .before .before .before .key2 .given .1),
+      sym (c .before .before .before .before .before .before .before .before .before .before .wide .ensures) ∙ ap numberIs (c .before .before .before .before .before .before .before .before .now .given .1),
+    ))
+    (λ c w. simp (
+      sym (c .before .before .before .cause .ensures) ∙ ap causeIs (c .before .x .given .1),
+      sym (c .before .before .before .before .before .before .before .key .ensures) ∙ ap keyIs (c .before .before .before .before .before .key2 .given .1),
+      sym (c .before .before .before .before .before .before .before .before .before .before .before .wide .ensures) ∙ ap numberIs (c .before .before .before .before .before .before .before .before .before .now .given .1),
+    )))

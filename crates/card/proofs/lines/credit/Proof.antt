@@ -15,9 +15,20 @@ credit-spec =
     (search needs)
     (search needs)
     (search needs)
-    (λ c w. simp (sym (c .before .before .pool .ensures) ∙ ap poolIs (c .enum-told2 .given .1), sym (c .before .before .before .before .before .before .key .ensures) ∙ ap keyIs (c .before .before .before .before .key2 .given .1)))
+    (λ c w. simp (
+      sym (c .before .before .pool .ensures) ∙ ap poolIs (c .enum-told2 .given .1),
+      sym (c .before .before .before .before .before .before .key .ensures) ∙ ap keyIs (c .before .before .before .before .key2 .given .1),
+    ))
     (search needs)
     (search needs)
     (search needs)
-    (λ c w. simp (sym (c .before .before .narrow .ensures) ∙ ap narrowIs (c .enum-told3 .given .1), sym (c .before .before .before .before .before .before .pool .ensures) ∙ ap poolIs (c .before .before .before .before .p .given .1), sym (c .before .before .before .before .before .before .before .before .before .before .key .ensures) ∙ ap keyIs (c .before .before .before .before .before .before .before .before .key2 .given .1)))
-    (λ c w. simp (sym (c .before .before .before .narrow .ensures) ∙ ap narrowIs (c .before .n .given .1), sym (c .before .before .before .before .before .before .before .pool .ensures) ∙ ap poolIs (c .before .before .before .before .before .p .given .1), sym (c .before .before .before .before .before .before .before .before .before .before .before .key .ensures) ∙ ap keyIs (c .before .before .before .before .before .before .before .before .before .key2 .given .1))))
+    (λ c w. simp (
+      sym (c .before .before .narrow .ensures) ∙ ap narrowIs (c .enum-told3 .given .1),
+      sym (c .before .before .before .before .before .before .pool .ensures) ∙ ap poolIs (c .before .before .before .before .p .given .1),
+      sym (c .before .before .before .before .before .before .before .before .before .before .key .ensures) ∙ ap keyIs (c .before .before .before .before .before .before .before .before .key2 .given .1),
+    ))
+    (λ c w. simp (
+      sym (c .before .before .before .narrow .ensures) ∙ ap narrowIs (c .before .n .given .1),
+      sym (c .before .before .before .before .before .before .before .pool .ensures) ∙ ap poolIs (c .before .before .before .before .before .p .given .1),
+      sym (c .before .before .before .before .before .before .before .before .before .before .before .key .ensures) ∙ ap keyIs (c .before .before .before .before .before .before .before .before .before .key2 .given .1),
+    )))

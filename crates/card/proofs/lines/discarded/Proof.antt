@@ -15,5 +15,11 @@ discarded-spec =
     (search needs)
     (search needs)
     (search needs)
-    (λ c w. simp (sym (c .before .before .wide .ensures) ∙ ap numberIs (c .enum-told2 .given .1), sym (c .before .before .before .before .before .before .stream .ensures) ∙ ap streamIs (c .before .before .before .before .x .given .1)))
-    (λ c w. simp (sym (c .before .before .before .wide .ensures) ∙ ap numberIs (c .before .n .given .1), sym (c .before .before .before .before .before .before .before .stream .ensures) ∙ ap streamIs (c .before .before .before .before .before .x .given .1))))
+    (λ c w. simp (
+      sym (c .before .before .wide .ensures) ∙ ap numberIs (c .enum-told2 .given .1),
+      sym (c .before .before .before .before .before .before .stream .ensures) ∙ ap streamIs (c .before .before .before .before .x .given .1),
+    ))
+    (λ c w. simp (
+      sym (c .before .before .before .wide .ensures) ∙ ap numberIs (c .before .n .given .1),
+      sym (c .before .before .before .before .before .before .before .stream .ensures) ∙ ap streamIs (c .before .before .before .before .before .x .given .1),
+    )))

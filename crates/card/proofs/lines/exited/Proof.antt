@@ -15,5 +15,11 @@ exited-spec =
     (search needs)
     (search needs)
     (search needs)
-    (λ c w. simp (sym (c .before .before .status .ensures) ∙ ap statusIs (c .enum-told2 .given .1), sym (c .before .before .before .before .before .before .wide .ensures) ∙ ap numberIs (c .before .before .before .before .now .given .1)))
-    (λ c w. simp (sym (c .before .before .before .status .ensures) ∙ ap statusIs (c .before .x .given .1), sym (c .before .before .before .before .before .before .before .wide .ensures) ∙ ap numberIs (c .before .before .before .before .before .now .given .1))))
+    (λ c w. simp (
+      sym (c .before .before .status .ensures) ∙ ap statusIs (c .enum-told2 .given .1),
+      sym (c .before .before .before .before .before .before .wide .ensures) ∙ ap numberIs (c .before .before .before .before .now .given .1),
+    ))
+    (λ c w. simp (
+      sym (c .before .before .before .status .ensures) ∙ ap statusIs (c .before .x .given .1),
+      sym (c .before .before .before .before .before .before .before .wide .ensures) ∙ ap numberIs (c .before .before .before .before .before .now .given .1),
+    )))

@@ -17,6 +17,12 @@ output-spec =
     (search needs)
     (search needs)
     (search needs)
-    (λ c. simp (sym (c .before .before .before .before .bytes .ensures) ∙ ap (λ (x : MaybeLength). bytesIs x (c .before .before .before .before .bytes .last .1 .0)) (c .enum-told2 .given .1), sym (c .before .before .before .before .before .before .before .before .before .stream .ensures) ∙ ap streamIs (c .before .before .before .before .before .before .before .x .given .1)))
+    (λ c. simp (
+      sym (c .before .before .before .before .bytes .ensures) ∙ ap (λ (x : MaybeLength). bytesIs x (c .before .before .before .before .bytes .last .1 .0)) (c .enum-told2 .given .1),
+      sym (c .before .before .before .before .before .before .before .before .before .stream .ensures) ∙ ap streamIs (c .before .before .before .before .before .before .before .x .given .1),
+    ))
     (search needs)
-    (λ c. simp (sym (c .before .before .before .before .before .bytes .ensures) ∙ ap (λ (x : MaybeLength). bytesIs x (c .before .before .before .before .before .bytes .last .1 .0)) (c .before .n .given .1), sym (c .before .before .before .before .before .before .before .before .before .before .stream .ensures) ∙ ap streamIs (c .before .before .before .before .before .before .before .before .x .given .1))))
+    (λ c. simp (
+      sym (c .before .before .before .before .before .bytes .ensures) ∙ ap (λ (x : MaybeLength). bytesIs x (c .before .before .before .before .before .bytes .last .1 .0)) (c .before .n .given .1),
+      sym (c .before .before .before .before .before .before .before .before .before .before .stream .ensures) ∙ ap streamIs (c .before .before .before .before .before .before .before .before .x .given .1),
+    )))

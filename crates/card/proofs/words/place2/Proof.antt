@@ -12,5 +12,11 @@ place2-spec =
     (search needs)
     (λ c. simp (sym (c .before .is .ensures) ∙ c .if1 .taken))
     (search needs)
-    (λ c. simp (sym (c .before .is2 .ensures) ∙ c .if2 .taken, sym (c .before .before .before .is .ensures) ∙ c .before .before .if1 .left))
-    (λ c. simp (sym (c .before .is2 .ensures) ∙ c .if2 .left, sym (c .before .before .before .is .ensures) ∙ c .before .before .if1 .left)))
+    (λ c. simp (
+      sym (c .before .is2 .ensures) ∙ c .if2 .taken,
+      sym (c .before .before .before .is .ensures) ∙ c .before .before .if1 .left,
+    ))
+    (λ c. simp (
+      sym (c .before .is2 .ensures) ∙ c .if2 .left,
+      sym (c .before .before .before .is .ensures) ∙ c .before .before .if1 .left,
+    )))
