@@ -96,27 +96,6 @@ pub enum Line {
 
 // ---- with no argument
 
-fn plain_from_5(name: &[u8]) -> Line
-    ensures { λ r. ⌜ LineIs r (find (now (name .entry)) (drop 5 plainCalls)) ⌝ }
-{
-    let n = place5(
-        name,
-        b"is_detached",
-        b"awaits_settlement",
-        b"memory_bound",
-        b"buffered",
-        b"high_water",
-    );
-    match n {
-        0 => Line::Call(Call::IsDetached),
-        1 => Line::Call(Call::AwaitsSettlement),
-        2 => Line::Call(Call::MemoryBound),
-        3 => Line::Call(Call::Buffered),
-        4 => Line::Call(Call::HighWater),
-        _ => Line::None,
-    }
-}
-
 fn plain(name: &[u8]) -> Line
     ensures { λ r. ⌜ LineIs r (find (now (name .entry)) plainCalls) ⌝ }
 {
@@ -135,6 +114,28 @@ fn plain(name: &[u8]) -> Line
         3 => Line::Call(Call::NextRequest),
         4 => Line::Call(Call::IsFinished),
         _ => plain_from_5(name),
+    }
+}
+
+// (A table of more than five names is read in parts.)
+fn plain_from_5(name: &[u8]) -> Line
+    ensures { λ r. ⌜ LineIs r (find (now (name .entry)) (drop 5 plainCalls)) ⌝ }
+{
+    let n = place5(
+        name,
+        b"is_detached",
+        b"awaits_settlement",
+        b"memory_bound",
+        b"buffered",
+        b"high_water",
+    );
+    match n {
+        0 => Line::Call(Call::IsDetached),
+        1 => Line::Call(Call::AwaitsSettlement),
+        2 => Line::Call(Call::MemoryBound),
+        3 => Line::Call(Call::Buffered),
+        4 => Line::Call(Call::HighWater),
+        _ => Line::None,
     }
 }
 
@@ -239,14 +240,22 @@ fn message(a: &[u8]) -> Line
     Line::Call(Call::NextMessage(n as u16))
 }
 
-fn call1_from_9(name: &[u8], a: &[u8]) -> Line
-    ensures { λ r. ⌜ LineIs r (call1From 9 (now (name .entry)) (now (a .entry))) ⌝ }
+fn call1(name: &[u8], a: &[u8]) -> Line
+    ensures { λ r. ⌜ LineIs r (callOf (now (name .entry) ∷ now (a .entry) ∷ [])) ⌝ }
 {
-    let n = place2(name, b"tick", b"message");
+    let n = place4(
+        name,
+        b"read_allowance",
+        b"output_closed",
+        b"output_failed",
+        b"output_hung_up",
+    );
     match n {
-        0 => tick(a),
-        1 => message(a),
-        _ => Line::None,
+        0 => read_allowance(a),
+        1 => output_closed(a),
+        2 => output_failed(a),
+        3 => output_hung_up(a),
+        _ => call1_from_4(name, a),
     }
 }
 
@@ -271,22 +280,14 @@ fn call1_from_4(name: &[u8], a: &[u8]) -> Line
     }
 }
 
-fn call1(name: &[u8], a: &[u8]) -> Line
-    ensures { λ r. ⌜ LineIs r (callOf (now (name .entry) ∷ now (a .entry) ∷ [])) ⌝ }
+fn call1_from_9(name: &[u8], a: &[u8]) -> Line
+    ensures { λ r. ⌜ LineIs r (call1From 9 (now (name .entry)) (now (a .entry))) ⌝ }
 {
-    let n = place4(
-        name,
-        b"read_allowance",
-        b"output_closed",
-        b"output_failed",
-        b"output_hung_up",
-    );
+    let n = place2(name, b"tick", b"message");
     match n {
-        0 => read_allowance(a),
-        1 => output_closed(a),
-        2 => output_failed(a),
-        3 => output_hung_up(a),
-        _ => call1_from_4(name, a),
+        0 => tick(a),
+        1 => message(a),
+        _ => Line::None,
     }
 }
 

@@ -55,7 +55,9 @@ pub(crate) fn is(field: &[u8], word: &[u8]) -> bool
     true
 }
 
-// Which of the names the field is; how many they are where it is none.
+// ---- the place of a field among names: the first that it is; how many they are where it is none. (Each name is an argument of
+// its own: so the compiler knows its bytes, and a name of another length costs one comparison.)
+
 pub(crate) fn place2(field: &[u8], a: &[u8], b: &[u8]) -> usize
     ensures { λ r. ⌜ r ≡ placeAmong (now (field .entry)) (now (a .entry) ∷ now (b .entry) ∷ []) ⌝ }
 {
@@ -106,6 +108,8 @@ pub(crate) fn place5(field: &[u8], a: &[u8], b: &[u8], c: &[u8], d: &[u8], e: &[
     }
     5
 }
+
+// ---- words
 
 pub(crate) fn stream(field: &[u8]) -> MaybeStream
     ensures { λ r. ⌜ streamIs r ≡ stream (now (field .entry)) ⌝ }
