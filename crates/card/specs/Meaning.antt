@@ -7,8 +7,8 @@ use mathlib.Core.Bool.{cond, _&&_}
 use mathlib.Core.Option.{Option·map}
 use Prim.Native.Nat.{ℕ, _≤_}
 use lib.IntN.{ℤ}
-use lib.ListN.{take, drop}
-use Rattle.grammar.specs.Lines.{Opening, on, u32, missing, zeros, find, calls1}
+use lib.ListN.{take}
+use Rattle.grammar.specs.Lines.{Opening, on, u32, missing, zeros}
 use Rattle.exec.specs.declared.Cause.{Cause}
 use Rattle.exec.specs.declared.Key.{Key}
 use Rattle.exec.specs.declared.LaunchResult.{LaunchResult}
@@ -156,10 +156,6 @@ abbrev pub startedOf : (stage error : List ℕ) → Option LaunchResult
 startedOf stage error = cond (missing stage && missing error) (some LaunchResult.Started) none
 
 -- ---- calls
-
--- a call with one argument, by what is left of its table
-unfoldable pub call1From : ℕ → (name a : List ℕ) → Option Call
-call1From n name a = on (find name (drop n calls1)) λ f. f a
 
 -- (the bytes of a payload stand at the start of work)
 abbrev pub callIs : Calls.Call → (work : List ℕ) → Call

@@ -5,11 +5,10 @@ use mathlib.Core.List.{List, [], _∷_}
 use mathlib.Core.Option.{Option, none, some, Option·map}
 use Prim.Native.Nat.{ℕ, zero, suc, _≤_}
 use native.Mathlib.Omega.{arith}
-use lib.ListN.{length, take, drop}
+use lib.ListN.{take, drop}
 use Rattle.grammar.specs.Words.{same, named}
 use Rattle.grammar.specs.Lines.{Entry, find, on, calls1}
 use Rattle.account.specs.Call.{Call}
-use Rattle.card.specs.Meaning.{call1From}
 
 -- the place of what `named` finds; how many there are where it finds none
 unfoldable pub placeOf : {A : Type 0} → (A → List ℕ) → List A → (field : List ℕ) → ℕ
@@ -92,7 +91,10 @@ module _ {A : Type 0} (field : List ℕ) (es : List (Entry A)) {r : ℕ} (n : �
   unfolding find
   find-none p h e = sym (ap (λ (ys : List (Entry A)). find field ys) e) ∙ find-rest p h
 
--- and made of its argument
+-- a call with one argument, by what is left of its table
+unfoldable pub call1From : ℕ → (name a : List ℕ) → Option Call
+call1From n name a = on (find name (drop n calls1)) λ f. f a
+
 pub made1 : (n : ℕ) (name a : List ℕ) (o : Option (List ℕ → Option Call)) → o ≡ find name (drop n calls1) → on o (λ f. f a) ≡ call1From n name a
 unfolding call1From
 made1 n name a o h = ap (λ (o : Option (List ℕ → Option Call)). on o λ f. f a) h

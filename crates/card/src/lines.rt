@@ -30,7 +30,8 @@ ghost use Rattle.grammar.specs.Lines.{
   callOf,
   lineCall,
 };
-ghost use Rattle.card.specs.Meaning.{lineIs, LineIs, call1From};
+ghost use Rattle.card.specs.Meaning.{lineIs, LineIs};
+ghost use Rattle.card.specs.Naming.{call1From};
 ghost use Rattle.card.specs.FieldLaws.{commaAt};
 use crate::fields;
 use crate::fields::FoundLaunch;

@@ -1,8 +1,7 @@
 use borrow.Author.Needs.{needs}
 use mathlib.Core.Path.{_∙_}
 use Rattle.grammar.specs.Words.{bytes}
-use Rattle.card.specs.Meaning.{call1From}
-use Rattle.card.specs.Naming.{Beyond, placeOf, pick, find-at, find-rest, made1}
+use Rattle.card.specs.Naming.{Beyond, call1From, placeOf, pick, find-at, find-rest, made1}
 use Rattle.card.proofs.lines.call1_from_4.Statement.{statement}
 use Rattle.card.proofs.lines.call1_from_4.Tie as tie
 
