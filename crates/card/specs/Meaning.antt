@@ -8,8 +8,9 @@ use mathlib.Core.Option.{Option·map}
 use Prim.Native.Nat.{ℕ, _≤_}
 use lib.IntN.{ℤ}
 use lib.ListN.{take}
-use Rattle.grammar.specs.Lines.{Opening, on, u32, missing, zeros, find, readAllowanceOf, outputClosedOf, outputFailedOf, outputHungUpOf, inputWrittenOf, settledOf, droppedOf, resetOf, disconnectOf, tickOf, messageOf, endInputOf, outputOf, discardedOf, exitedOf, launchedOf, inputOf, creditOf, cancelOf}
+use Rattle.grammar.specs.Lines.{Opening, on, u32, missing, zeros}
 use Rattle.exec.specs.declared.Cause.{Cause}
+use Rattle.exec.specs.declared.Key.{Key}
 use Rattle.exec.specs.declared.LaunchResult.{LaunchResult}
 use Rattle.exec.specs.declared.LaunchResult.the-variants as LaunchResult
 use Rattle.exec.specs.declared.MaybeCause.{MaybeCause}
@@ -54,20 +55,14 @@ use Rattle.card.specs.declared.words.MaybeUnit.{MaybeUnit}
 use Rattle.card.specs.declared.words.MaybeUnit.the-variants as MaybeUnit
 use Rattle.card.specs.declared.fields.MaybeU32.{MaybeU32}
 use Rattle.card.specs.declared.fields.MaybeU32.the-variants as MaybeU32
+use Rattle.card.specs.declared.fields.MaybeKey.{MaybeKey}
+use Rattle.card.specs.declared.fields.MaybeKey.the-variants as MaybeKey
 use Rattle.card.specs.declared.fields.FoundStatus.{FoundStatus}
 use Rattle.card.specs.declared.fields.FoundStatus.the-variants as FoundStatus
 use Rattle.card.specs.declared.fields.FoundTimeout.{FoundTimeout}
 use Rattle.card.specs.declared.fields.FoundTimeout.the-variants as FoundTimeout
 use Rattle.card.specs.declared.fields.FoundLaunch.{FoundLaunch}
 use Rattle.card.specs.declared.fields.FoundLaunch.the-variants as FoundLaunch
-use Rattle.card.specs.declared.lines.Verb1.{Verb1}
-use Rattle.card.specs.declared.lines.Verb1.the-variants as Verb1
-use Rattle.card.specs.declared.lines.Verb2.{Verb2}
-use Rattle.card.specs.declared.lines.Verb2.the-variants as Verb2
-use Rattle.card.specs.declared.lines.Verb3.{Verb3}
-use Rattle.card.specs.declared.lines.Verb3.the-variants as Verb3
-use Rattle.card.specs.declared.lines.Verb4.{Verb4}
-use Rattle.card.specs.declared.lines.Verb4.the-variants as Verb4
 use Rattle.card.specs.declared.lines.Line.{Line}
 use Rattle.card.specs.declared.lines.Line.the-variants as Line
 use Rattle.card.specs.declared.lines.Call as Calls
@@ -108,6 +103,10 @@ narrowIs (MaybeU32.Some n) = some n
 abbrev pub signedIs : MaybeSigned → Option ℤ
 signedIs MaybeSigned.None = none
 signedIs (MaybeSigned.Some n) = some n
+
+abbrev pub keyIs : MaybeKey → Option Key
+keyIs MaybeKey.None = none
+keyIs (MaybeKey.Some k) = some k
 
 abbrev pub statusIs : FoundStatus → Option MaybeStatus
 statusIs FoundStatus.None = none
@@ -157,37 +156,6 @@ abbrev pub startedOf : (stage error : List ℕ) → Option LaunchResult
 startedOf stage error = cond (missing stage && missing error) (some LaunchResult.Started) none
 
 -- ---- calls
-
-abbrev pub verb1Is : Verb1 → Option (List ℕ → Option Call)
-verb1Is Verb1.None = none
-verb1Is Verb1.ReadAllowance = some readAllowanceOf
-verb1Is Verb1.OutputClosed = some outputClosedOf
-verb1Is Verb1.OutputFailed = some outputFailedOf
-verb1Is Verb1.OutputHungUp = some outputHungUpOf
-verb1Is Verb1.InputWritten = some inputWrittenOf
-verb1Is Verb1.Settled = some settledOf
-verb1Is Verb1.Dropped = some droppedOf
-verb1Is Verb1.Reset = some resetOf
-verb1Is Verb1.Disconnect = some disconnectOf
-verb1Is Verb1.Tick = some tickOf
-verb1Is Verb1.Message = some messageOf
-
-abbrev pub verb2Is : Verb2 → Option (List ℕ → List ℕ → Option Call)
-verb2Is Verb2.None = none
-verb2Is Verb2.EndInput = some endInputOf
-verb2Is Verb2.Output = some outputOf
-verb2Is Verb2.Discarded = some discardedOf
-verb2Is Verb2.Exited = some exitedOf
-
-abbrev pub verb3Is : Verb3 → Option (List ℕ → List ℕ → List ℕ → Option Call)
-verb3Is Verb3.None = none
-verb3Is Verb3.Launched = some launchedOf
-verb3Is Verb3.Input = some inputOf
-
-abbrev pub verb4Is : Verb4 → Option (List ℕ → List ℕ → List ℕ → List ℕ → Option Call)
-verb4Is Verb4.None = none
-verb4Is Verb4.Credit = some creditOf
-verb4Is Verb4.Cancel = some cancelOf
 
 -- (the bytes of a payload stand at the start of work)
 abbrev pub callIs : Calls.Call → (work : List ℕ) → Call

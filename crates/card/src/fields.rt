@@ -5,11 +5,12 @@ ghost use lib.ListN.{length};
 ghost use Rattle.text.specs.Answers.{AtMost};
 ghost use Rattle.text.specs.Decimal.{signed};
 ghost use Rattle.text.specs.Hexadecimal.{unhex};
-ghost use Rattle.grammar.specs.Lines.{u64, u32, messageLength, status, timeout, launchResult};
+ghost use Rattle.grammar.specs.Lines.{u64, u32, messageLength, keyOf, status, timeout, launchResult};
 ghost use Rattle.card.specs.Meaning.{
   numberIs,
   narrowIs,
   signedIs,
+  keyIs,
   statusIs,
   timeoutIs,
   launchIs,
@@ -22,6 +23,7 @@ ghost use Rattle.card.specs.Meaning.{
 use crate::words::MaybeFlag;
 use crate::words::flag;
 use crate::words::missing;
+use exec::Key;
 use exec::LaunchFailure;
 use exec::LaunchResult;
 use exec::MaybeDuration;
@@ -71,6 +73,25 @@ pub(crate) fn integer(field: &[u8]) -> MaybeSigned
     ensures { λ r. ⌜ signedIs r ≡ signed (now (field .entry)) ⌝ }
 {
     text::decimal::read_signed(field)
+}
+
+// ---- a key: its id and its generation
+
+pub enum MaybeKey {
+    None,
+    Some(Key),
+}
+
+pub(crate) fn key(id: &[u8], generation: &[u8]) -> MaybeKey
+    ensures { λ r. ⌜ keyIs r ≡ keyOf (now (id .entry)) (now (generation .entry)) ⌝ }
+{
+    let MaybeNumber::Some(i) = wide(id) else {
+        return MaybeKey::None;
+    };
+    let MaybeNumber::Some(g) = wide(generation) else {
+        return MaybeKey::None;
+    };
+    MaybeKey::Some(Key::new(i, g))
 }
 
 // ---- a status: E or S with a number, or missing

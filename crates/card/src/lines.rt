@@ -3,15 +3,11 @@
 ghost use mathlib.Core.Path.{_≡_};
 ghost use mathlib.Core.List.{[], _∷_};
 ghost use Prim.Native.Nat.{_≤_, _/_};
-ghost use lib.ListN.{length};
+ghost use lib.ListN.{length, drop};
 ghost use Rattle.grammar.specs.Lines.{
   fields,
   find,
   plainCalls,
-  calls1,
-  calls2,
-  calls3,
-  calls4,
   readAllowanceOf,
   outputClosedOf,
   outputFailedOf,
@@ -34,17 +30,21 @@ ghost use Rattle.grammar.specs.Lines.{
   callOf,
   lineCall,
 };
-ghost use Rattle.card.specs.Meaning.{lineIs, LineIs, verb1Is, verb2Is, verb3Is, verb4Is};
+ghost use Rattle.card.specs.Meaning.{lineIs, LineIs};
+ghost use Rattle.card.specs.Naming.{call1From};
 ghost use Rattle.card.specs.FieldLaws.{commaAt};
 use crate::fields;
 use crate::fields::FoundLaunch;
 use crate::fields::FoundStatus;
+use crate::fields::MaybeKey;
 use crate::fields::MaybeU32;
 use crate::words;
 use crate::words::MaybePool;
 use crate::words::MaybeSettlement;
 use crate::words::MaybeStream;
-use crate::words::is;
+use crate::words::place2;
+use crate::words::place4;
+use crate::words::place5;
 use exec::Cause;
 use exec::Key;
 use exec::LaunchResult;
@@ -100,94 +100,47 @@ pub enum Line {
 fn plain(name: &[u8]) -> Line
     ensures { λ r. ⌜ LineIs r (find (now (name .entry)) plainCalls) ⌝ }
 {
-    if is(name, b"pending_input") {
-        return Line::Call(Call::PendingInput);
+    let n = place5(
+        name,
+        b"pending_input",
+        b"input_closed",
+        b"deadline",
+        b"request",
+        b"is_finished",
+    );
+    match n {
+        0 => Line::Call(Call::PendingInput),
+        1 => Line::Call(Call::InputClosed),
+        2 => Line::Call(Call::Deadline),
+        3 => Line::Call(Call::NextRequest),
+        4 => Line::Call(Call::IsFinished),
+        _ => plain_from_5(name),
     }
-    if is(name, b"input_closed") {
-        return Line::Call(Call::InputClosed);
+}
+
+// (A table of more than five names is read in parts.)
+fn plain_from_5(name: &[u8]) -> Line
+    ensures { λ r. ⌜ LineIs r (find (now (name .entry)) (drop 5 plainCalls)) ⌝ }
+{
+    let n = place5(
+        name,
+        b"is_detached",
+        b"awaits_settlement",
+        b"memory_bound",
+        b"buffered",
+        b"high_water",
+    );
+    match n {
+        0 => Line::Call(Call::IsDetached),
+        1 => Line::Call(Call::AwaitsSettlement),
+        2 => Line::Call(Call::MemoryBound),
+        3 => Line::Call(Call::Buffered),
+        4 => Line::Call(Call::HighWater),
+        _ => Line::None,
     }
-    if is(name, b"deadline") {
-        return Line::Call(Call::Deadline);
-    }
-    if is(name, b"request") {
-        return Line::Call(Call::NextRequest);
-    }
-    if is(name, b"is_finished") {
-        return Line::Call(Call::IsFinished);
-    }
-    if is(name, b"is_detached") {
-        return Line::Call(Call::IsDetached);
-    }
-    if is(name, b"awaits_settlement") {
-        return Line::Call(Call::AwaitsSettlement);
-    }
-    if is(name, b"memory_bound") {
-        return Line::Call(Call::MemoryBound);
-    }
-    if is(name, b"buffered") {
-        return Line::Call(Call::Buffered);
-    }
-    if is(name, b"high_water") {
-        return Line::Call(Call::HighWater);
-    }
-    Line::None
 }
 
 // ---- with one
-
-pub(crate) enum Verb1 {
-    None,
-    ReadAllowance,
-    OutputClosed,
-    OutputFailed,
-    OutputHungUp,
-    InputWritten,
-    Settled,
-    Dropped,
-    Reset,
-    Disconnect,
-    Tick,
-    Message,
-}
-
-fn verb_of_1(name: &[u8]) -> Verb1
-    ensures { λ r. ⌜ verb1Is r ≡ find (now (name .entry)) calls1 ⌝ }
-{
-    if is(name, b"read_allowance") {
-        return Verb1::ReadAllowance;
-    }
-    if is(name, b"output_closed") {
-        return Verb1::OutputClosed;
-    }
-    if is(name, b"output_failed") {
-        return Verb1::OutputFailed;
-    }
-    if is(name, b"output_hung_up") {
-        return Verb1::OutputHungUp;
-    }
-    if is(name, b"input_written") {
-        return Verb1::InputWritten;
-    }
-    if is(name, b"settled") {
-        return Verb1::Settled;
-    }
-    if is(name, b"dropped") {
-        return Verb1::Dropped;
-    }
-    if is(name, b"reset") {
-        return Verb1::Reset;
-    }
-    if is(name, b"disconnect") {
-        return Verb1::Disconnect;
-    }
-    if is(name, b"tick") {
-        return Verb1::Tick;
-    }
-    if is(name, b"message") {
-        return Verb1::Message;
-    }
-    Verb1::None
-}
 
 fn read_allowance(a: &[u8]) -> Line
     ensures { λ r. ⌜ LineIs r (readAllowanceOf (now (a .entry))) ⌝ }
@@ -291,61 +244,63 @@ fn message(a: &[u8]) -> Line
 fn call1(name: &[u8], a: &[u8]) -> Line
     ensures { λ r. ⌜ LineIs r (callOf (now (name .entry) ∷ now (a .entry) ∷ [])) ⌝ }
 {
-    let verb = verb_of_1(name);
-    match verb {
-        Verb1::None => Line::None,
-        Verb1::ReadAllowance => read_allowance(a),
-        Verb1::OutputClosed => output_closed(a),
-        Verb1::OutputFailed => output_failed(a),
-        Verb1::OutputHungUp => output_hung_up(a),
-        Verb1::InputWritten => input_written(a),
-        Verb1::Settled => settled(a),
-        Verb1::Dropped => dropped(a),
-        Verb1::Reset => reset(a),
-        Verb1::Disconnect => disconnect(a),
-        Verb1::Tick => tick(a),
-        Verb1::Message => message(a),
+    let n = place4(
+        name,
+        b"read_allowance",
+        b"output_closed",
+        b"output_failed",
+        b"output_hung_up",
+    );
+    match n {
+        0 => read_allowance(a),
+        1 => output_closed(a),
+        2 => output_failed(a),
+        3 => output_hung_up(a),
+        _ => call1_from_4(name, a),
+    }
+}
+
+fn call1_from_4(name: &[u8], a: &[u8]) -> Line
+    ensures { λ r. ⌜ LineIs r (call1From 4 (now (name .entry)) (now (a .entry))) ⌝ }
+{
+    let n = place5(
+        name,
+        b"input_written",
+        b"settled",
+        b"dropped",
+        b"reset",
+        b"disconnect",
+    );
+    match n {
+        0 => input_written(a),
+        1 => settled(a),
+        2 => dropped(a),
+        3 => reset(a),
+        4 => disconnect(a),
+        _ => call1_from_9(name, a),
+    }
+}
+
+fn call1_from_9(name: &[u8], a: &[u8]) -> Line
+    ensures { λ r. ⌜ LineIs r (call1From 9 (now (name .entry)) (now (a .entry))) ⌝ }
+{
+    let n = place2(name, b"tick", b"message");
+    match n {
+        0 => tick(a),
+        1 => message(a),
+        _ => Line::None,
     }
 }
 
 // ---- with two
 
-pub(crate) enum Verb2 {
-    None,
-    EndInput,
-    Output,
-    Discarded,
-    Exited,
-}
-
-fn verb_of_2(name: &[u8]) -> Verb2
-    ensures { λ r. ⌜ verb2Is r ≡ find (now (name .entry)) calls2 ⌝ }
-{
-    if is(name, b"end_input") {
-        return Verb2::EndInput;
-    }
-    if is(name, b"output") {
-        return Verb2::Output;
-    }
-    if is(name, b"discarded") {
-        return Verb2::Discarded;
-    }
-    if is(name, b"exited") {
-        return Verb2::Exited;
-    }
-    Verb2::None
-}
-
 fn end_input(a: &[u8], b: &[u8]) -> Line
     ensures { λ r. ⌜ LineIs r (endInputOf (now (a .entry)) (now (b .entry))) ⌝ }
 {
-    let MaybeNumber::Some(id) = fields::wide(a) else {
+    let MaybeKey::Some(key) = fields::key(a, b) else {
         return Line::None;
     };
-    let MaybeNumber::Some(generation) = fields::wide(b) else {
-        return Line::None;
-    };
-    Line::Call(Call::EndInput(Key::new(id, generation)))
+    Line::Call(Call::EndInput(key))
 }
 
 fn output(a: &[u8], b: &[u8], work: &mut [u8]) -> Line
@@ -389,35 +344,17 @@ fn call2(name: &[u8], a: &[u8], b: &[u8], work: &mut [u8]) -> Line
     requires { ⌜ length (now b) / 2 ≤ length (now work) ⌝ }
     ensures { λ r. ⌜ lineIs r (now (work .exit)) ≡ callOf (now (name .entry) ∷ now (a .entry) ∷ now (b .entry) ∷ []) ⌝ }
 {
-    let verb = verb_of_2(name);
-    match verb {
-        Verb2::None => Line::None,
-        Verb2::EndInput => end_input(a, b),
-        Verb2::Output => output(a, b, work),
-        Verb2::Discarded => discarded(a, b),
-        Verb2::Exited => exited(a, b),
+    let n = place4(name, b"end_input", b"output", b"discarded", b"exited");
+    match n {
+        0 => end_input(a, b),
+        1 => output(a, b, work),
+        2 => discarded(a, b),
+        3 => exited(a, b),
+        _ => Line::None,
     }
 }
 
 // ---- with three
-
-pub(crate) enum Verb3 {
-    None,
-    Launched,
-    Input,
-}
-
-fn verb_of_3(name: &[u8]) -> Verb3
-    ensures { λ r. ⌜ verb3Is r ≡ find (now (name .entry)) calls3 ⌝ }
-{
-    if is(name, b"launched") {
-        return Verb3::Launched;
-    }
-    if is(name, b"input") {
-        return Verb3::Input;
-    }
-    Verb3::None
-}
 
 fn launched(a: &[u8], b: &[u8], c: &[u8]) -> Line
     ensures { λ r. ⌜ LineIs r (launchedOf (now (a .entry)) (now (b .entry)) (now (c .entry))) ⌝ }
@@ -432,57 +369,33 @@ fn input(a: &[u8], b: &[u8], c: &[u8], work: &mut [u8]) -> Line
     requires { ⌜ length (now c) / 2 ≤ length (now work) ⌝ }
     ensures { λ r. ⌜ lineIs r (now (work .exit)) ≡ inputOf (now (a .entry)) (now (b .entry)) (now (c .entry)) ⌝ }
 {
-    let MaybeNumber::Some(id) = fields::wide(a) else {
-        return Line::None;
-    };
-    let MaybeNumber::Some(generation) = fields::wide(b) else {
+    let MaybeKey::Some(key) = fields::key(a, b) else {
         return Line::None;
     };
     let MaybeLength::Some(n) = fields::bytes(c, work) else {
         return Line::None;
     };
-    Line::Call(Call::Input(Key::new(id, generation), n))
+    Line::Call(Call::Input(key, n))
 }
 
 fn call3(name: &[u8], a: &[u8], b: &[u8], c: &[u8], work: &mut [u8]) -> Line
     requires { ⌜ length (now c) / 2 ≤ length (now work) ⌝ }
     ensures { λ r. ⌜ lineIs r (now (work .exit)) ≡ callOf (now (name .entry) ∷ now (a .entry) ∷ now (b .entry) ∷ now (c .entry) ∷ []) ⌝ }
 {
-    let verb = verb_of_3(name);
-    match verb {
-        Verb3::None => Line::None,
-        Verb3::Launched => launched(a, b, c),
-        Verb3::Input => input(a, b, c, work),
+    let n = place2(name, b"launched", b"input");
+    match n {
+        0 => launched(a, b, c),
+        1 => input(a, b, c, work),
+        _ => Line::None,
     }
 }
 
 // ---- with four
 
-pub(crate) enum Verb4 {
-    None,
-    Credit,
-    Cancel,
-}
-
-fn verb_of_4(name: &[u8]) -> Verb4
-    ensures { λ r. ⌜ verb4Is r ≡ find (now (name .entry)) calls4 ⌝ }
-{
-    if is(name, b"credit") {
-        return Verb4::Credit;
-    }
-    if is(name, b"cancel") {
-        return Verb4::Cancel;
-    }
-    Verb4::None
-}
-
 fn credit(a: &[u8], b: &[u8], c: &[u8], d: &[u8]) -> Line
     ensures { λ r. ⌜ LineIs r (creditOf (now (a .entry)) (now (b .entry)) (now (c .entry)) (now (d .entry))) ⌝ }
 {
-    let MaybeNumber::Some(id) = fields::wide(a) else {
-        return Line::None;
-    };
-    let MaybeNumber::Some(generation) = fields::wide(b) else {
+    let MaybeKey::Some(key) = fields::key(a, b) else {
         return Line::None;
     };
     let MaybePool::Some(p) = words::pool(c) else {
@@ -491,7 +404,7 @@ fn credit(a: &[u8], b: &[u8], c: &[u8], d: &[u8]) -> Line
     let MaybeU32::Some(n) = fields::narrow(d) else {
         return Line::None;
     };
-    Line::Call(Call::Credit(Key::new(id, generation), p, n))
+    Line::Call(Call::Credit(key, p, n))
 }
 
 fn cancel(a: &[u8], b: &[u8], c: &[u8], d: &[u8]) -> Line
@@ -500,26 +413,23 @@ fn cancel(a: &[u8], b: &[u8], c: &[u8], d: &[u8]) -> Line
     let MaybeNumber::Some(now) = fields::wide(a) else {
         return Line::None;
     };
-    let MaybeNumber::Some(id) = fields::wide(b) else {
-        return Line::None;
-    };
-    let MaybeNumber::Some(generation) = fields::wide(c) else {
+    let MaybeKey::Some(key) = fields::key(b, c) else {
         return Line::None;
     };
     let MaybeCause::Some(x) = words::cause(d) else {
         return Line::None;
     };
-    Line::Call(Call::Cancel(now, Key::new(id, generation), x))
+    Line::Call(Call::Cancel(now, key, x))
 }
 
 fn call4(name: &[u8], a: &[u8], b: &[u8], c: &[u8], d: &[u8]) -> Line
     ensures { λ r. ⌜ LineIs r (callOf (now (name .entry) ∷ now (a .entry) ∷ now (b .entry) ∷ now (c .entry) ∷ now (d .entry) ∷ [])) ⌝ }
 {
-    let verb = verb_of_4(name);
-    match verb {
-        Verb4::None => Line::None,
-        Verb4::Credit => credit(a, b, c, d),
-        Verb4::Cancel => cancel(a, b, c, d),
+    let n = place2(name, b"credit", b"cancel");
+    match n {
+        0 => credit(a, b, c, d),
+        1 => cancel(a, b, c, d),
+        _ => Line::None,
     }
 }
 

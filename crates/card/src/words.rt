@@ -1,8 +1,10 @@
 // The words of the card, read: a field is a word where it has the word's bytes and no others.
 ghost use mathlib.Core.Path.{_≡_};
+ghost use mathlib.Core.List.{[], _∷_};
 ghost use Rattle.grammar.specs.Words.{same, stream, pool, cause, settlement, unit};
 ghost use Rattle.grammar.specs.Lines.{missing, digit};
 ghost use Rattle.card.specs.Meaning.{streamIs, poolIs, causeIs, settlementIs, unitIs, flagIs};
+ghost use Rattle.card.specs.Naming.{placeAmong};
 use exec::Cause;
 use exec::MaybeCause;
 use exec::Pool;
@@ -53,79 +55,127 @@ pub(crate) fn is(field: &[u8], word: &[u8]) -> bool
     true
 }
 
+// ---- the place of a field among names: the first that it is; how many they are where it is none. (Each name is an argument of
+// its own: so the compiler knows its bytes, and a name of another length costs one comparison.)
+
+pub(crate) fn place2(field: &[u8], a: &[u8], b: &[u8]) -> usize
+    ensures { λ r. ⌜ r ≡ placeAmong (now (field .entry)) (now (a .entry) ∷ now (b .entry) ∷ []) ⌝ }
+{
+    if is(field, a) {
+        return 0;
+    }
+    if is(field, b) {
+        return 1;
+    }
+    2
+}
+
+pub(crate) fn place4(field: &[u8], a: &[u8], b: &[u8], c: &[u8], d: &[u8]) -> usize
+    ensures { λ r. ⌜ r ≡ placeAmong (now (field .entry)) (now (a .entry) ∷ now (b .entry) ∷ now (c .entry) ∷ now (d .entry) ∷ []) ⌝ }
+{
+    if is(field, a) {
+        return 0;
+    }
+    if is(field, b) {
+        return 1;
+    }
+    if is(field, c) {
+        return 2;
+    }
+    if is(field, d) {
+        return 3;
+    }
+    4
+}
+
+pub(crate) fn place5(field: &[u8], a: &[u8], b: &[u8], c: &[u8], d: &[u8], e: &[u8]) -> usize
+    ensures { λ r. ⌜ r ≡ placeAmong (now (field .entry)) (now (a .entry) ∷ now (b .entry) ∷ now (c .entry) ∷ now (d .entry) ∷ now (e .entry) ∷ []) ⌝ }
+{
+    if is(field, a) {
+        return 0;
+    }
+    if is(field, b) {
+        return 1;
+    }
+    if is(field, c) {
+        return 2;
+    }
+    if is(field, d) {
+        return 3;
+    }
+    if is(field, e) {
+        return 4;
+    }
+    5
+}
+
+// ---- words
+
 pub(crate) fn stream(field: &[u8]) -> MaybeStream
     ensures { λ r. ⌜ streamIs r ≡ stream (now (field .entry)) ⌝ }
 {
-    if is(field, b"Stdout") {
-        return MaybeStream::Some(Stream::Stdout);
+    let n = place2(field, b"Stdout", b"Stderr");
+    match n {
+        0 => MaybeStream::Some(Stream::Stdout),
+        1 => MaybeStream::Some(Stream::Stderr),
+        _ => MaybeStream::None,
     }
-    if is(field, b"Stderr") {
-        return MaybeStream::Some(Stream::Stderr);
-    }
-    MaybeStream::None
 }
 
 pub(crate) fn pool(field: &[u8]) -> MaybePool
     ensures { λ r. ⌜ poolIs r ≡ pool (now (field .entry)) ⌝ }
 {
-    if is(field, b"Input") {
-        return MaybePool::Some(Pool::Input);
+    let n = place4(field, b"Input", b"Stdout", b"Stderr", b"Output");
+    match n {
+        0 => MaybePool::Some(Pool::Input),
+        1 => MaybePool::Some(Pool::Stdout),
+        2 => MaybePool::Some(Pool::Stderr),
+        3 => MaybePool::Some(Pool::Output),
+        _ => MaybePool::None,
     }
-    if is(field, b"Stdout") {
-        return MaybePool::Some(Pool::Stdout);
-    }
-    if is(field, b"Stderr") {
-        return MaybePool::Some(Pool::Stderr);
-    }
-    if is(field, b"Output") {
-        return MaybePool::Some(Pool::Output);
-    }
-    MaybePool::None
 }
 
 pub(crate) fn cause(field: &[u8]) -> MaybeCause
     ensures { λ r. ⌜ causeIs r ≡ cause (now (field .entry)) ⌝ }
 {
-    if is(field, b"Cancelled") {
-        return MaybeCause::Some(Cause::Cancelled);
+    let n = place5(
+        field,
+        b"Cancelled",
+        b"Dropped",
+        b"TimedOut",
+        b"Reset",
+        b"Disconnected",
+    );
+    match n {
+        0 => MaybeCause::Some(Cause::Cancelled),
+        1 => MaybeCause::Some(Cause::Dropped),
+        2 => MaybeCause::Some(Cause::TimedOut),
+        3 => MaybeCause::Some(Cause::Reset),
+        4 => MaybeCause::Some(Cause::Disconnected),
+        _ => MaybeCause::None,
     }
-    if is(field, b"Dropped") {
-        return MaybeCause::Some(Cause::Dropped);
-    }
-    if is(field, b"TimedOut") {
-        return MaybeCause::Some(Cause::TimedOut);
-    }
-    if is(field, b"Reset") {
-        return MaybeCause::Some(Cause::Reset);
-    }
-    if is(field, b"Disconnected") {
-        return MaybeCause::Some(Cause::Disconnected);
-    }
-    MaybeCause::None
 }
 
 pub(crate) fn settlement(field: &[u8]) -> MaybeSettlement
     ensures { λ r. ⌜ settlementIs r ≡ settlement (now (field .entry)) ⌝ }
 {
-    if is(field, b"Settled") {
-        return MaybeSettlement::Some(Settlement::Settled);
+    let n = place2(field, b"Settled", b"Failed");
+    match n {
+        0 => MaybeSettlement::Some(Settlement::Settled),
+        1 => MaybeSettlement::Some(Settlement::Failed),
+        _ => MaybeSettlement::None,
     }
-    if is(field, b"Failed") {
-        return MaybeSettlement::Some(Settlement::Failed);
-    }
-    MaybeSettlement::None
 }
 
 pub(crate) fn unit(field: &[u8]) -> MaybeUnit
     ensures { λ r. ⌜ unitIs r ≡ unit (now (field .entry)) ⌝ }
 {
-    if is(field, b"B") {
-        return MaybeUnit::Some(Unit::Bytes);
+    let n = place2(field, b"B", b"F");
+    match n {
+        0 => MaybeUnit::Some(Unit::Bytes),
+        1 => MaybeUnit::Some(Unit::Frames),
+        _ => MaybeUnit::None,
     }
-    if is(field, b"F") {
-        return MaybeUnit::Some(Unit::Frames);
-    }
-    MaybeUnit::None
 }
 
 pub(crate) fn missing(field: &[u8]) -> bool
@@ -138,11 +188,10 @@ pub(crate) fn missing(field: &[u8]) -> bool
 pub(crate) fn flag(field: &[u8]) -> MaybeFlag
     ensures { λ r. ⌜ flagIs r ≡ digit (now (field .entry)) ⌝ }
 {
-    if is(field, b"0") {
-        return MaybeFlag::Some(false);
+    let n = place2(field, b"0", b"1");
+    match n {
+        0 => MaybeFlag::Some(false),
+        1 => MaybeFlag::Some(true),
+        _ => MaybeFlag::None,
     }
-    if is(field, b"1") {
-        return MaybeFlag::Some(true);
-    }
-    MaybeFlag::None
 }

@@ -5,6 +5,7 @@ use mathlib.Core.Option.{Option, none, some, Option·map}
 use Prim.Native.Nat.{ℕ, zero, suc, _-_, _^_}
 use lib.Dec.{eqb}
 use lib.ListN.{length, getD}
+use Rattle.exec.specs.declared.Key.{Key}
 use Rattle.exec.specs.declared.LaunchResult.{LaunchResult}
 use Rattle.exec.specs.declared.LaunchResult.the-variants as LaunchResult
 use Rattle.exec.specs.declared.Limits.{Limits}
@@ -58,6 +59,10 @@ digit field = cond (same field (bytes "0")) (some false) (cond (same field (byte
 -- the length of a message's buffer
 abbrev pub messageLength : List ℕ → Option ℕ
 messageLength field = number 16384 field
+
+-- a key is two fields
+abbrev pub keyOf : (id generation : List ℕ) → Option Key
+keyOf id generation = on (u64 id) λ i. on (u64 generation) λ g. some (newKey i g)
 
 -- Status is E or S with a number, or missing
 unfoldable pub status : List ℕ → Option MaybeStatus
@@ -165,7 +170,7 @@ calls1 =
 
 -- with two
 abbrev pub endInputOf : List ℕ → List ℕ → Option Call
-endInputOf a b = on (u64 a) λ id. on (u64 b) λ generation. some (Call.endInput (newKey id generation))
+endInputOf a b = Option·map Call.endInput (keyOf a b)
 
 abbrev pub outputOf : List ℕ → List ℕ → Option Call
 outputOf a b = on (stream a) λ x. on (unhex b) λ bs. some (Call.output x bs)
@@ -189,7 +194,7 @@ abbrev pub launchedOf : List ℕ → List ℕ → List ℕ → Option Call
 launchedOf a b c = Option·map Call.launched (launchResult a b c)
 
 abbrev pub inputOf : List ℕ → List ℕ → List ℕ → Option Call
-inputOf a b c = on (u64 a) λ id. on (u64 b) λ generation. on (unhex c) λ bs. some (Call.input (newKey id generation) bs)
+inputOf a b c = on (keyOf a b) λ key. on (unhex c) λ bs. some (Call.input key bs)
 
 abbrev pub calls3 : List (Entry (List ℕ → List ℕ → List ℕ → Option Call))
 calls3 =
@@ -199,10 +204,10 @@ calls3 =
 
 -- with four
 abbrev pub creditOf : List ℕ → List ℕ → List ℕ → List ℕ → Option Call
-creditOf a b c d = on (u64 a) λ id. on (u64 b) λ generation. on (pool c) λ p. on (u32 d) λ n. some (Call.credit (newKey id generation) p n)
+creditOf a b c d = on (keyOf a b) λ key. on (pool c) λ p. on (u32 d) λ n. some (Call.credit key p n)
 
 abbrev pub cancelOf : List ℕ → List ℕ → List ℕ → List ℕ → Option Call
-cancelOf a b c d = on (u64 a) λ now. on (u64 b) λ id. on (u64 c) λ generation. on (cause d) λ x. some (Call.cancel now (newKey id generation) x)
+cancelOf a b c d = on (u64 a) λ now. on (keyOf b c) λ key. on (cause d) λ x. some (Call.cancel now key x)
 
 abbrev pub calls4 : List (Entry (List ℕ → List ℕ → List ℕ → List ℕ → Option Call))
 calls4 =

@@ -3,8 +3,10 @@ use borrow.Author.Needs.{needs}
 use Rattle.card.proofs.fields.bytes.Statement.{statement}
 use Rattle.card.proofs.fields.bytes.Tie as tie
 
-returns : tie.Need-returns
-returns c = rw (c .before .before .read .ensures .0, c .before .before .read .ensures .1) (bytes-is _ _)
-
 pub bytes-spec : {M : Type 1} → statement M
-bytes-spec = tie.close (tie.spec (search needs) (search needs) returns)
+bytes-spec =
+    tie.close
+    (tie.spec
+    (search needs)
+    (search needs)
+    (λ c. rw (c .before .before .read .ensures .0, c .before .before .read .ensures .1) (bytes-is _ _)))

@@ -7,18 +7,6 @@ use borrow.Author.Needs.{needs}
 use Rattle.card.proofs.fields.failure.Statement.{statement}
 use Rattle.card.proofs.fields.failure.Tie as tie
 
-returns : tie.Need-returns
-returns c =
-    simp
-    (sym (c .before .before .narrow .ensures) ∙ ap narrowIs (c .enum-told .given .1))
-
-returns-2 : tie.Need-returns-2
-returns-2 c =
-    simp (
-      sym (c .before .before .integer .ensures) ∙ ap signedIs (c .enum-told2 .given .1),
-      sym (c .before .before .before .before .before .before .narrow .ensures) ∙ ap narrowIs (c .before .before .before .before .n .given .1),
-    )
-
 returns-3 : tie.Need-returns-3
 returns-3 c =
     let fit : SFits w32 (c .before .e .given .0 .0) = search needs in
@@ -35,9 +23,12 @@ failure-spec =
     (search needs)
     (search needs)
     (search needs)
-    returns
+    (λ c. simp (sym (c .before .before .narrow .ensures) ∙ ap narrowIs (c .enum-told .given .1)))
     (search needs)
     (search needs)
     (search needs)
-    returns-2
+    (λ c. simp (
+      sym (c .before .before .integer .ensures) ∙ ap signedIs (c .enum-told2 .given .1),
+      sym (c .before .before .before .before .before .before .narrow .ensures) ∙ ap narrowIs (c .before .before .before .before .n .given .1),
+    ))
     returns-3)

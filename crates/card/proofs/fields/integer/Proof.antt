@@ -5,8 +5,6 @@ use borrow.Author.Needs.{needs}
 use Rattle.card.proofs.fields.integer.Statement.{statement}
 use Rattle.card.proofs.fields.integer.Tie as tie
 
-returns : tie.Need-returns
-returns c = ap signedIs (c .read-signed .ensures) ∙ signed-is _
-
 pub integer-spec : {M : Type 1} → statement M
-integer-spec = tie.close (tie.spec (search needs) returns)
+integer-spec =
+    tie.close (tie.spec (search needs) (λ c. ap signedIs (c .read-signed .ensures) ∙ signed-is _))

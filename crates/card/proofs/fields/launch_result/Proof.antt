@@ -5,39 +5,24 @@ use borrow.Author.Needs.{needs}
 use Rattle.card.proofs.fields.launch_result.Statement.{statement}
 use Rattle.card.proofs.fields.launch_result.Tie as tie
 
-returns : tie.Need-returns
-unfolding launchResult
-returns c =
-    simp
-    (sym (c .before .before .flag .ensures) ∙ ap flagIs (c .enum-told .given .1))
-
-returns-2 : tie.Need-returns-2
-unfolding launchResult
-returns-2 c =
-    simp (
-      sym (c .before .before .before .before .before .flag .ensures) ∙ ap flagIs (c .before .before .before .failed .given .1),
-      c .before .if1 .taken,
-      c .failure .ensures,
-    )
-
-returns-3 : tie.Need-returns-3
-unfolding launchResult
-returns-3 c =
-    simp (
-      sym (c .before .before .before .before .before .flag .ensures) ∙ ap flagIs (c .before .before .before .failed .given .1),
-      c .before .if1 .left,
-      c .started .ensures,
-    )
-
 pub launch-result-spec : {M : Type 1} → statement M
+unfolding launchResult
 launch-result-spec =
     tie.close
     (tie.spec
     (search needs)
     (search needs)
     (search needs)
-    returns
+    (λ c. simp (sym (c .before .before .flag .ensures) ∙ ap flagIs (c .enum-told .given .1)))
     (search needs)
-    returns-2
+    (λ c. simp (
+      sym (c .before .before .before .before .before .flag .ensures) ∙ ap flagIs (c .before .before .before .failed .given .1),
+      c .before .if1 .taken,
+      c .failure .ensures,
+    ))
     (search needs)
-    returns-3)
+    (λ c. simp (
+      sym (c .before .before .before .before .before .flag .ensures) ∙ ap flagIs (c .before .before .before .failed .given .1),
+      c .before .if1 .left,
+      c .started .ensures,
+    )))

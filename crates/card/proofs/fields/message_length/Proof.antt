@@ -6,8 +6,9 @@ use borrow.Author.Needs.{needs}
 use Rattle.card.proofs.fields.message_length.Statement.{statement}
 use Rattle.card.proofs.fields.message_length.Tie as tie
 
-returns : tie.Need-returns
-returns c = (ap numberIs (c .read .ensures) ∙ number-is _, rw (c .read .ensures) (number-most 16384 _))
-
 pub message-length-spec : {M : Type 1} → statement M
-message-length-spec = tie.close (tie.spec (search needs) returns)
+message-length-spec =
+    tie.close
+    (tie.spec
+    (search needs)
+    (λ c. (ap numberIs (c .read .ensures) ∙ number-is _, rw (c .read .ensures) (number-most 16384 _))))

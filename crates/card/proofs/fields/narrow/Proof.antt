@@ -6,11 +6,10 @@ use borrow.Author.Needs.{needs}
 use Rattle.card.proofs.fields.narrow.Statement.{statement}
 use Rattle.card.proofs.fields.narrow.Tie as tie
 
-narrowed-requires : tie.Need-narrowed-requires
-narrowed-requires c κs = rw (c .read .ensures) (number-most 4294967295 _)
-
-returns : tie.Need-returns
-returns c = c .narrowed .ensures ∙ ap numberIs (c .before .read .ensures) ∙ number-is _
-
 pub narrow-spec : {M : Type 1} → statement M
-narrow-spec = tie.close (tie.spec (search needs) narrowed-requires returns)
+narrow-spec =
+    tie.close
+    (tie.spec
+    (search needs)
+    (λ c κs. rw (c .read .ensures) (number-most 4294967295 _))
+    (λ c. c .narrowed .ensures ∙ ap numberIs (c .before .read .ensures) ∙ number-is _))

@@ -7,11 +7,6 @@ use borrow.Author.Needs.{needs}
 use Rattle.card.proofs.fields.signaled_with.Statement.{statement}
 use Rattle.card.proofs.fields.signaled_with.Tie as tie
 
-returns : tie.Need-returns
-returns c =
-    simp
-    (sym (c .before .before .integer .ensures) ∙ ap signedIs (c .enum-told .given .1))
-
 returns-2 : tie.Need-returns-2
 returns-2 c =
     let fit : SFits w32 (c .before .n .given .0 .0) = search needs in
@@ -21,4 +16,11 @@ returns-2 c =
     )
 
 pub signaled-with-spec : {M : Type 1} → statement M
-signaled-with-spec = tie.close (tie.spec (search needs) (search needs) (search needs) returns returns-2)
+signaled-with-spec =
+    tie.close
+    (tie.spec
+    (search needs)
+    (search needs)
+    (search needs)
+    (λ c. simp (sym (c .before .before .integer .ensures) ∙ ap signedIs (c .enum-told .given .1)))
+    returns-2)

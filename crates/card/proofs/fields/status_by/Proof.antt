@@ -5,53 +5,41 @@ use borrow.Author.Needs.{needs}
 use Rattle.card.proofs.fields.status_by.Statement.{statement}
 use Rattle.card.proofs.fields.status_by.Tie as tie
 
-returns : tie.Need-returns
-returns c = simp (status-by (c .before .before .before .args .field .now) _ refl (c .before .before .before .pre), sym (c .before .missing .ensures) ∙ c .if1 .taken)
-
-returns-2 : tie.Need-returns-2
-returns-2 c =
-    simp (
-      status-by (c .before .before .before .before .before .before .before .args .field .now) _ refl (c .before .before .before .before .before .before .before .pre),
-      sym (c .before .before .before .before .before .missing .ensures) ∙ c .before .before .before .before .if1 .left,
-      eq-eqb _ _ (c .before .before .if2 .taken),
-      c .exited-with .ensures,
-    )
-
-returns-3 : tie.Need-returns-3
-returns-3 c =
-    simp (
-      status-by (c .before .before .before .before .before .before .before .before .before .args .field .now) _ refl (c .before .before .before .before .before .before .before .before .before .pre),
-      sym (c .before .before .before .before .before .before .before .missing .ensures) ∙ c .before .before .before .before .before .before .if1 .left,
-      ne-eqb _ _ (c .before .before .before .before .if2 .left),
-      eq-eqb _ _ (c .before .before .if3 .taken),
-      c .signaled-with .ensures,
-    )
-
-returns-4 : tie.Need-returns-4
-returns-4 c =
-    simp (
-      status-by (c .before .before .before .before .before .before .before .args .field .now) _ refl (c .before .before .before .before .before .before .before .pre),
-      sym (c .before .before .before .before .before .missing .ensures) ∙ c .before .before .before .before .if1 .left,
-      ne-eqb _ _ (c .before .before .if2 .left),
-      ne-eqb _ _ (c .if3 .left),
-    )
-
 pub status-by-spec : {M : Type 1} → statement M
 status-by-spec =
     tie.close
     (tie.spec
     (search needs)
-    returns
+    (λ c. simp (
+      status-by (c .before .before .before .args .field .now) _ refl (c .before .before .before .pre),
+      sym (c .before .missing .ensures) ∙ c .if1 .taken,
+    ))
     (search needs)
     (search needs)
     (search needs)
     (search needs)
     (search needs)
-    returns-2
+    (λ c. simp (
+      status-by (c .before .before .before .before .before .before .before .args .field .now) _ refl (c .before .before .before .before .before .before .before .pre),
+      sym (c .before .before .before .before .before .missing .ensures) ∙ c .before .before .before .before .if1 .left,
+      eq-eqb _ _ (c .before .before .if2 .taken),
+      c .exited-with .ensures,
+    ))
     (search needs)
     (search needs)
     (search needs)
     (search needs)
     (search needs)
-    returns-3
-    returns-4)
+    (λ c. simp (
+      status-by (c .before .before .before .before .before .before .before .before .before .args .field .now) _ refl (c .before .before .before .before .before .before .before .before .before .pre),
+      sym (c .before .before .before .before .before .before .before .missing .ensures) ∙ c .before .before .before .before .before .before .if1 .left,
+      ne-eqb _ _ (c .before .before .before .before .if2 .left),
+      eq-eqb _ _ (c .before .before .if3 .taken),
+      c .signaled-with .ensures,
+    ))
+    (λ c. simp (
+      status-by (c .before .before .before .before .before .before .before .args .field .now) _ refl (c .before .before .before .before .before .before .before .pre),
+      sym (c .before .before .before .before .before .missing .ensures) ∙ c .before .before .before .before .if1 .left,
+      ne-eqb _ _ (c .before .before .if2 .left),
+      ne-eqb _ _ (c .if3 .left),
+    )))

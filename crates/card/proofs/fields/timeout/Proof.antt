@@ -5,29 +5,21 @@ use borrow.Author.Needs.{needs}
 use Rattle.card.proofs.fields.timeout.Statement.{statement}
 use Rattle.card.proofs.fields.timeout.Tie as tie
 
-returns : tie.Need-returns
-unfolding timeout
-returns c =
-    simp
-    (sym (c .before .missing .ensures) ∙ c .if1 .taken)
-
-returns-2 : tie.Need-returns-2
-unfolding timeout
-returns-2 c =
-    simp (
-      sym (c .before .before .wide .ensures) ∙ ap numberIs (c .enum-told .given .1),
-      sym (c .before .before .before .before .missing .ensures) ∙ c .before .before .before .if1 .left,
-    )
-
-returns-3 : tie.Need-returns-3
-unfolding timeout
-returns-3 c =
-    simp (
-      sym (c .before .before .before .wide .ensures) ∙ ap numberIs (c .before .n .given .1),
-      sym (c .before .before .before .before .before .missing .ensures) ∙ c .before .before .before .before .if1 .left,
-    )
-
 pub timeout-spec : {M : Type 1} → statement M
+unfolding timeout
 timeout-spec =
     tie.close
-    (tie.spec (search needs) returns (search needs) (search needs) (search needs) returns-2 returns-3)
+    (tie.spec
+    (search needs)
+    (λ c. simp (sym (c .before .missing .ensures) ∙ c .if1 .taken))
+    (search needs)
+    (search needs)
+    (search needs)
+    (λ c. simp (
+      sym (c .before .before .wide .ensures) ∙ ap numberIs (c .enum-told .given .1),
+      sym (c .before .before .before .before .missing .ensures) ∙ c .before .before .before .if1 .left,
+    ))
+    (λ c. simp (
+      sym (c .before .before .before .wide .ensures) ∙ ap numberIs (c .before .n .given .1),
+      sym (c .before .before .before .before .before .missing .ensures) ∙ c .before .before .before .before .if1 .left,
+    )))

@@ -5,8 +5,6 @@ use borrow.Author.Needs.{needs}
 use Rattle.card.proofs.fields.wide.Statement.{statement}
 use Rattle.card.proofs.fields.wide.Tie as tie
 
-returns : tie.Need-returns
-returns c = ap numberIs (c .read .ensures) ∙ number-is _
-
 pub wide-spec : {M : Type 1} → statement M
-wide-spec = tie.close (tie.spec (search needs) returns)
+wide-spec =
+    tie.close (tie.spec (search needs) (λ c. ap numberIs (c .read .ensures) ∙ number-is _))

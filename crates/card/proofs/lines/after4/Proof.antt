@@ -19,4 +19,5 @@ returns-2 c w =
     sym (ap (λ (fs : List (List ℕ)). callOf (a .name .now ∷ a .a .now ∷ a .b .now ∷ a .c .now ∷ fs)) (fields-at (a .rest .now) _ _ (c .before .comma .ensures .0) (c .before .comma .ensures .1) refl (c .if1 .left)) ∙ five-none _ _ _ _ _ _)
 
 pub after4-spec : {M : Type 1} → statement M
-after4-spec = tie.close (tie.spec (search needs) (search needs) returns returns-2)
+after4-spec =
+    tie.close (tie.spec (search needs) (search needs) returns returns-2)

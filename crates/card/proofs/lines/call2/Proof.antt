@@ -1,49 +1,21 @@
-use mathlib.Core.Path.{_∙_, sym, ap}
-use Rattle.grammar.specs.Lines.{callOf}
-use Rattle.card.specs.Meaning.{verb2Is}
 use borrow.Author.Needs.{needs}
+use mathlib.Core.List.{List, [], _∷_}
+use mathlib.Core.Option.{Option}
+use mathlib.Core.Path.{_≡_, refl, ap, _∙_}
+use Prim.Native.Nat.{ℕ}
+use Rattle.account.specs.Call.{Call}
+use Rattle.grammar.specs.Words.{bytes}
+use Rattle.grammar.specs.Lines.{on, find, calls2, callOf}
+use Rattle.card.specs.Naming.{Beyond, placeOf, pick, find-at, find-none}
 use Rattle.card.proofs.lines.call2.Statement.{statement}
 use Rattle.card.proofs.lines.call2.Tie as tie
 
-returns : tie.Need-returns
+made : (name a b : List ℕ) (o : Option (List ℕ → List ℕ → Option Call)) → o ≡ find name calls2 → on o (λ f. f a b) ≡ callOf (name ∷ a ∷ b ∷ [])
 unfolding callOf
-returns c =
-    simp
-    (sym (c .before .before .verb-of-2 .ensures) ∙ ap verb2Is (c .enum-told .given .1))
-
-returns-2 : tie.Need-returns-2
-unfolding callOf
-returns-2 c =
-    simp (
-      sym (c .before .before .before .verb-of-2 .ensures) ∙ ap verb2Is (c .before .enum-told2 .given .1),
-      c .end-input .ensures (c .before .before .before .before .before .before .before .before .args .work .now),
-    )
-
-returns-3 : tie.Need-returns-3
-unfolding callOf
-returns-3 c =
-    simp (
-      sym (c .before .before .before .before .before .before .verb-of-2 .ensures) ∙ ap verb2Is (c .before .before .before .before .enum-told3 .given .1),
-      c .before .before .output .ensures,
-    )
-
-returns-4 : tie.Need-returns-4
-unfolding callOf
-returns-4 c =
-    simp (
-      sym (c .before .before .before .verb-of-2 .ensures) ∙ ap verb2Is (c .before .enum-told4 .given .1),
-      c .discarded .ensures (c .before .before .before .before .before .before .before .before .args .work .now),
-    )
-
-returns-5 : tie.Need-returns-5
-unfolding callOf
-returns-5 c =
-    simp (
-      sym (c .before .before .before .verb-of-2 .ensures) ∙ ap verb2Is (c .before .enum-told5 .given .1),
-      c .exited .ensures (c .before .before .before .before .before .before .before .before .args .work .now),
-    )
+made name a b o h = ap (λ (o : Option (List ℕ → List ℕ → Option Call)). on o λ f. f a b) h
 
 pub call2-spec : {M : Type 1} → statement M
+unfolding bytes Beyond placeOf pick
 call2-spec =
     tie.close
     (tie.spec
@@ -56,10 +28,9 @@ call2-spec =
     (search needs)
     (search needs)
     (search needs)
+    (λ c. c .end-input .ensures (c .before .before .before .before .before .before .before .before .before .before .before .args .work .now) ∙ made _ _ _ _ (find-at _ _ 4 0 (c .before .before .place4 .ensures) (c .before .match .keys1)))
     (search needs)
-    returns
-    returns-2
-    (search needs)
-    returns-3
-    returns-4
-    returns-5)
+    (λ c. c .before .before .output .ensures ∙ made _ _ _ _ (find-at _ _ 4 1 (c .before .before .before .before .before .place4 .ensures) (c .before .before .before .before .match .keys2)))
+    (λ c. c .discarded .ensures (c .before .before .before .before .before .before .before .before .before .before .before .args .work .now) ∙ made _ _ _ _ (find-at _ _ 4 2 (c .before .before .place4 .ensures) (c .before .match .keys3)))
+    (λ c. c .exited .ensures (c .before .before .before .before .before .before .before .before .before .before .before .args .work .now) ∙ made _ _ _ _ (find-at _ _ 4 3 (c .before .before .place4 .ensures) (c .before .match .keys4)))
+    (λ c. made _ _ _ _ (find-none _ _ 4 (c .before .place4 .ensures) (c .match .rest) refl)))

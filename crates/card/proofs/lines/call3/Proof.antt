@@ -1,33 +1,21 @@
-use mathlib.Core.Path.{_∙_, sym, ap}
-use Rattle.grammar.specs.Lines.{callOf}
-use Rattle.card.specs.Meaning.{verb3Is}
 use borrow.Author.Needs.{needs}
+use mathlib.Core.List.{List, [], _∷_}
+use mathlib.Core.Option.{Option}
+use mathlib.Core.Path.{_≡_, refl, ap, _∙_}
+use Prim.Native.Nat.{ℕ}
+use Rattle.account.specs.Call.{Call}
+use Rattle.grammar.specs.Words.{bytes}
+use Rattle.grammar.specs.Lines.{on, find, calls3, callOf}
+use Rattle.card.specs.Naming.{Beyond, placeOf, pick, find-at, find-none}
 use Rattle.card.proofs.lines.call3.Statement.{statement}
 use Rattle.card.proofs.lines.call3.Tie as tie
 
-returns : tie.Need-returns
+made : (name a b c : List ℕ) (o : Option (List ℕ → List ℕ → List ℕ → Option Call)) → o ≡ find name calls3 → on o (λ f. f a b c) ≡ callOf (name ∷ a ∷ b ∷ c ∷ [])
 unfolding callOf
-returns c =
-    simp
-    (sym (c .before .before .verb-of-3 .ensures) ∙ ap verb3Is (c .enum-told .given .1))
-
-returns-2 : tie.Need-returns-2
-unfolding callOf
-returns-2 c =
-    simp (
-      sym (c .before .before .before .verb-of-3 .ensures) ∙ ap verb3Is (c .before .enum-told2 .given .1),
-      c .launched .ensures (c .before .before .before .before .before .before .before .before .before .args .work .now),
-    )
-
-returns-3 : tie.Need-returns-3
-unfolding callOf
-returns-3 c =
-    simp (
-      sym (c .before .before .before .before .before .before .verb-of-3 .ensures) ∙ ap verb3Is (c .before .before .before .before .enum-told3 .given .1),
-      c .before .before .input .ensures,
-    )
+made name a b c o h = ap (λ (o : Option (List ℕ → List ℕ → List ℕ → Option Call)). on o λ f. f a b c) h
 
 pub call3-spec : {M : Type 1} → statement M
+unfolding bytes Beyond placeOf pick
 call3-spec =
     tie.close
     (tie.spec
@@ -36,8 +24,7 @@ call3-spec =
     (search needs)
     (search needs)
     (search needs)
+    (λ c. c .launched .ensures (c .before .before .before .before .before .before .before .before .before .before .args .work .now) ∙ made _ _ _ _ _ (find-at _ _ 2 0 (c .before .before .place2 .ensures) (c .before .match .keys1)))
     (search needs)
-    returns
-    returns-2
-    (search needs)
-    returns-3)
+    (λ c. c .before .before .input .ensures ∙ made _ _ _ _ _ (find-at _ _ 2 1 (c .before .before .before .before .before .place2 .ensures) (c .before .before .before .before .match .keys2)))
+    (λ c. made _ _ _ _ _ (find-none _ _ 2 (c .before .place2 .ensures) (c .match .rest) refl)))

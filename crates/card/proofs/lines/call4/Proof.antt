@@ -1,33 +1,21 @@
-use mathlib.Core.Path.{_∙_, sym, ap}
-use Rattle.grammar.specs.Lines.{callOf}
-use Rattle.card.specs.Meaning.{verb4Is}
 use borrow.Author.Needs.{needs}
+use mathlib.Core.List.{List, [], _∷_}
+use mathlib.Core.Option.{Option}
+use mathlib.Core.Path.{_≡_, refl, ap, _∙_}
+use Prim.Native.Nat.{ℕ}
+use Rattle.account.specs.Call.{Call}
+use Rattle.grammar.specs.Words.{bytes}
+use Rattle.grammar.specs.Lines.{on, find, calls4, callOf}
+use Rattle.card.specs.Naming.{Beyond, placeOf, pick, find-at, find-none}
 use Rattle.card.proofs.lines.call4.Statement.{statement}
 use Rattle.card.proofs.lines.call4.Tie as tie
 
-returns : tie.Need-returns
+made : (name a b c d : List ℕ) (o : Option (List ℕ → List ℕ → List ℕ → List ℕ → Option Call)) → o ≡ find name calls4 → on o (λ f. f a b c d) ≡ callOf (name ∷ a ∷ b ∷ c ∷ d ∷ [])
 unfolding callOf
-returns c w =
-    simp
-    (sym (c .before .before .verb-of-4 .ensures) ∙ ap verb4Is (c .enum-told .given .1))
-
-returns-2 : tie.Need-returns-2
-unfolding callOf
-returns-2 c w =
-    simp (
-      sym (c .before .before .before .verb-of-4 .ensures) ∙ ap verb4Is (c .before .enum-told2 .given .1),
-      c .credit .ensures w,
-    )
-
-returns-3 : tie.Need-returns-3
-unfolding callOf
-returns-3 c w =
-    simp (
-      sym (c .before .before .before .verb-of-4 .ensures) ∙ ap verb4Is (c .before .enum-told3 .given .1),
-      c .cancel .ensures w,
-    )
+made name a b c d o h = ap (λ (o : Option (List ℕ → List ℕ → List ℕ → List ℕ → Option Call)). on o λ f. f a b c d) h
 
 pub call4-spec : {M : Type 1} → statement M
+unfolding bytes Beyond placeOf pick
 call4-spec =
     tie.close
     (tie.spec
@@ -36,7 +24,6 @@ call4-spec =
     (search needs)
     (search needs)
     (search needs)
-    (search needs)
-    returns
-    returns-2
-    returns-3)
+    (λ c w. c .credit .ensures w ∙ made _ _ _ _ _ _ (find-at _ _ 2 0 (c .before .before .place2 .ensures) (c .before .match .keys1)))
+    (λ c w. c .cancel .ensures w ∙ made _ _ _ _ _ _ (find-at _ _ 2 1 (c .before .before .place2 .ensures) (c .before .match .keys2)))
+    (λ c w. made _ _ _ _ _ _ (find-none _ _ 2 (c .before .place2 .ensures) (c .match .rest) refl)))

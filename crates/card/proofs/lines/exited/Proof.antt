@@ -1,27 +1,8 @@
+use borrow.Author.Needs.{needs}
 use mathlib.Core.Path.{_∙_, sym, ap}
 use Rattle.card.specs.Meaning.{numberIs, statusIs}
-use borrow.Author.Needs.{needs}
 use Rattle.card.proofs.lines.exited.Statement.{statement}
 use Rattle.card.proofs.lines.exited.Tie as tie
-
-returns : tie.Need-returns
-returns c w =
-    simp
-    (sym (c .before .before .wide .ensures) ∙ ap numberIs (c .enum-told .given .1))
-
-returns-2 : tie.Need-returns-2
-returns-2 c w =
-    simp (
-      sym (c .before .before .status .ensures) ∙ ap statusIs (c .enum-told2 .given .1),
-      sym (c .before .before .before .before .before .before .wide .ensures) ∙ ap numberIs (c .before .before .before .before .now .given .1),
-    )
-
-returns-3 : tie.Need-returns-3
-returns-3 c w =
-    simp (
-      sym (c .before .before .before .status .ensures) ∙ ap statusIs (c .before .x .given .1),
-      sym (c .before .before .before .before .before .before .before .wide .ensures) ∙ ap numberIs (c .before .before .before .before .before .now .given .1),
-    )
 
 pub exited-spec : {M : Type 1} → statement M
 exited-spec =
@@ -30,9 +11,15 @@ exited-spec =
     (search needs)
     (search needs)
     (search needs)
-    returns
+    (λ c w. simp (sym (c .before .before .wide .ensures) ∙ ap numberIs (c .enum-told .given .1)))
     (search needs)
     (search needs)
     (search needs)
-    returns-2
-    returns-3)
+    (λ c w. simp (
+      sym (c .before .before .status .ensures) ∙ ap statusIs (c .enum-told2 .given .1),
+      sym (c .before .before .before .before .before .before .wide .ensures) ∙ ap numberIs (c .before .before .before .before .now .given .1),
+    ))
+    (λ c w. simp (
+      sym (c .before .before .before .status .ensures) ∙ ap statusIs (c .before .x .given .1),
+      sym (c .before .before .before .before .before .before .before .wide .ensures) ∙ ap numberIs (c .before .before .before .before .before .now .given .1),
+    )))

@@ -4,15 +4,12 @@ use borrow.Author.Needs.{needs}
 use Rattle.card.proofs.lines.input_written.Statement.{statement}
 use Rattle.card.proofs.lines.input_written.Tie as tie
 
-returns : tie.Need-returns
-returns c w =
-    simp
-    (sym (c .before .before .wide .ensures) ∙ ap numberIs (c .enum-told .given .1))
-
-returns-2 : tie.Need-returns-2
-returns-2 c w =
-    simp
-    (sym (c .before .before .before .wide .ensures) ∙ ap numberIs (c .before .n .given .1))
-
 pub input-written-spec : {M : Type 1} → statement M
-input-written-spec = tie.close (tie.spec (search needs) (search needs) (search needs) returns returns-2)
+input-written-spec =
+    tie.close
+    (tie.spec
+    (search needs)
+    (search needs)
+    (search needs)
+    (λ c w. simp (sym (c .before .before .wide .ensures) ∙ ap numberIs (c .enum-told .given .1)))
+    (λ c w. simp (sym (c .before .before .before .wide .ensures) ∙ ap numberIs (c .before .n .given .1))))

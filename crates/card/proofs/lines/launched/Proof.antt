@@ -4,16 +4,12 @@ use borrow.Author.Needs.{needs}
 use Rattle.card.proofs.lines.launched.Statement.{statement}
 use Rattle.card.proofs.lines.launched.Tie as tie
 
-returns : tie.Need-returns
-returns c w =
-    simp
-    (sym (c .before .before .launch-result .ensures) ∙ ap launchIs (c .enum-told .given .1))
-
-returns-2 : tie.Need-returns-2
-returns-2 c w =
-    simp
-    (sym (c .before .before .before .launch-result .ensures) ∙ ap launchIs (c .before .x .given .1))
-
 pub launched-spec : {M : Type 1} → statement M
 launched-spec =
-    tie.close (tie.spec (search needs) (search needs) (search needs) returns returns-2)
+    tie.close
+    (tie.spec
+    (search needs)
+    (search needs)
+    (search needs)
+    (λ c w. simp (sym (c .before .before .launch-result .ensures) ∙ ap launchIs (c .enum-told .given .1)))
+    (λ c w. simp (sym (c .before .before .before .launch-result .ensures) ∙ ap launchIs (c .before .x .given .1))))

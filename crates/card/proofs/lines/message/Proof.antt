@@ -8,18 +8,19 @@ use borrow.Author.Needs.{needs}
 use Rattle.card.proofs.lines.message.Statement.{statement}
 use Rattle.card.proofs.lines.message.Tie as tie
 
-returns : tie.Need-returns
-returns c w = simp (sym (c .before .before .message-length .ensures .0) ∙ ap numberIs (c .enum-told .given .1))
-
 cast-t4 : tie.Need-cast-t4
 cast-t4 c =
     let h = subst (AtMost 16384) (c .before .n .given .1) (c .before .before .before .message-length .ensures .1) in
     let l : c .before .n .given .0 .0 < 2 ^ 16 = omega arith in
     record { fits = l }
 
-returns-2 : tie.Need-returns-2
-returns-2 c w = simp (sym (c .before .before .before .message-length .ensures .0) ∙ ap numberIs (c .before .n .given .1))
-
 pub message-spec : {M : Type 1} → statement M
 message-spec =
-    tie.close (tie.spec (search needs) (search needs) (search needs) returns cast-t4 returns-2)
+    tie.close
+    (tie.spec
+    (search needs)
+    (search needs)
+    (search needs)
+    (λ c w. simp (sym (c .before .before .message-length .ensures .0) ∙ ap numberIs (c .enum-told .given .1)))
+    cast-t4
+    (λ c w. simp (sym (c .before .before .before .message-length .ensures .0) ∙ ap numberIs (c .before .n .given .1))))

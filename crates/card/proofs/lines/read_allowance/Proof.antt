@@ -4,15 +4,12 @@ use borrow.Author.Needs.{needs}
 use Rattle.card.proofs.lines.read_allowance.Statement.{statement}
 use Rattle.card.proofs.lines.read_allowance.Tie as tie
 
-returns : tie.Need-returns
-returns c w =
-    simp
-    (sym (c .before .before .stream .ensures) ∙ ap streamIs (c .enum-told .given .1))
-
-returns-2 : tie.Need-returns-2
-returns-2 c w =
-    simp
-    (sym (c .before .before .before .stream .ensures) ∙ ap streamIs (c .before .x .given .1))
-
 pub read-allowance-spec : {M : Type 1} → statement M
-read-allowance-spec = tie.close (tie.spec (search needs) (search needs) (search needs) returns returns-2)
+read-allowance-spec =
+    tie.close
+    (tie.spec
+    (search needs)
+    (search needs)
+    (search needs)
+    (λ c w. simp (sym (c .before .before .stream .ensures) ∙ ap streamIs (c .enum-told .given .1)))
+    (λ c w. simp (sym (c .before .before .before .stream .ensures) ∙ ap streamIs (c .before .x .given .1))))

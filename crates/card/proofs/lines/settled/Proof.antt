@@ -4,15 +4,12 @@ use borrow.Author.Needs.{needs}
 use Rattle.card.proofs.lines.settled.Statement.{statement}
 use Rattle.card.proofs.lines.settled.Tie as tie
 
-returns : tie.Need-returns
-returns c w =
-    simp
-    (sym (c .before .before .settlement .ensures) ∙ ap settlementIs (c .enum-told .given .1))
-
-returns-2 : tie.Need-returns-2
-returns-2 c w =
-    simp
-    (sym (c .before .before .before .settlement .ensures) ∙ ap settlementIs (c .before .x .given .1))
-
 pub settled-spec : {M : Type 1} → statement M
-settled-spec = tie.close (tie.spec (search needs) (search needs) (search needs) returns returns-2)
+settled-spec =
+    tie.close
+    (tie.spec
+    (search needs)
+    (search needs)
+    (search needs)
+    (λ c w. simp (sym (c .before .before .settlement .ensures) ∙ ap settlementIs (c .enum-told .given .1)))
+    (λ c w. simp (sym (c .before .before .before .settlement .ensures) ∙ ap settlementIs (c .before .x .given .1))))

@@ -4,15 +4,12 @@ use borrow.Author.Needs.{needs}
 use Rattle.card.proofs.lines.tick.Statement.{statement}
 use Rattle.card.proofs.lines.tick.Tie as tie
 
-returns : tie.Need-returns
-returns c w =
-    simp
-    (sym (c .before .before .wide .ensures) ∙ ap numberIs (c .enum-told .given .1))
-
-returns-2 : tie.Need-returns-2
-returns-2 c w =
-    simp
-    (sym (c .before .before .before .wide .ensures) ∙ ap numberIs (c .before .now .given .1))
-
 pub tick-spec : {M : Type 1} → statement M
-tick-spec = tie.close (tie.spec (search needs) (search needs) (search needs) returns returns-2)
+tick-spec =
+    tie.close
+    (tie.spec
+    (search needs)
+    (search needs)
+    (search needs)
+    (λ c w. simp (sym (c .before .before .wide .ensures) ∙ ap numberIs (c .enum-told .given .1)))
+    (λ c w. simp (sym (c .before .before .before .wide .ensures) ∙ ap numberIs (c .before .now .given .1))))

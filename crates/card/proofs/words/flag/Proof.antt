@@ -1,40 +1,26 @@
-use mathlib.Core.Path.{_∙_, sym}
-use Rattle.grammar.specs.Lines.{digit}
-use Rattle.grammar.specs.Words.{bytes}
 use borrow.Author.Needs.{needs}
+use mathlib.Core.Bool.{Bool, true, false}
+use mathlib.Core.List.{List, [], _∷_}
+use mathlib.Core.Path.{refl}
+use Prim.Native.Nat.{ℕ}
+use Rattle.grammar.specs.Lines.{digit}
+use Rattle.grammar.specs.Words.{bytes, named}
+use Rattle.card.specs.Naming.{Beyond, placeOf, pick, named-at, named-none}
 use Rattle.card.proofs.words.flag.Statement.{statement}
 use Rattle.card.proofs.words.flag.Tie as tie
 
-returns : tie.Need-returns
-unfolding bytes digit
-returns c =
-    simp
-    (sym (c .before .is .ensures) ∙ c .if1 .taken)
-
-returns-2 : tie.Need-returns-2
-unfolding bytes digit
-returns-2 c =
-    simp (
-      sym (c .before .is2 .ensures) ∙ c .if2 .taken,
-      sym (c .before .before .before .before .is .ensures) ∙ c .before .before .before .if1 .left,
-    )
-
-returns-3 : tie.Need-returns-3
-unfolding bytes digit
-returns-3 c =
-    simp (
-      sym (c .before .is2 .ensures) ∙ c .if2 .left,
-      sym (c .before .before .before .before .is .ensures) ∙ c .before .before .before .if1 .left,
-    )
+abbrev name : Bool → List ℕ
+name false = bytes "0"
+name true = bytes "1"
 
 pub flag-spec : {M : Type 1} → statement M
+unfolding bytes named digit Beyond placeOf pick
 flag-spec =
     tie.close
     (tie.spec
     (search needs)
     (search needs)
-    returns
     (search needs)
-    (search needs)
-    returns-2
-    returns-3)
+    (λ c. named-at name (false ∷ true ∷ []) _ 2 0 (c .before .place2 .ensures) (c .match .keys1))
+    (λ c. named-at name (false ∷ true ∷ []) _ 2 1 (c .before .place2 .ensures) (c .match .keys2))
+    (λ c. named-none name (false ∷ true ∷ []) _ 2 (c .before .place2 .ensures) (c .match .rest) refl))

@@ -3,11 +3,7 @@ use borrow.Author.Needs.{needs}
 use Rattle.card.proofs.words.missing.Statement.{statement}
 use Rattle.card.proofs.words.missing.Tie as tie
 
-returns : tie.Need-returns
-unfolding bytes
-returns c =
-    simp
-    (c .is .ensures)
-
 pub missing-spec : {M : Type 1} → statement M
-missing-spec = tie.close (tie.spec (search needs) (search needs) returns)
+unfolding bytes
+missing-spec =
+    tie.close (tie.spec (search needs) (search needs) (λ c. simp (c .is .ensures)))

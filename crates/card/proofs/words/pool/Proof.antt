@@ -1,66 +1,22 @@
-use mathlib.Core.Path.{_∙_, sym}
-use Rattle.grammar.specs.Words.{named, bytes}
 use borrow.Author.Needs.{needs}
+use mathlib.Core.Path.{refl}
+use Rattle.grammar.specs.Words.{bytes}
+use Rattle.card.specs.Naming.{Beyond, placeOf, pick, named-at, named-none}
 use Rattle.card.proofs.words.pool.Statement.{statement}
 use Rattle.card.proofs.words.pool.Tie as tie
 
-returns : tie.Need-returns
-unfolding named bytes
-returns c =
-    simp
-    (sym (c .before .is .ensures) ∙ c .if1 .taken)
-
-returns-2 : tie.Need-returns-2
-unfolding named bytes
-returns-2 c =
-    simp (
-      sym (c .before .is2 .ensures) ∙ c .if2 .taken,
-      sym (c .before .before .before .before .is .ensures) ∙ c .before .before .before .if1 .left,
-    )
-
-returns-3 : tie.Need-returns-3
-unfolding named bytes
-returns-3 c =
-    simp (
-      sym (c .before .is3 .ensures) ∙ c .if3 .taken,
-      sym (c .before .before .before .before .is2 .ensures) ∙ c .before .before .before .if2 .left,
-      sym (c .before .before .before .before .before .before .before .is .ensures) ∙ c .before .before .before .before .before .before .if1 .left,
-    )
-
-returns-4 : tie.Need-returns-4
-unfolding named bytes
-returns-4 c =
-    simp (
-      sym (c .before .is4 .ensures) ∙ c .if4 .taken,
-      sym (c .before .before .before .before .is3 .ensures) ∙ c .before .before .before .if3 .left,
-      sym (c .before .before .before .before .before .before .before .is2 .ensures) ∙ c .before .before .before .before .before .before .if2 .left,
-      sym (c .before .before .before .before .before .before .before .before .before .before .is .ensures) ∙ c .before .before .before .before .before .before .before .before .before .if1 .left,
-    )
-
-returns-5 : tie.Need-returns-5
-unfolding named bytes
-returns-5 c =
-    simp (
-      sym (c .before .is4 .ensures) ∙ c .if4 .left,
-      sym (c .before .before .before .before .is3 .ensures) ∙ c .before .before .before .if3 .left,
-      sym (c .before .before .before .before .before .before .before .is2 .ensures) ∙ c .before .before .before .before .before .before .if2 .left,
-      sym (c .before .before .before .before .before .before .before .before .before .before .is .ensures) ∙ c .before .before .before .before .before .before .before .before .before .if1 .left,
-    )
-
 pub pool-spec : {M : Type 1} → statement M
+unfolding bytes Beyond placeOf pick
 pool-spec =
     tie.close
     (tie.spec
     (search needs)
     (search needs)
-    returns
     (search needs)
     (search needs)
-    returns-2
     (search needs)
-    (search needs)
-    returns-3
-    (search needs)
-    (search needs)
-    returns-4
-    returns-5)
+    (λ c. named-at _ _ _ 4 0 (c .before .place4 .ensures) (c .match .keys1))
+    (λ c. named-at _ _ _ 4 1 (c .before .place4 .ensures) (c .match .keys2))
+    (λ c. named-at _ _ _ 4 2 (c .before .place4 .ensures) (c .match .keys3))
+    (λ c. named-at _ _ _ 4 3 (c .before .place4 .ensures) (c .match .keys4))
+    (λ c. named-none _ _ _ 4 (c .before .place4 .ensures) (c .match .rest) refl))

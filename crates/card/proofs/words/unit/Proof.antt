@@ -1,39 +1,18 @@
-use mathlib.Core.Path.{_∙_, sym}
-use Rattle.grammar.specs.Words.{named, bytes}
 use borrow.Author.Needs.{needs}
+use mathlib.Core.Path.{refl}
+use Rattle.grammar.specs.Words.{bytes}
+use Rattle.card.specs.Naming.{Beyond, placeOf, pick, named-at, named-none}
 use Rattle.card.proofs.words.unit.Statement.{statement}
 use Rattle.card.proofs.words.unit.Tie as tie
 
-returns : tie.Need-returns
-unfolding named bytes
-returns c =
-    simp
-    (sym (c .before .is .ensures) ∙ c .if1 .taken)
-
-returns-2 : tie.Need-returns-2
-unfolding named bytes
-returns-2 c =
-    simp (
-      sym (c .before .is2 .ensures) ∙ c .if2 .taken,
-      sym (c .before .before .before .before .is .ensures) ∙ c .before .before .before .if1 .left,
-    )
-
-returns-3 : tie.Need-returns-3
-unfolding named bytes
-returns-3 c =
-    simp (
-      sym (c .before .is2 .ensures) ∙ c .if2 .left,
-      sym (c .before .before .before .before .is .ensures) ∙ c .before .before .before .if1 .left,
-    )
-
 pub unit-spec : {M : Type 1} → statement M
+unfolding bytes Beyond placeOf pick
 unit-spec =
     tie.close
     (tie.spec
     (search needs)
     (search needs)
-    returns
     (search needs)
-    (search needs)
-    returns-2
-    returns-3)
+    (λ c. named-at _ _ _ 2 0 (c .before .place2 .ensures) (c .match .keys1))
+    (λ c. named-at _ _ _ 2 1 (c .before .place2 .ensures) (c .match .keys2))
+    (λ c. named-none _ _ _ 2 (c .before .place2 .ensures) (c .match .rest) refl))
