@@ -21,8 +21,8 @@ use Rattle.runner.specs.declared.runner.Runner.{Runner}
 use Rattle.runner.specs.Calls as Calls
 use Rattle.runner.specs.Range.{bytesDo, lengthsDo, stop, openStop, fresh}
 use Rattle.runner.specs.RangeLaws.{unstopped}
-use Rattle.account.specs.Call as Call
-use Rattle.account.specs.Call.{Conf, Call, Done}
+use Rattle.calls.specs.Call as Call
+use Rattle.calls.specs.Call.{Conf, Call, Done}
 use Rattle.account.specs.Step as Step
 use Rattle.account.specs.Step.{State}
 use Rattle.account.specs.Account.{Account, start, account, tallyOf, cut, tickA}

@@ -38,8 +38,8 @@ use Rattle.runner.specs.Message.{choose, outputPaid, outputSent, effect, payloa
 use Rattle.stdio.specs.Outputs.{putOutput}
 use Rattle.runner.specs.State.{outOf, withOutputs, at, base}
 use Rattle.runner.specs.Streams.{isShut, room, outputTaken, outputNext, outputStore, discardedNext, closedNext, failedNext, hungUpNext, creditNext, isTaken, inputNext, inputStore, endNext, writtenNext}
-use Rattle.account.specs.Call as Call
-use Rattle.account.specs.Call.{Conf, Call, isRefused}
+use Rattle.calls.specs.Call as Call
+use Rattle.calls.specs.Call.{Conf, Call, isRefused}
 use Rattle.account.specs.Step.{State, receivedAs}
 use Rattle.account.specs.Account
 use Rattle.account.specs.Account.{Tally, tallyOf, marked, sentBy, mk, adds, add, hear, heard, onTally, takenBy, launchR, closeR, hangR, settlingR}

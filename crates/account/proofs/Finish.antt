@@ -26,8 +26,8 @@ use Rattle.runner.specs.Calls.{askedFor}
 use Rattle.runner.specs.Life.{awaitsLaunch, closeRunnerInput, noteStarted, noteLaunch, launchedNext, settledNext, isReady, cancelAnswer, outcomeOf}
 use Rattle.runner.specs.Streams.{outputNext, discardedNext, closedNext, failedNext, hungUpNext, creditAnswer, creditNext, inputAnswer, inputNext, endAnswer, endNext, writtenNext}
 use Rattle.runner.specs.Message.{order, choose, outputPaid, outputSent, effect, wish, handed, wishEffect}
-use Rattle.account.specs.Call as Call
-use Rattle.account.specs.Call.{Call, Answer}
+use Rattle.calls.specs.Call as Call
+use Rattle.calls.specs.Call.{Call, Answer}
 use Rattle.account.specs.Step.{State, receivedAs, asks}
 use Rattle.account.proofs.Plain.{said, next, answer, run, afterAll}
 use Rattle.account.proofs.Stages.{launchedIf}

@@ -38,8 +38,8 @@ use Rattle.runner.specs.State.{outOf, creditAt}
 use Rattle.runner.specs.Life as Life
 use Rattle.runner.specs.Life.{isCleanedUp, endGrace, giveUp, beginTermination, passGrace, terminate, ticked, isReady, cancelAnswer}
 use Rattle.runner.specs.Message.{sendableOf, order, choose, effect}
-use Rattle.account.specs.Call as Call
-use Rattle.account.specs.Call.{Call}
+use Rattle.calls.specs.Call as Call
+use Rattle.calls.specs.Call.{Call}
 use Rattle.account.specs.Step.{State, receivedAs}
 use Rattle.account.proofs.Plain.{said, next, answer, afterAll, run}
 use Rattle.account.proofs.Stages.{graceIf, terminateIf, giveUpIf, stage1, stage2, stage3, stage4, tickIf, tick-is, cancelIf, late, cancelNext}

@@ -40,8 +40,8 @@ use Rattle.runner.specs.Range.{stop, bytesDo}
 use Rattle.runner.specs.RangeLaws.{Good, is-good}
 use Rattle.runner.specs.State.{creditAt, outOf, base}
 use Rattle.runner.specs.Streams as Streams
-use Rattle.account.specs.Call as Call
-use Rattle.account.specs.Call.{Call}
+use Rattle.calls.specs.Call as Call
+use Rattle.calls.specs.Call.{Call}
 use Rattle.account.specs.Claim.{isStop}
 use Rattle.account.specs.Step as Step
 use Rattle.account.specs.Step.{State, receivedAs, asks, says}

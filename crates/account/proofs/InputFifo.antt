@@ -41,8 +41,8 @@ use Rattle.runner.specs.Message.{choose, effect, outputSent, outputPaid, wish, 
 use Rattle.runner.specs.Range.{inRange, fresh}
 use Rattle.runner.specs.State.{outOf, base, creditsFit}
 use Rattle.runner.specs.Streams.{pendingOf, isShut, room, outputNext, outputStore, discardedNext, closedNext, failedNext, hungUpNext, creditNext, inputAnswer, inputNext, inputStore, endNext, writtenNext}
-use Rattle.account.specs.Call as Call
-use Rattle.account.specs.Call.{Conf, Call, Answer}
+use Rattle.calls.specs.Call as Call
+use Rattle.calls.specs.Call.{Conf, Call, Answer}
 use Rattle.account.specs.Claim.{Opens, IsPrefix}
 use Rattle.account.specs.Step as Step
 use Rattle.account.specs.Step.{State, receivedAs}

@@ -12,8 +12,8 @@ use Rattle.exec.specs.declared.Stream.{Stream}
 use Rattle.exec.specs.Each.{Each, one, both}
 use Rattle.exec.specs.Key.{admits}
 use Rattle.exec.specs.Time.{due}
-use Rattle.account.specs.Call as Call
-use Rattle.account.specs.Call.{Call, Answer, Message, isRefused}
+use Rattle.calls.specs.Call as Call
+use Rattle.calls.specs.Call.{Call, Answer, Message, isRefused}
 use Rattle.account.specs.Account
 use Rattle.account.specs.Account.{Account, Replay, Tally, mk, marked, markedUnless, takenBy, sentBy, tallyOf, count, heard, hear, adds, add}
 use Rattle.account.proofs.Sides.{one-both, one-per, on-each, on-two}

@@ -20,8 +20,8 @@ use Rattle.runner.specs.Life as Life
 use Rattle.runner.specs.Life.{ticked, exitedNext, noteExitOnce, detachNext, cutOffOnce, cutOff}
 use Rattle.runner.specs.Range.{fresh}
 use Rattle.runner.specs.State.{withClocks}
-use Rattle.account.specs.Call as Call
-use Rattle.account.specs.Call.{Conf, Call}
+use Rattle.calls.specs.Call as Call
+use Rattle.calls.specs.Call.{Conf, Call}
 use Rattle.account.specs.Step.{State}
 use Rattle.account.specs.Claim.{isTerminal, anyTerminal, messages}
 use Rattle.account.specs.LateClaim.{ownTick, tickOf}

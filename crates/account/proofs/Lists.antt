@@ -20,8 +20,8 @@ use Rattle.runner.specs.Life.{awaitsLaunch, ticked, isReady, outcomeOf}
 use Rattle.runner.specs.Range as Range
 use Rattle.stdio.specs.Outputs.{allDelivered}
 use Rattle.runner.specs.State.{outOf, base}
-use Rattle.account.specs.Call as Call
-use Rattle.account.specs.Call.{Conf, Call, Answer}
+use Rattle.calls.specs.Call as Call
+use Rattle.calls.specs.Call.{Conf, Call, Answer}
 use Rattle.account.specs.Step.{State}
 use Rattle.account.specs.Account
 use Rattle.account.specs.Account.{Replay, Tally, add, account, start, tallyOf, cut, count}

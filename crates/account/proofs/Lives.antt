@@ -25,7 +25,7 @@ use Rattle.stdio.specs.Output.{graceEnded, givenUp, abandoned}
 use Rattle.runner.specs.Life as Life
 use Rattle.runner.specs.Life.{awaitsLaunch, isCleanedUp, closeRunnerInput, endGrace, giveUp, abandonLaunch, abandonOpenStreams, beginTermination, passGrace, terminate, dropLaunch, ticked, noteExit, noteExitOnce, exitedNext, silenced, giveUpSoon, cutOff, cutOffOnce, detachNext}
 use Rattle.runner.specs.State.{withClocks, outOf, base}
-use Rattle.account.specs.Call.{Conf}
+use Rattle.calls.specs.Call.{Conf}
 use Rattle.account.specs.Account
 use Rattle.account.specs.Account.{Account, Replay, Tally, tallyOf, markedUnless, mk, beginIf, begin, timeoutR, noTimeoutR, overdueR, settlingR, isSettledR, isFencedR, cleanedR, giveUpA, leaveR, abandonStreamsA, abandonA, tick1, tick3, tick4, tick5, tickA, cancelA, detachedR, detachR, detachA, exitR, exitA, reportedR}
 use Rattle.account.proofs.Streams.{Good, end-grace, given-up, abandoned-by}

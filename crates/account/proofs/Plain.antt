@@ -17,8 +17,8 @@ use Rattle.runner.specs.Message.{choose, effect, payload, wish, wishEffect}
 use Rattle.runner.specs.Range.{bytesDo, lengthsDo, fresh}
 use Rattle.runner.specs.State.{buffered}
 use Rattle.runner.specs.Streams.{outputTaken, outputNext, outputStore, readAllowanceOf, discardedNext, closedNext, failedNext, hungUpNext, creditAnswer, creditNext, inputAnswer, inputNext, inputStore, inputLengths, endAnswer, endNext, pendingOf, writtenNext, writtenLengths}
-use Rattle.account.specs.Call as Call
-use Rattle.account.specs.Call.{Conf, Call, Answer, Done}
+use Rattle.calls.specs.Call as Call
+use Rattle.calls.specs.Call.{Conf, Call, Answer, Done}
 use Rattle.account.specs.Step.{State, receivedAs, asks, onRunner}
 
 unfoldable pub said : Choice → Runner → List ℕ → Answer

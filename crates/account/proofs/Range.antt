@@ -53,8 +53,8 @@ use Rattle.runner.specs.RangeLaws.{is-opened}
 use Rattle.runner.specs.State.{outOf, at, creditAt, putCredit}
 use Rattle.runner.specs.Streams as Streams
 use Rattle.runner.specs.Streams.{isShut, creditsIn, creditsAfter, creditNext, isTaken, inputNext, inputLengths, endNext, writtenNext, outputNext, discardedNext, closedNext, failedNext, hungUpNext}
-use Rattle.account.specs.Call as Call
-use Rattle.account.specs.Call.{Conf, Call}
+use Rattle.calls.specs.Call as Call
+use Rattle.calls.specs.Call.{Conf, Call}
 use Rattle.account.specs.Step.{State}
 use Rattle.account.proofs.Plain.{next, begun, afterAll}
 use Rattle.account.proofs.Streams.{Fits}

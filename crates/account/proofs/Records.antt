@@ -40,8 +40,8 @@ use Rattle.channel.specs.Calls.{ReadAfter, isChannel, admitted, heardAs, notedA
 use Rattle.channel.specs.Codec.{start, size, kinded, isTyped, fitting, checked, read}
 use Rattle.channel.specs.CallLaws.{laid-front}
 use Rattle.channel.specs.RoundTrip.{payload-back}
-use Rattle.account.specs.Call as Call
-use Rattle.account.specs.Call.{Conf, Call, Answer, Done}
+use Rattle.calls.specs.Call as Call
+use Rattle.calls.specs.Call.{Conf, Call, Answer, Done}
 use Rattle.account.specs.Step as Step
 use Rattle.account.specs.Step.{State, replied, receivedAs, says}
 use Rattle.account.specs.Account as Accounts

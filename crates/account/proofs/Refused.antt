@@ -46,8 +46,8 @@ use Rattle.runner.specs.State.{creditAt, putCredit, withFlow, withInput}
 use Rattle.runner.specs.Streams as Streams
 use Rattle.channel.specs.Calls as Channel
 use Rattle.channel.specs.Calls.{WriteAfter, isChannel, admitted, admittedRead, admittedWrite, roomyWrite, sent, told, wrote, hasEnded}
-use Rattle.account.specs.Call as Call
-use Rattle.account.specs.Call.{Call, Answer}
+use Rattle.calls.specs.Call as Call
+use Rattle.calls.specs.Call.{Call, Answer}
 use Rattle.account.specs.Step as Step
 use Rattle.account.specs.Step.{State, onRunner, receivedAs, asks, waits}
 use Rattle.account.specs.Records.{Entry, call, readRecord, writeRecord, nextEntry, wroteAs, answerEntry}

@@ -30,8 +30,8 @@ use Rattle.runner.specs.Life.{closeRunnerInput, endGrace, giveUp, abandonLaunch
 use Rattle.runner.specs.Message.{sendableOf, order, choose, outputPaid, outputSent, effect, payload}
 use Rattle.runner.specs.Range.{fresh}
 use Rattle.runner.specs.Streams.{outputTaken, outputNext, outputStore, outputTook, creditIn, creditAnswer, creditNext}
-use Rattle.account.specs.Call as Call
-use Rattle.account.specs.Call.{Conf, Call, Answer, Done}
+use Rattle.calls.specs.Call as Call
+use Rattle.calls.specs.Call.{Conf, Call, Answer, Done}
 use Rattle.account.specs.Claim.{Opens}
 use Rattle.account.specs.Step as Step
 use Rattle.account.proofs.Plain.{said, next, answer, begun, run}

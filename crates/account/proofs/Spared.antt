@@ -13,8 +13,8 @@ use Rattle.exec.specs.declared.Outcome.{Outcome}
 use Rattle.exec.specs.declared.Stream.{Stream}
 use Rattle.exec.specs.Outcome.{isTruncated}
 use Rattle.exec.specs.Stream.{sameStream}
-use Rattle.account.specs.Call as Call
-use Rattle.account.specs.Call.{Conf, Call, Answer, Done}
+use Rattle.calls.specs.Call as Call
+use Rattle.calls.specs.Call.{Conf, Call, Answer, Done}
 use Rattle.account.specs.Step as Step
 use Rattle.account.specs.Account.{Account, Tally, marked, adds, add, account, start, tallyOf, cut}
 use Rattle.account.specs.Claim.{Opens}

@@ -13,8 +13,8 @@ use Rattle.runner.specs.Life.{closeRunnerInput, endGrace, giveUp, abandonLaunch
 use Rattle.runner.specs.Message.{sendableOf, order, choose, outputPaid, outputSent, effect, payload}
 use Rattle.runner.specs.Range.{fresh}
 use Rattle.stdio.specs.Output.{sent}
-use Rattle.account.specs.Call as Call
-use Rattle.account.specs.Call.{Call, Answer}
+use Rattle.calls.specs.Call as Call
+use Rattle.calls.specs.Call.{Call, Answer}
 use Rattle.account.specs.Claim.{anyTerminal, messages}
 use Rattle.account.specs.Step as Step
 use Rattle.account.proofs.Plain.{said, next, answer, begun, run}

@@ -38,8 +38,8 @@ use Rattle.runner.specs.Life as Life
 use Rattle.runner.specs.Life.{awaitsLaunch, isCleanedUp, closeRunnerInput, endGrace, giveUp, abandonLaunch, abandonOpenStreams, terminate, dropLaunch, ticked, noteStarted, noteLaunch, launchedNext, settledNext, noteExit, noteExitOnce, exitedNext, silenced, giveUpSoon, cutOff, cutOffOnce, detachNext}
 use Rattle.runner.specs.Streams.{room, outputFilled, outputNext, discardedNext, closedNext, failedNext, hungUpNext, creditNext, isTaken, inputReceived, inputNext, endNext, writtenNext}
 use Rattle.runner.specs.Message.{choose, plain, outputPaid, outputSent, effect, wish, handed, wishEffect}
-use Rattle.account.specs.Call as Call
-use Rattle.account.specs.Call.{Call}
+use Rattle.calls.specs.Call as Call
+use Rattle.calls.specs.Call.{Call}
 use Rattle.account.specs.Step.{State}
 use Rattle.account.proofs.Plain.{next}
 use Rattle.account.proofs.Stages.{graceIf, terminateIf, timeoutIf, giveUpIf, dropLaunchIf, abandonStreamsIf, abandonIf, stage1, stage2, stage3, stage4, stage5, tickIf, tick-is, cancelIf, late, detachedNow, detachIf, exitedIf, launchedIf, cancelNext}

@@ -35,8 +35,8 @@ use Rattle.channel.specs.declared.codec.Parsed.the-variants as Parsed
 use Rattle.channel.specs.declared.codec.Record.the-variants as Record
 use Rattle.channel.specs.Calls.{isChannel}
 use Rattle.channel.specs.Codec.{read}
-use Rattle.account.specs.Call as Call
-use Rattle.account.specs.Call.{Conf, Call, Answer, Done}
+use Rattle.calls.specs.Call as Call
+use Rattle.calls.specs.Call.{Conf, Call, Answer, Done}
 use Rattle.account.specs.Step as Step
 use Rattle.account.specs.Step.{State}
 use Rattle.account.specs.Account.{Account, Replay, Tally, add, account, start, tallyOf, cut, count}

@@ -26,8 +26,8 @@ use Rattle.runner.specs.Message.{sendableOf, order, choose, outputPaid, outputS
 use Rattle.runner.specs.Range.{fresh}
 use Rattle.runner.specs.Streams.{outputTaken, outputNext, outputStore, creditIn, creditAnswer, creditNext, closedNext}
 use Rattle.account.specs.Account.{Tally, timeoutR, giveUpA, abandonA, tickA, exitR, exitA, adds, add, start, tallyOf}
-use Rattle.account.specs.Call as Call
-use Rattle.account.specs.Call.{Call}
+use Rattle.calls.specs.Call as Call
+use Rattle.calls.specs.Call.{Call}
 use Rattle.account.specs.Claim.{isTerminal}
 use Rattle.account.specs.Records.{Entry, call, nextEntry, answerEntry, runEntries, made}
 use Rattle.account.specs.Step as Step

@@ -32,8 +32,8 @@ use Rattle.runner.specs.Life.{closeRunnerInput, ticked, cancelNext, launchedNex
 use Rattle.runner.specs.Message.{choose, effect, outputSent, outputPaid, wish, wishEffect}
 use Rattle.runner.specs.Range.{fresh}
 use Rattle.runner.specs.Streams.{outputNext, discardedNext, closedNext, failedNext, hungUpNext, creditNext, inputAnswer, inputNext, endNext, writtenNext}
-use Rattle.account.specs.Call as Call
-use Rattle.account.specs.Call.{Conf, Call, Answer}
+use Rattle.calls.specs.Call as Call
+use Rattle.calls.specs.Call.{Conf, Call, Answer}
 use Rattle.account.specs.Claim.{Opens, isTerminal}
 use Rattle.account.specs.Step as Step
 use Rattle.account.specs.Step.{State, receivedAs}

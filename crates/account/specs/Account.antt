@@ -15,7 +15,7 @@ use Rattle.exec.specs.declared.Stream.{Stream}
 use Rattle.exec.specs.Each.{Each, one, onOne, alike, both, every}
 use Rattle.exec.specs.Key.{admits}
 use Rattle.exec.specs.Time.{after, then, earliest, due, timeoutAt}
-use Rattle.account.specs.Call.{Conf, Done, Call, key, limits, credit, input, endInput, cancel, launched, readAllowance, output, discarded, outputClosed, outputFailed, outputHungUp, pendingInput, inputWritten, inputClosed, exited, settled, dropped, reset, disconnect, tick, deadline, nextRequest, nextMessage, isFinished, isDetached, awaitsSettlement, memoryBound, buffered, highWater, Answer, Ok, Applied, Stale, Late, Refused, Taken, Pending, Value, Time, Truth, Asks, Says, IsKey, AreLimits, Nothing, isRefused, Message, Credit, Started, Output, End, InputClosed, Terminal}
+use Rattle.calls.specs.Call.{Conf, Done, Call, key, limits, credit, input, endInput, cancel, launched, readAllowance, output, discarded, outputClosed, outputFailed, outputHungUp, pendingInput, inputWritten, inputClosed, exited, settled, dropped, reset, disconnect, tick, deadline, nextRequest, nextMessage, isFinished, isDetached, awaitsSettlement, memoryBound, buffered, highWater, Answer, Ok, Applied, Stale, Late, Refused, Taken, Pending, Value, Time, Truth, Asks, Says, IsKey, AreLimits, Nothing, isRefused, Message, Credit, Started, Output, End, InputClosed, Terminal}
 
 -- Where the settlement stands, by what was reported and what time has passed.
 pub data Settling : Type 0 where

@@ -11,7 +11,7 @@ use Rattle.exec.specs.declared.Reply.the-variants as Reply
 use Rattle.exec.specs.declared.Stream.{Stream}
 use Rattle.exec.specs.Outcome.{isTruncated}
 use Rattle.runner.specs.Calls as Calls
-use Rattle.account.specs.Call.{Conf, Done, Call, key, limits, credit, input, endInput, cancel, launched, readAllowance, output, discarded, outputClosed, outputFailed, outputHungUp, pendingInput, inputWritten, inputClosed, exited, settled, dropped, reset, disconnect, tick, deadline, nextRequest, nextMessage, isFinished, isDetached, awaitsSettlement, memoryBound, buffered, highWater, Answer, Ok, Applied, Stale, Late, Refused, Taken, Pending, Value, Time, Truth, Asks, Says, IsKey, AreLimits, Nothing, Message, Credit, Started, Output, End, InputClosed, Terminal}
+use Rattle.calls.specs.Call.{Conf, Done, Call, key, limits, credit, input, endInput, cancel, launched, readAllowance, output, discarded, outputClosed, outputFailed, outputHungUp, pendingInput, inputWritten, inputClosed, exited, settled, dropped, reset, disconnect, tick, deadline, nextRequest, nextMessage, isFinished, isDetached, awaitsSettlement, memoryBound, buffered, highWater, Answer, Ok, Applied, Stale, Late, Refused, Taken, Pending, Value, Time, Truth, Asks, Says, IsKey, AreLimits, Nothing, Message, Credit, Started, Output, End, InputClosed, Terminal}
 use Rattle.account.specs.Step.{next, answer, opened, after, run}
 use Rattle.account.specs.Account.{Account, start, account, tallyOf, cut, tickA}
 

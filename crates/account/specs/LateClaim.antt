@@ -9,7 +9,7 @@ use Rattle.exec.specs.declared.Admission.the-variants as Admission
 use Rattle.exec.specs.declared.Cause.{Cause}
 use Rattle.exec.specs.declared.Key.{Key}
 use Rattle.exec.specs.Key.{admits}
-use Rattle.account.specs.Call.{Conf, Call, key, limits, credit, input, endInput, cancel, launched, readAllowance, output, discarded, outputClosed, outputFailed, outputHungUp, pendingInput, inputWritten, inputClosed, exited, settled, dropped, reset, disconnect, tick, deadline, nextRequest, nextMessage, isFinished, isDetached, awaitsSettlement, memoryBound, buffered, highWater, Applied}
+use Rattle.calls.specs.Call.{Conf, Call, key, limits, credit, input, endInput, cancel, launched, readAllowance, output, discarded, outputClosed, outputFailed, outputHungUp, pendingInput, inputWritten, inputClosed, exited, settled, dropped, reset, disconnect, tick, deadline, nextRequest, nextMessage, isFinished, isDetached, awaitsSettlement, memoryBound, buffered, highWater, Applied}
 use Rattle.account.specs.Step.{answer, opened, after, run}
 use Rattle.account.specs.Claim.{anyTerminal, messages}
 

@@ -1,5 +1,4 @@
 -- Demand 3: the calls, what they leave, the account, and the claim; and what is claimed beside it.
-pub mod Call
 pub mod Step
 pub mod Account
 pub mod Claim

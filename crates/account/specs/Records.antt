@@ -27,8 +27,8 @@ use Rattle.channel.specs.declared.codec.Record.the-variants as Record
 use Rattle.channel.specs.Calls as Channel
 use Rattle.channel.specs.Calls.{isChannel}
 use Rattle.channel.specs.Codec.{read}
-use Rattle.account.specs.Call as Call
-use Rattle.account.specs.Call.{Conf, Call, Answer, Done}
+use Rattle.calls.specs.Call as Call
+use Rattle.calls.specs.Call.{Conf, Call, Answer, Done}
 use Rattle.account.specs.Step.{State, onRunner, next, answer, opened}
 use Rattle.account.specs.Account.{Account, start, account, tallyOf, cut, tickA}
 use Rattle.account.specs.Claim.{IsPrefix, isMessage, isTerminal, messages, isStop}

@@ -7,8 +7,8 @@ use Prim.Native.Nat.{ℕ}
 use lib.Dec.{eqb}
 use Rattle.runner.specs.Calls as Calls
 use Rattle.channel.specs.Calls as Channel
-use Rattle.account.specs.Call as Call
-use Rattle.account.specs.Call.{Call}
+use Rattle.calls.specs.Call as Call
+use Rattle.calls.specs.Call.{Call}
 use Rattle.account.specs.Step.{State, next, answer}
 use Rattle.account.specs.Records.{Entry, writeRecord, nextEntry, answerEntry}
 

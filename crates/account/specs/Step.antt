@@ -30,8 +30,8 @@ use Rattle.runner.specs.declared.answer.When.{When}
 use Rattle.runner.specs.declared.answer.When.the-variants as When
 use Rattle.runner.specs.declared.runner.Runner.{Runner}
 use Rattle.runner.specs.Calls as Calls
-use Rattle.account.specs.Call as Call
-use Rattle.account.specs.Call.{Conf, Call, Answer, Done}
+use Rattle.calls.specs.Call as Call
+use Rattle.calls.specs.Call.{Conf, Call, Answer, Done}
 
 -- the runner, and the stores as the last call left them
 pub record State : Type 0 where

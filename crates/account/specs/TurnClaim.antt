@@ -9,8 +9,8 @@ use Prim.Native.Nat.{ℕ, _<_}
 use Rattle.exec.specs.declared.Outcome.{Outcome}
 use Rattle.exec.specs.declared.Stream.{Stream}
 use Rattle.exec.specs.Outcome.{isTruncated}
-use Rattle.account.specs.Call as Call
-use Rattle.account.specs.Call.{Conf, Answer}
+use Rattle.calls.specs.Call as Call
+use Rattle.calls.specs.Call.{Conf, Answer}
 use Rattle.account.specs.Step.{opened}
 use Rattle.account.specs.Account.{Tally, tallyOf}
 use Rattle.account.specs.Claim.{isTerminal}

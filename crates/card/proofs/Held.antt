@@ -10,11 +10,11 @@ use Rattle.ring.specs.Runs.{copied}
 use Rattle.ring.specs.Lent.{copied-all}
 use Rattle.card.specs.declared.feed.Answered.{Answered}
 use Rattle.card.specs.declared.feed.Card.{Card}
-use Rattle.grammar.specs.Answers.{lineText}
+use Rattle.syntax.specs.Answers.{lineText}
 use Rattle.grammar.specs.Feed as Feed
 use Rattle.grammar.specs.Feed.{lineEnds}
-use Rattle.card.specs.Answering.{answerIs}
-use Rattle.card.specs.Written.{Wrote, same-text}
+use Rattle.answering.specs.Answering.{answerIs}
+use Rattle.printing.specs.Written.{Wrote, same-text}
 use Rattle.card.specs.Standing.{Lent, placeOf, Answers, answerAt, Holds, EndsLine}
 use Rattle.card.specs.Laying.{put}
 use Rattle.card.proofs.Standings.{placed-is}

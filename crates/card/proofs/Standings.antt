@@ -11,23 +11,24 @@ use Rattle.exec.specs.declared.Reply.the-variants as Reply
 use Rattle.runner.specs.declared.answer.Noting.{Noting}
 use Rattle.runner.specs.declared.runner.Runner.{Runner}
 use Rattle.runner.specs.Calls as Calls
-use Rattle.account.specs.Call as Account
-use Rattle.account.specs.Call.{Call, isRefused}
+use Rattle.calls.specs.Call as Account
+use Rattle.calls.specs.Call.{Call, isRefused}
 use Rattle.account.specs.Step.{State, next, answer}
-use Rattle.card.specs.declared.answers.Answer.{Answer}
-use Rattle.card.specs.declared.calls.Making.{Making}
-use Rattle.card.specs.declared.calls.MaybeTime.{MaybeTime}
+use Rattle.answering.specs.declared.Answer.{Answer}
+use Rattle.making.specs.declared.Making.{Making}
+use Rattle.making.specs.declared.MaybeTime.{MaybeTime}
 use Rattle.card.specs.declared.feed.Answered.{Answered}
 use Rattle.card.specs.declared.feed.Stage as Stages
 use Rattle.card.specs.declared.feed.Stage.the-variants as Stage
 use Rattle.card.specs.declared.feed.Standing.{Standing}
-use Rattle.card.specs.declared.opening.Opening as Openings
-use Rattle.grammar.specs.Lines.{zeros, lineCall}
+use Rattle.opening.specs.declared.Opening as Openings
+use Rattle.syntax.specs.Lines.{zeros, lineCall}
 use Rattle.grammar.specs.Feed as Feed
-use Rattle.grammar.specs.Feed.{Session, isBack, timeOf, remembered, openedBy, first, later, answered, tooLong, answerOf, lineEnds, hold, eat, feeds}
-use Rattle.card.specs.Answering.{answerIs}
-use Rattle.card.specs.Making.{timeIs, stateOf, Made}
-use Rattle.card.specs.Zeros.{zeros-length}
+use Rattle.grammar.specs.Feed.{Session, isBack, remembered, openedBy, first, later, answered, tooLong, answerOf, lineEnds, hold, eat, feeds}
+use Rattle.calls.specs.Call.{timeOf}
+use Rattle.answering.specs.Answering.{answerIs}
+use Rattle.making.specs.Making.{timeIs, stateOf, Made}
+use Rattle.syntax.specs.Zeros.{zeros-length}
 use Rattle.card.specs.Standing.{Stores, stores, Place, placeOf, stageIs, stageAt, placed, Told, AnswersFirst, openedAs, firstOf, madeAt}
 
 abbrev place : Stages.Stage → State → (last : ℕ) → Place

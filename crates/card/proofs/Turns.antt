@@ -21,7 +21,7 @@ use Rattle.card.specs.Laying.{laid, laid-pieces, laid-end, line-lays}
 use Rattle.card.specs.Standing.{Lent, Place, placeOf, placeIn, sessionOf, placed, Stands, Holds, EndsLine}
 use Rattle.card.specs.Turning.{If, Answered, Stopped, Passes, Feeds, toEat, Goes, canEat, Fed, ended, Ended}
 use Rattle.card.proofs.Standings.{placed-own, placed-on}
-use Rattle.card.specs.Written.{Wrote, same-text, joined}
+use Rattle.printing.specs.Written.{Wrote, same-text, joined}
 
 -- a text within an area is no longer than it
 bound : {a : ℕ} {out then : List ℕ} {at to : ℕ} {text : List ℕ} → Wrote a out then at to text → Wrote (length out) out then at to text

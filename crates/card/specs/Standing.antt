@@ -7,24 +7,25 @@ use lib.ListN.{length, take}
 use Rattle.exec.specs.declared.Reply.{Reply}
 use Rattle.exec.specs.declared.Reply.the-variants as Reply
 use Rattle.runner.specs.declared.runner.Runner.{Runner}
-use Rattle.account.specs.Call as Account
-use Rattle.account.specs.Call.{Call, isRefused}
+use Rattle.calls.specs.Call as Account
+use Rattle.calls.specs.Call.{Call, isRefused}
 use Rattle.account.specs.Step.{State, next, answer, replied}
 use Rattle.card.specs.declared.feed.Answered as Code
 use Rattle.card.specs.declared.feed.Card.{Card}
 use Rattle.card.specs.declared.feed.Printed.{Printed}
-use Rattle.card.specs.Written.{Wrote}
+use Rattle.printing.specs.Written.{Wrote}
 use Rattle.card.specs.declared.feed.Stage as Stages
 use Rattle.card.specs.declared.feed.Stage.the-variants as Stage
 use Rattle.card.specs.declared.feed.Standing.{Standing}
-use Rattle.card.specs.declared.opening.Opening as Openings
-use Rattle.card.specs.declared.opening.MaybeOpening.the-variants as MaybeOpening
-use Rattle.grammar.specs.Lines.{zeros}
+use Rattle.opening.specs.declared.Opening as Openings
+use Rattle.opening.specs.declared.MaybeOpening.the-variants as MaybeOpening
+use Rattle.syntax.specs.Lines.{zeros}
 use Rattle.grammar.specs.Feed as Feed
-use Rattle.grammar.specs.Feed.{Session, lineEnds, first, later, answered, tooLong, answerOf, timeOf, remembered}
-use Rattle.card.specs.Meaning.{openingIs}
-use Rattle.card.specs.Answering.{answerIs}
-use Rattle.card.specs.Making.{stateOf}
+use Rattle.grammar.specs.Feed.{Session, lineEnds, first, later, answered, tooLong, answerOf, remembered}
+use Rattle.calls.specs.Call.{timeOf}
+use Rattle.opening.specs.Meaning.{openingIs}
+use Rattle.answering.specs.Answering.{answerIs}
+use Rattle.making.specs.Making.{stateOf}
 use Rattle.card.specs.Laying.{put}
 
 -- ---- what is lent

@@ -17,7 +17,7 @@ use Rattle.grammar.specs.Feed.{Session, start, lineEnds, feeds, ends}
 use Rattle.card.specs.Standing.{Lent, sessionOf, placeIn, Stands, EndsLine}
 use Rattle.card.specs.Feeding.{goesOn, eaten}
 use Rattle.card.specs.Laying.{laid}
-use Rattle.card.specs.Written.{Wrote}
+use Rattle.printing.specs.Written.{Wrote}
 
 -- the claim of the one case or of the other
 abbrev pub If : Bool → (this that : Type 0) → Type 0

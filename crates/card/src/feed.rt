@@ -4,33 +4,33 @@ ghost use mathlib.Core.Bool.{false};
 ghost use mathlib.Core.Option.{some};
 ghost use Prim.Native.Nat.{_+_, _-_, _≤_, _<_};
 ghost use lib.ListN.{length, take, drop};
-ghost use Rattle.grammar.specs.Lines.{zeros, lineOpen, lineCall};
+ghost use Rattle.syntax.specs.Lines.{zeros, lineCall};
+ghost use Rattle.opening.specs.Open.{lineOpen};
 ghost use Rattle.grammar.specs.Feed.{isBack, remembered, first};
-ghost use Rattle.card.specs.Meaning.{callIs};
-ghost use Rattle.card.specs.Making.{timeIs, TimeIs};
+ghost use Rattle.syntax.specs.Meaning.{callIs};
+ghost use Rattle.making.specs.Making.{timeIs, TimeIs};
 ghost use Rattle.card.specs.Feeding.{lineLength};
-ghost use Rattle.card.specs.declared.answers.Answer.the-variants as Answer;
+ghost use Rattle.answering.specs.declared.Answer.the-variants as Answer;
 ghost use Rattle.card.specs.Standing.{stores, lent, Areas, Answers, AnswersFirst, AnswersAny, openedAs, firstOf, madeAt, laterAt, answeredAt, tooLongAt, answerAt, Holds, EndsLine};
 ghost use Rattle.card.specs.Turning.{Passes, Goes, newCard, isReady, Fed, Eats, Ended, Finishes};
-use crate::answers;
-use crate::answers::Answer;
-use crate::calls::MaybeTime;
-use crate::calls::clear;
-use crate::calls::make;
-use crate::calls::time_of;
-use crate::lines::Call;
-use crate::lines::Line;
-use crate::lines::call_of;
-use crate::opening::MaybeOpening;
-use crate::opening::Opening;
-use crate::opening::open_of;
+use answering::Answer;
 use exec::Key;
 use exec::Limits;
 use exec::Reply;
 use exec::Timers;
+use making::MaybeTime;
+use making::clear;
+use making::make;
+use making::time_of;
+use opening::MaybeOpening;
+use opening::Opening;
+use opening::open_of;
+use reading::lines::Line;
+use reading::lines::call_of;
 use ring::copy_in;
 use ring::smaller;
 use runner::runner::Runner;
+use syntax::Call;
 
 // Where a session stands: before its first line; with a runner; or without one, where every line is 30.
 pub enum Stage {
@@ -167,7 +167,7 @@ impl Standing {
             }
             Reply::Refused(refusal) => self.refused(
                 Stage::Over,
-                answers::replied(Reply::Refused(refusal)),
+                answering::replied(Reply::Refused(refusal)),
             ),
         }
     }
@@ -215,7 +215,7 @@ impl Standing {
         let making = make(runner, call, store, lengths, work);
         let next = making.runner;
         let answer = making.answer;
-        let last = remember(answers::is_refused(answer), time, self.last);
+        let last = remember(answering::is_refused(answer), time, self.last);
         let standing = Standing {
             stage: Stage::Running,
             runner: next,
@@ -355,7 +355,7 @@ impl Card {
         let standing = self.standing;
         let answered = standing.answer(&line[0..held], store, lengths, work);
         let answer = answered.answer;
-        let end = answers::write_line(number, answer, work, out, at);
+        let end = answering::write_line(number, answer, work, out, at);
         let next = answered.standing;
         Printed {
             card: Card {

@@ -8,13 +8,14 @@ use Prim.Native.Nat.{ℕ, _+_}
 use native.Mathlib.Omega.{arith}
 use lib.Dec.{eqb}
 use lib.ListN.{length}
-use Rattle.account.specs.Call as Call
-use Rattle.account.specs.Call.{Call, Answer, Done, isRefused}
+use Rattle.calls.specs.Call as Call
+use Rattle.calls.specs.Call.{Call, Answer, Done, isRefused}
 use Rattle.account.specs.Step.{State, next, answer, after, run}
 use Rattle.account.specs.Refused.{among}
-use Rattle.grammar.specs.Lines.{lineCall}
-use Rattle.grammar.specs.Answers.{lineText}
-use Rattle.grammar.specs.Feed.{Stage, First, Running, Over, Session, Step, Answered, isBack, timeOf, remembered, later, answered, tooLong, isShort, answerOf, lineEnds, hold, eat, feeds, ends}
+use Rattle.syntax.specs.Lines.{lineCall}
+use Rattle.syntax.specs.Answers.{lineText}
+use Rattle.grammar.specs.Feed.{Stage, First, Running, Over, Session, Step, Answered, isBack, remembered, later, answered, tooLong, isShort, answerOf, lineEnds, hold, eat, feeds, ends}
+use Rattle.calls.specs.Call.{timeOf}
 
 -- ---- the calls
 

@@ -9,11 +9,12 @@ use lib.ListN.{length}
 use Rattle.exec.specs.declared.Reply.{Reply}
 use Rattle.exec.specs.declared.Reply.the-variants as Reply
 use Rattle.runner.specs.Calls as Calls
-use Rattle.account.specs.Call as Call
-use Rattle.account.specs.Call.{Call, Answer, isRefused}
+use Rattle.calls.specs.Call as Call
+use Rattle.calls.specs.Call.{Call, Answer, timeOf, isRefused}
 use Rattle.account.specs.Step.{State, replied, next, answer, opened}
-use Rattle.grammar.specs.Lines.{Opening, lineCall, lineOpen, zeros}
-use Rattle.grammar.specs.Answers.{lineText}
+use Rattle.opening.specs.Open.{Opening, lineOpen}
+use Rattle.syntax.specs.Lines.{lineCall, zeros}
+use Rattle.syntax.specs.Answers.{lineText}
 
 -- where a session stands: before its first line; with a runner, and the last time that is remembered; or without one, where
 -- every line is 30
@@ -36,40 +37,6 @@ pub record Step : Type 0 where
   pub printed : List ℕ
 
 -- ---- a line
-
--- a call's own time
-abbrev pub timeOf : Call → Option ℕ
-timeOf Call.key = none
-timeOf Call.limits = none
-timeOf (Call.credit k p u) = none
-timeOf (Call.input k b) = none
-timeOf (Call.endInput k) = none
-timeOf (Call.cancel now k c) = some now
-timeOf (Call.launched x) = none
-timeOf (Call.readAllowance x) = none
-timeOf (Call.output x b) = none
-timeOf (Call.discarded x n) = none
-timeOf (Call.outputClosed x) = none
-timeOf (Call.outputFailed x) = none
-timeOf (Call.outputHungUp x) = none
-timeOf Call.pendingInput = none
-timeOf (Call.inputWritten n) = none
-timeOf Call.inputClosed = none
-timeOf (Call.exited now x) = some now
-timeOf (Call.settled x) = none
-timeOf (Call.dropped now) = some now
-timeOf (Call.reset now) = some now
-timeOf (Call.disconnect now) = some now
-timeOf (Call.tick now) = some now
-timeOf Call.deadline = none
-timeOf Call.nextRequest = none
-timeOf (Call.nextMessage b) = none
-timeOf Call.isFinished = none
-timeOf Call.isDetached = none
-timeOf Call.awaitsSettlement = none
-timeOf Call.memoryBound = none
-timeOf Call.buffered = none
-timeOf Call.highWater = none
 
 abbrev pub isBack : Option ℕ → (last : ℕ) → Bool
 isBack none last = false

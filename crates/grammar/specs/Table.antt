@@ -20,12 +20,13 @@ use Rattle.exec.specs.Limits.{bytesWindow, limitsFor}
 use Rattle.exec.specs.Time.{newTimers}
 use Rattle.text.specs.Decimal.{number, numberFrom, areDigits, valueFrom, signed, digitsOf, digitsBefore}
 use Rattle.text.specs.Hexadecimal.{unhex, arePairs, areHex, pairs, hexValue, hexOf, hexDigit}
-use Rattle.account.specs.Call as Call
-use Rattle.account.specs.Call.{Call, Answer}
-use Rattle.grammar.specs.Words.{bytes, same, named}
-use Rattle.grammar.specs.Lines.{fields, digit, status, timeout, launchResult, find, callOf, openOf, isOpen, openingOf, limitsOf, timersOf, lineCall, lineOpen, zeros}
+use Rattle.calls.specs.Call as Call
+use Rattle.calls.specs.Call.{Call, Answer}
+use Rattle.syntax.specs.Words.{bytes, same, named}
+use Rattle.syntax.specs.Lines.{fields, digit, status, launchResult, find, callOf, lineCall, zeros}
+use Rattle.opening.specs.Open.{timeout, openOf, isOpen, openingOf, limitsOf, timersOf, lineOpen}
 use Rattle.account.specs.Step.{State}
-use Rattle.grammar.specs.Answers.{answerText, lineText}
+use Rattle.syntax.specs.Answers.{answerText, lineText}
 use Rattle.grammar.specs.Feed.{First, Running, Over, bad, remembered, first, later, answered, tooLong, answerOf}
 
 calls : String → Option Call

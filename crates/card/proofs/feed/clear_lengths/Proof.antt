@@ -5,8 +5,8 @@ use Prim.Native.Nat.{_-_, _≤_}
 use native.Mathlib.Omega.{arith}
 use borrow.Author.Needs.{needs}
 use lib.ListN.{length, drop, length-set}
-use Rattle.grammar.specs.Lines.{zeros}
-use Rattle.card.specs.Zeros.{zeros-start, zeros-turn, zeros-all}
+use Rattle.syntax.specs.Lines.{zeros}
+use Rattle.syntax.specs.Zeros.{zeros-start, zeros-turn, zeros-all}
 use Rattle.card.proofs.feed.clear_lengths.Statement.{statement}
 use Rattle.card.proofs.feed.clear_lengths.Tie as tie
 

@@ -1,5 +1,5 @@
 use Rattle.card.proofs.Standings.{refused-made}
-use Rattle.card.specs.Meaning.{openingIs}
+use Rattle.opening.specs.Meaning.{openingIs}
 use Rattle.grammar.specs.Feed.{first}
 use mathlib.Core.Path.{refl, sym, ap, _∙_}
 use borrow.Author.Needs.{needs}

@@ -1,7 +1,7 @@
 use Rattle.card.proofs.Standings.{refused-made}
-use Rattle.card.specs.Meaning.{lineIs}
+use Rattle.reading.specs.Meaning.{lineIs}
 use Rattle.grammar.specs.Feed.{later}
-use Rattle.card.specs.declared.lines.Line.{Line}
+use Rattle.reading.specs.declared.lines.Line.{Line}
 use mathlib.Core.Path.{refl, sym, ap, _∙_}
 use borrow.Author.Needs.{needs}
 use Rattle.card.proofs.feed.Standing.later.Statement.{statement}

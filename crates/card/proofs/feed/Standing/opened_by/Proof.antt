@@ -1,7 +1,7 @@
 use Rattle.card.proofs.Standings.{refused-made}
 use Rattle.card.specs.Standing.{placed}
-use Rattle.card.specs.Zeros.{zeros-all}
-use Rattle.grammar.specs.Lines.{zeros}
+use Rattle.syntax.specs.Zeros.{zeros-all}
+use Rattle.syntax.specs.Lines.{zeros}
 use mathlib.Core.Path.{_≡_, refl, sym, ap, _∙_}
 use borrow.Author.Needs.{needs}
 use Rattle.card.proofs.feed.Standing.opened_by.Statement.{statement}

@@ -1,0 +1,2 @@
+-- What an answer of the code stands for.
+pub mod Answering

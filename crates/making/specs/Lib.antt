@@ -1,0 +1,2 @@
+-- What a call that the code makes leaves and answers.
+pub mod Making

@@ -1,0 +1,22 @@
+use Rattle.syntax.specs.Words.{bytes}
+use Rattle.printing.specs.Written.{joined}
+use borrow.Author.Needs.{needs}
+use Rattle.printing.proofs.put_ended.Statement.{statement}
+use Rattle.printing.proofs.put_ended.Tie as tie
+
+returns : tie.Need-returns
+unfolding bytes
+returns c =
+    joined (joined (joined (c .before .before .before .before .before .before .before .before .before .before .before .before .before .before .put .ensures) (c .before .before .before .before .before .before .before .before .before .before .put-maybe-status .ensures)) (c .before .before .before .before .before .before .put-byte .ensures)) (c .before .before .put-maybe-cause .ensures)
+
+pub put-ended-spec : {M : Type 1} → statement M
+put-ended-spec =
+    tie.close
+    (tie.spec
+    (search needs)
+    (search needs)
+    (search needs)
+    (search needs)
+    (search needs)
+    (search needs)
+    returns)

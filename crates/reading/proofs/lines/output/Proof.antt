@@ -1,0 +1,28 @@
+use borrow.Author.Needs.{needs}
+use mathlib.Core.Path.{_∙_, sym, ap}
+use Rattle.text.specs.declared.hexadecimal.MaybeLength.{MaybeLength}
+use Rattle.reading.specs.Meaning.{bytesIs, streamIs}
+use Rattle.reading.proofs.lines.output.Statement.{statement}
+use Rattle.reading.proofs.lines.output.Tie as tie
+
+pub output-spec : {M : Type 1} → statement M
+output-spec =
+    tie.close
+    (tie.spec
+    (search needs)
+    (search needs)
+    (search needs)
+    (λ c. simp (sym (c .before .before .stream .ensures) ∙ ap streamIs (c .enum-told .given .1)))
+    (search needs)
+    (search needs)
+    (search needs)
+    (search needs)
+    (λ c. simp (
+      sym (c .before .before .before .before .bytes .ensures) ∙ ap (λ (x : MaybeLength). bytesIs x (c .before .before .before .before .bytes .last .1 .0)) (c .enum-told2 .given .1),
+      sym (c .before .before .before .before .before .before .before .before .before .stream .ensures) ∙ ap streamIs (c .before .before .before .before .before .before .before .x .given .1),
+    ))
+    (search needs)
+    (λ c. simp (
+      sym (c .before .before .before .before .before .bytes .ensures) ∙ ap (λ (x : MaybeLength). bytesIs x (c .before .before .before .before .before .bytes .last .1 .0)) (c .before .n .given .1),
+      sym (c .before .before .before .before .before .before .before .before .before .before .stream .ensures) ∙ ap streamIs (c .before .before .before .before .before .before .before .before .x .given .1),
+    )))

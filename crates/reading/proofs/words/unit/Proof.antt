@@ -1,0 +1,18 @@
+use borrow.Author.Needs.{needs}
+use mathlib.Core.Path.{refl}
+use Rattle.syntax.specs.Words.{bytes}
+use Rattle.reading.specs.Naming.{Beyond, placeOf, pick, named-at, named-none}
+use Rattle.reading.proofs.words.unit.Statement.{statement}
+use Rattle.reading.proofs.words.unit.Tie as tie
+
+pub unit-spec : {M : Type 1} → statement M
+unfolding bytes Beyond placeOf pick
+unit-spec =
+    tie.close
+    (tie.spec
+    (search needs)
+    (search needs)
+    (search needs)
+    (λ c. named-at _ _ _ 2 0 (c .before .place2 .ensures) (c .match .keys1))
+    (λ c. named-at _ _ _ 2 1 (c .before .place2 .ensures) (c .match .keys2))
+    (λ c. named-none _ _ _ 2 (c .before .place2 .ensures) (c .match .rest) refl))
