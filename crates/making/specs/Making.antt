@@ -39,8 +39,12 @@ use Rattle.making.specs.declared.Making.{Making}
 use Rattle.making.specs.declared.MaybeTime.{MaybeTime}
 use Rattle.making.specs.declared.MaybeTime.the-variants as MaybeTime
 use Rattle.syntax.specs.declared.Call as Calls
+use Rattle.syntax.specs.declared.Question.{Question}
+use Rattle.syntax.specs.declared.Question.the-variants as Question
+use Rattle.syntax.specs.declared.Timed.{Timed}
+use Rattle.syntax.specs.declared.Timed.the-variants as Timed
 use Rattle.calls.specs.Call.{timeOf}
-use Rattle.syntax.specs.Meaning.{callIs}
+use Rattle.syntax.specs.Meaning.{timedIs, questionIs, callIs}
 use Rattle.answering.specs.Answering.{answerIs, AnswerIs}
 use Rattle.answering.specs.declared.Answer.{Answer}
 
@@ -59,6 +63,14 @@ stateOf r bytes lengths = record { runner = r; bytes = bytes; lengths = lengths 
 abbrev pub Made : State → Call → Making → (bytes lengths work : List ℕ) → Type 0
 Made s c r bytes lengths work = (stateOf (r .runner) bytes lengths ≡ next s c) × (answerIs (r .answer) work ≡ answer s c)
 
+-- the same for a call that is lent no store, whatever the stores are
+abbrev pub Moves : Runner → Call → Making → Type 0
+Moves x c r = (bytes lengths work : List ℕ) → Made (stateOf x bytes lengths) c r bytes lengths work
+
+-- the answer to a question, whatever the lengths are
+abbrev pub Tells : Runner → (bytes : List ℕ) → Call → Answer → (work : List ℕ) → Type 0
+Tells x bytes c a work = (lengths : List ℕ) → answerIs a work ≡ answer (stateOf x bytes lengths) c
+
 -- the same for a call that is lent stores, from what it leaves
 abbrev pub OutputMade : Runner → Answer → (bytes : List ℕ) → OutputAfter → Type 0
 OutputMade r a bytes x = (r ≡ x .taking .runner) × (bytes ≡ x .bytes) × AnswerIs a (λ w. took (x .taking .taken))
@@ -68,6 +80,39 @@ InputMade r a bytes lengths x = (r ≡ x .hearing .runner) × (bytes ≡ x .byte
 
 abbrev pub MessageMade : Runner → Answer → (work : List ℕ) → MessageAfter → Type 0
 MessageMade r a work x = (r ≡ x .saying .runner) × (answerIs a work ≡ says (x .saying .said) (x .buffer))
+
+-- each of the timed calls has its time, and no question has one
+pub timed-time : (now : ℕ) (t : Timed) → timeOf (timedIs now t) ≡ some now
+timed-time now (Timed.Cancel k x) = refl
+timed-time now (Timed.Exited x) = refl
+timed-time now Timed.Dropped = refl
+timed-time now Timed.Reset = refl
+timed-time now Timed.Disconnect = refl
+timed-time now Timed.Tick = refl
+
+pub question-time : (q : Question) → timeOf (questionIs q) ≡ none
+question-time (Question.ReadAllowance x) = refl
+question-time Question.PendingInput = refl
+question-time Question.Deadline = refl
+question-time Question.IsFinished = refl
+question-time Question.IsDetached = refl
+question-time Question.AwaitsSettlement = refl
+question-time Question.MemoryBound = refl
+question-time Question.Buffered = refl
+question-time Question.HighWater = refl
+
+-- a question leaves all as it is
+pub question-leaves : (q : Question) (s : State) → next s (questionIs q) ≡ s
+unfolding next
+question-leaves (Question.ReadAllowance x) s = refl
+question-leaves Question.PendingInput s = refl
+question-leaves Question.Deadline s = refl
+question-leaves Question.IsFinished s = refl
+question-leaves Question.IsDetached s = refl
+question-leaves Question.AwaitsSettlement s = refl
+question-leaves Question.MemoryBound s = refl
+question-leaves Question.Buffered s = refl
+question-leaves Question.HighWater s = refl
 
 -- ---- a message stands at the start of its buffer
 

@@ -7,9 +7,9 @@ ghost use Rattle.calls.specs.Call as Calls;
 ghost use Rattle.account.specs.Step.{replied, receivedAs, asks, waits, answer};
 ghost use Rattle.runner.specs.Calls as Runs;
 ghost use Rattle.syntax.specs.Lines.{zeros};
-ghost use Rattle.syntax.specs.Meaning.{callIs};
+ghost use Rattle.syntax.specs.Meaning.{timedIs, questionIs, callIs};
 ghost use Rattle.answering.specs.Answering.{answerIs, AnswerIs};
-ghost use Rattle.making.specs.Making.{TimeIs, stateOf, OutputMade, InputMade, MessageMade, Made};
+ghost use Rattle.making.specs.Making.{TimeIs, stateOf, OutputMade, InputMade, MessageMade, Made, Moves, Tells};
 use answering::Answer;
 use exec::Key;
 use exec::Stream;
@@ -19,6 +19,8 @@ use runner::answer::Hearing;
 use runner::answer::Noting;
 use runner::runner::Runner;
 use syntax::Call;
+use syntax::Question;
+use syntax::Timed;
 
 // The runner after a call, and the answer.
 pub struct Making {
@@ -39,32 +41,19 @@ pub fn time_of(call: Call) -> MaybeTime
         Call::Credit(_key, _pool, _units) => MaybeTime::None,
         Call::Input(_key, _n) => MaybeTime::None,
         Call::EndInput(_key) => MaybeTime::None,
-        Call::Cancel(now, _key, _cause) => MaybeTime::At(now),
         Call::Launched(_result) => MaybeTime::None,
-        Call::ReadAllowance(_stream) => MaybeTime::None,
         Call::Output(_stream, _n) => MaybeTime::None,
         Call::Discarded(_stream, _n) => MaybeTime::None,
         Call::OutputClosed(_stream) => MaybeTime::None,
         Call::OutputFailed(_stream) => MaybeTime::None,
         Call::OutputHungUp(_stream) => MaybeTime::None,
-        Call::PendingInput => MaybeTime::None,
         Call::InputWritten(_n) => MaybeTime::None,
         Call::InputClosed => MaybeTime::None,
-        Call::Exited(now, _status) => MaybeTime::At(now),
         Call::Settled(_result) => MaybeTime::None,
-        Call::Dropped(now) => MaybeTime::At(now),
-        Call::Reset(now) => MaybeTime::At(now),
-        Call::Disconnect(now) => MaybeTime::At(now),
-        Call::Tick(now) => MaybeTime::At(now),
-        Call::Deadline => MaybeTime::None,
         Call::NextRequest => MaybeTime::None,
         Call::NextMessage(_n) => MaybeTime::None,
-        Call::IsFinished => MaybeTime::None,
-        Call::IsDetached => MaybeTime::None,
-        Call::AwaitsSettlement => MaybeTime::None,
-        Call::MemoryBound => MaybeTime::None,
-        Call::Buffered => MaybeTime::None,
-        Call::HighWater => MaybeTime::None,
+        Call::At(now, _timed) => MaybeTime::At(now),
+        Call::Ask(_question) => MaybeTime::None,
     }
 }
 
@@ -191,6 +180,38 @@ fn pending_input(runner: Runner, store: &[u8], work: &mut [u8]) -> Answer
     waits(refusal, pending, work)
 }
 
+// ---- a call by its kind
+
+fn ask(runner: Runner, question: Question, store: &[u8], work: &mut [u8]) -> Answer
+    requires { ⌜ length (now store) ≤ length (now work) ⌝ }
+    ensures { λ r. ⌜ Tells runner (now (store .entry)) (questionIs question) r (now (work .exit)) ⌝ }
+{
+    match question {
+        Question::ReadAllowance(stream) => answering::counted(runner.read_allowance(stream)),
+        Question::PendingInput => pending_input(runner, store, work),
+        Question::Deadline => answering::fires(runner.deadline()),
+        Question::IsFinished => answering::told(runner.is_finished()),
+        Question::IsDetached => answering::told(runner.is_detached()),
+        Question::AwaitsSettlement => answering::told(runner.awaits_settlement()),
+        Question::MemoryBound => answering::counted(runner.memory_bound()),
+        Question::Buffered => answering::counted(runner.buffered()),
+        Question::HighWater => answering::counted(runner.high_water()),
+    }
+}
+
+fn timed(runner: Runner, now: u64, call: Timed) -> Making
+    ensures { λ r. ⌜ Moves runner (timedIs now call) r ⌝ }
+{
+    match call {
+        Timed::Cancel(key, cause) => heard(runner.cancel(now, key, cause)),
+        Timed::Exited(status) => noted(runner.exited(now, status)),
+        Timed::Dropped => noted(runner.dropped(now)),
+        Timed::Reset => noted(runner.reset(now)),
+        Timed::Disconnect => noted(runner.disconnect(now)),
+        Timed::Tick => noted(runner.tick(now)),
+    }
+}
+
 // (The stores are those that the runner was opened with.)
 pub fn make(
     runner: Runner,
@@ -206,34 +227,18 @@ pub fn make(
         Call::Credit(key, pool, units) => heard(runner.credit(key, pool, units)),
         Call::Input(key, n) => input(runner, key, n, store, lengths, work),
         Call::EndInput(key) => heard(runner.end_input(key)),
-        Call::Cancel(now, key, cause) => heard(runner.cancel(now, key, cause)),
         Call::Launched(result) => noted(runner.launched(result)),
-        Call::ReadAllowance(stream) => asked(
-            runner,
-            answering::counted(runner.read_allowance(stream)),
-        ),
         Call::Output(stream, n) => output(runner, stream, n, store, work),
         Call::Discarded(stream, n) => noted(runner.discarded(stream, n)),
         Call::OutputClosed(stream) => noted(runner.output_closed(stream)),
         Call::OutputFailed(stream) => noted(runner.output_failed(stream)),
         Call::OutputHungUp(stream) => noted(runner.output_hung_up(stream)),
-        Call::PendingInput => asked(runner, pending_input(runner, store, work)),
         Call::InputWritten(n) => noted(runner.input_written(lengths, n)),
         Call::InputClosed => noted(runner.input_closed()),
-        Call::Exited(now, status) => noted(runner.exited(now, status)),
         Call::Settled(result) => noted(runner.settled(result)),
-        Call::Dropped(now) => noted(runner.dropped(now)),
-        Call::Reset(now) => noted(runner.reset(now)),
-        Call::Disconnect(now) => noted(runner.disconnect(now)),
-        Call::Tick(now) => noted(runner.tick(now)),
-        Call::Deadline => asked(runner, answering::fires(runner.deadline())),
         Call::NextRequest => next_request(runner),
         Call::NextMessage(n) => next_message(runner, wide(n), store, work),
-        Call::IsFinished => asked(runner, answering::told(runner.is_finished())),
-        Call::IsDetached => asked(runner, answering::told(runner.is_detached())),
-        Call::AwaitsSettlement => asked(runner, answering::told(runner.awaits_settlement())),
-        Call::MemoryBound => asked(runner, answering::counted(runner.memory_bound())),
-        Call::Buffered => asked(runner, answering::counted(runner.buffered())),
-        Call::HighWater => asked(runner, answering::counted(runner.high_water())),
+        Call::At(now, call) => timed(runner, now, call),
+        Call::Ask(question) => asked(runner, ask(runner, question, store, work)),
     }
 }

@@ -22,6 +22,8 @@ use crate::words::place4;
 use crate::words::place5;
 use exec::MaybeCause;
 use syntax::Call;
+use syntax::Question;
+use syntax::Timed;
 use text::decimal::MaybeNumber;
 use text::hexadecimal::MaybeLength;
 
@@ -45,11 +47,11 @@ fn plain(name: &[u8]) -> Line
         b"is_finished",
     );
     match n {
-        0 => Line::Call(Call::PendingInput),
+        0 => Line::Call(Call::Ask(Question::PendingInput)),
         1 => Line::Call(Call::InputClosed),
-        2 => Line::Call(Call::Deadline),
+        2 => Line::Call(Call::Ask(Question::Deadline)),
         3 => Line::Call(Call::NextRequest),
-        4 => Line::Call(Call::IsFinished),
+        4 => Line::Call(Call::Ask(Question::IsFinished)),
         _ => plain_from_5(name),
     }
 }
@@ -67,11 +69,11 @@ fn plain_from_5(name: &[u8]) -> Line
         b"high_water",
     );
     match n {
-        0 => Line::Call(Call::IsDetached),
-        1 => Line::Call(Call::AwaitsSettlement),
-        2 => Line::Call(Call::MemoryBound),
-        3 => Line::Call(Call::Buffered),
-        4 => Line::Call(Call::HighWater),
+        0 => Line::Call(Call::Ask(Question::IsDetached)),
+        1 => Line::Call(Call::Ask(Question::AwaitsSettlement)),
+        2 => Line::Call(Call::Ask(Question::MemoryBound)),
+        3 => Line::Call(Call::Ask(Question::Buffered)),
+        4 => Line::Call(Call::Ask(Question::HighWater)),
         _ => Line::None,
     }
 }
@@ -84,7 +86,7 @@ fn read_allowance(a: &[u8]) -> Line
     let MaybeStream::Some(x) = words::stream(a) else {
         return Line::None;
     };
-    Line::Call(Call::ReadAllowance(x))
+    Line::Call(Call::Ask(Question::ReadAllowance(x)))
 }
 
 fn output_closed(a: &[u8]) -> Line
@@ -138,7 +140,7 @@ fn dropped(a: &[u8]) -> Line
     let MaybeNumber::Some(now) = fields::wide(a) else {
         return Line::None;
     };
-    Line::Call(Call::Dropped(now))
+    Line::Call(Call::At(now, Timed::Dropped))
 }
 
 fn reset(a: &[u8]) -> Line
@@ -147,7 +149,7 @@ fn reset(a: &[u8]) -> Line
     let MaybeNumber::Some(now) = fields::wide(a) else {
         return Line::None;
     };
-    Line::Call(Call::Reset(now))
+    Line::Call(Call::At(now, Timed::Reset))
 }
 
 fn disconnect(a: &[u8]) -> Line
@@ -156,7 +158,7 @@ fn disconnect(a: &[u8]) -> Line
     let MaybeNumber::Some(now) = fields::wide(a) else {
         return Line::None;
     };
-    Line::Call(Call::Disconnect(now))
+    Line::Call(Call::At(now, Timed::Disconnect))
 }
 
 fn tick(a: &[u8]) -> Line
@@ -165,7 +167,7 @@ fn tick(a: &[u8]) -> Line
     let MaybeNumber::Some(now) = fields::wide(a) else {
         return Line::None;
     };
-    Line::Call(Call::Tick(now))
+    Line::Call(Call::At(now, Timed::Tick))
 }
 
 fn message(a: &[u8]) -> Line
@@ -273,7 +275,7 @@ fn exited(a: &[u8], b: &[u8]) -> Line
     let FoundStatus::Some(x) = fields::status(b) else {
         return Line::None;
     };
-    Line::Call(Call::Exited(now, x))
+    Line::Call(Call::At(now, Timed::Exited(x)))
 }
 
 fn call2(name: &[u8], a: &[u8], b: &[u8], work: &mut [u8]) -> Line
@@ -355,7 +357,7 @@ fn cancel(a: &[u8], b: &[u8], c: &[u8], d: &[u8]) -> Line
     let MaybeCause::Some(x) = words::cause(d) else {
         return Line::None;
     };
-    Line::Call(Call::Cancel(now, key, x))
+    Line::Call(Call::At(now, Timed::Cancel(key, x)))
 }
 
 fn call4(name: &[u8], a: &[u8], b: &[u8], c: &[u8], d: &[u8]) -> Line

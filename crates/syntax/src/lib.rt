@@ -12,26 +12,36 @@ pub enum Call {
     Credit(Key, Pool, u32),
     Input(Key, usize),
     EndInput(Key),
-    Cancel(u64, Key, Cause),
     Launched(LaunchResult),
-    ReadAllowance(Stream),
     Output(Stream, usize),
     Discarded(Stream, usize),
     OutputClosed(Stream),
     OutputFailed(Stream),
     OutputHungUp(Stream),
-    PendingInput,
     InputWritten(usize),
     InputClosed,
-    Exited(u64, MaybeStatus),
     Settled(Settlement),
-    Dropped(u64),
-    Reset(u64),
-    Disconnect(u64),
-    Tick(u64),
-    Deadline,
     NextRequest,
     NextMessage(u16),
+    At(u64, Timed),
+    Ask(Question),
+}
+
+// A call that has a time of its own.
+pub enum Timed {
+    Cancel(Key, Cause),
+    Exited(MaybeStatus),
+    Dropped,
+    Reset,
+    Disconnect,
+    Tick,
+}
+
+// A call that changes nothing.
+pub enum Question {
+    ReadAllowance(Stream),
+    PendingInput,
+    Deadline,
     IsFinished,
     IsDetached,
     AwaitsSettlement,
