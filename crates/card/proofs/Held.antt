@@ -8,16 +8,17 @@ use lib.ListN.{length, take, drop, length-take, length-drop}
 use lib.Seq.{take-all, take-at, take-append-add, length-take-le, length-paste-head}
 use Rattle.ring.specs.Runs.{copied}
 use Rattle.ring.specs.Lent.{copied-all}
-use Rattle.card.specs.declared.feed.Answered.{Answered}
+use Rattle.standing.specs.declared.Answered.{Answered}
 use Rattle.card.specs.declared.feed.Card.{Card}
 use Rattle.syntax.specs.Answers.{lineText}
 use Rattle.grammar.specs.Feed as Feed
 use Rattle.grammar.specs.Feed.{lineEnds}
 use Rattle.answering.specs.Answering.{answerIs}
 use Rattle.printing.specs.Written.{Wrote, same-text}
-use Rattle.card.specs.Standing.{Lent, placeOf, Answers, answerAt, Holds, EndsLine}
+use Rattle.card.specs.Holding.{Lent, Holds, EndsLine}
+use Rattle.standing.specs.Standing.{placeOf, Answers, answerAt}
 use Rattle.card.specs.Laying.{put}
-use Rattle.card.proofs.Standings.{placed-is}
+use Rattle.standing.specs.Standing.{placed-is}
 
 take-less : (k m : ℕ) (s : List ℕ) → k ≤ m → take k (take m s) ≡ take k s
 take-less zero m s h = refl

@@ -1,4 +1,4 @@
 -- Laws that only proofs cite.
-mod Standings
+mod Opens
 mod Held
 mod Turns

@@ -13,14 +13,16 @@ use lib.Seq.{length-take-le, take-add, drop-drop}
 use Rattle.ring.specs.Runs.{copied-zero}
 use Rattle.card.specs.declared.feed.Card.{Card}
 use Rattle.card.specs.declared.feed.Printed.{Printed}
-use Rattle.card.specs.declared.feed.Standing.{Standing}
+use Rattle.standing.specs.declared.Standing.{Standing}
 use Rattle.card.specs.declared.feed.Turn.{Turn}
 use Rattle.grammar.specs.Feed.{Session, lineEnds, feeds, pieces, ends}
 use Rattle.card.specs.Feeding.{eaten, goesOn, lineLength, holdAll, line-most, line-feeds, to-line-end, feeds-end, all-held, line-answered, line-stopped}
 use Rattle.card.specs.Laying.{laid, laid-pieces, laid-end, line-lays}
-use Rattle.card.specs.Standing.{Lent, Place, placeOf, placeIn, sessionOf, placed, Stands, Holds, EndsLine}
+use Rattle.card.specs.Holding.{Lent, placeIn, sessionOf, Stands, Holds, EndsLine}
+use Rattle.standing.specs.Standing.{Place, placeOf, placed}
 use Rattle.card.specs.Turning.{If, Answered, Stopped, Passes, Feeds, toEat, Goes, canEat, Fed, ended, Ended}
-use Rattle.card.proofs.Standings.{placed-own, placed-on}
+use Rattle.standing.specs.Standing.{placed-own}
+use Rattle.card.proofs.Opens.{placed-on}
 use Rattle.printing.specs.Written.{Wrote, same-text, joined}
 
 -- a text within an area is no longer than it

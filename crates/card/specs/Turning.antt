@@ -7,14 +7,14 @@ use lib.Dec.{eqb, ltb, leb}
 use lib.ListN.{length, take, drop}
 use Rattle.card.specs.declared.feed.Card.{Card}
 use Rattle.card.specs.declared.feed.Eaten.{Eaten}
-use Rattle.card.specs.declared.feed.Stage.the-variants as Stage
+use Rattle.standing.specs.declared.Stage.the-variants as Stage
 use Rattle.card.specs.declared.feed.Turn.{Turn}
 use Rattle.exec.specs.Key.{newKey}
 use Rattle.exec.specs.Time.{newTimers}
 use Rattle.runner.specs.Calls as Calls
 use Rattle.exec.specs.Limits.{noLimits}
 use Rattle.grammar.specs.Feed.{Session, start, lineEnds, feeds, ends}
-use Rattle.card.specs.Standing.{Lent, sessionOf, placeIn, Stands, EndsLine}
+use Rattle.card.specs.Holding.{Lent, sessionOf, placeIn, Stands, EndsLine}
 use Rattle.card.specs.Feeding.{goesOn, eaten}
 use Rattle.card.specs.Laying.{laid}
 use Rattle.printing.specs.Written.{Wrote}

@@ -1,5 +1,5 @@
 use Rattle.card.proofs.Turns.{go-passed, go-held}
-use Rattle.card.specs.Standing.{lent}
+use Rattle.card.specs.Holding.{lent}
 use lib.ListN.{length}
 use native.Mathlib.Omega.{arith}
 use mathlib.Core.Path.{_≡_, refl, _∙_}

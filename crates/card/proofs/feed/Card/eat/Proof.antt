@@ -1,5 +1,5 @@
 use Rattle.card.proofs.Turns.{ready}
-use Rattle.card.specs.Standing.{lent}
+use Rattle.card.specs.Holding.{lent}
 use mathlib.Core.Path.{refl, sym, _∙_}
 use borrow.Author.Needs.{needs}
 use Rattle.card.proofs.feed.Card.eat.Statement.{statement}

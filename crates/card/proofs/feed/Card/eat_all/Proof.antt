@@ -5,7 +5,7 @@ use Prim.Native.Nat.{_+_, _-_}
 use native.Mathlib.Omega.{arith}
 use borrow.Author.Needs.{needs}
 use lib.ListN.{length}
-use Rattle.card.specs.Standing.{lent, Areas}
+use Rattle.card.specs.Holding.{lent, Areas}
 use Rattle.card.proofs.Turns.{So, so-first, so-next, so-last, fewer}
 use Rattle.card.proofs.feed.Card.eat_all.Statement.{statement}
 use Rattle.card.proofs.feed.Card.eat_all.Tie as tie

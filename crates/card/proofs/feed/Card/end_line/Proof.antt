@@ -1,7 +1,7 @@
 use Prim.Native.Nat.{_≤_}
 use lib.ListN.{length}
 use mathlib.Core.Path.{_≡_}
-use Rattle.card.specs.Standing.{lent}
+use Rattle.card.specs.Holding.{lent}
 use Rattle.card.proofs.Held.{ends-line}
 use native.Mathlib.Omega.{arith}
 use borrow.Author.Needs.{needs}

@@ -1,5 +1,5 @@
 use Rattle.card.proofs.Turns.{ready}
-use Rattle.card.specs.Standing.{lent}
+use Rattle.card.specs.Holding.{lent}
 use Rattle.credit.specs.RangeLaws.{both}
 use borrow.Author.Tests.{leb-true, ltb-true}
 use mathlib.Core.Path.{refl}

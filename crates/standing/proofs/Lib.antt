@@ -1,0 +1,2 @@
+-- Laws that only proofs cite.
+mod Lines
