@@ -2,12 +2,12 @@ use borrow.Author.Needs.{needs}
 use mathlib.Core.Path.{_∙_}
 use Rattle.syntax.specs.Words.{bytes}
 use Rattle.syntax.specs.Lines.{callOf}
-use Rattle.reading.specs.Naming.{Beyond, call1From, placeOf, pick, find-at, find-rest, made1}
+use Rattle.reading.specs.Naming.{Beyond, call1From, placeNamed, standsAt, find-at, find-rest, made1}
 use Rattle.reading.proofs.lines.call1.Statement.{statement}
 use Rattle.reading.proofs.lines.call1.Tie as tie
 
 pub call1-spec : {M : Type 1} → statement M
-unfolding bytes Beyond placeOf pick callOf call1From
+unfolding bytes Beyond placeNamed standsAt callOf call1From
 call1-spec =
     tie.close
     (tie.spec

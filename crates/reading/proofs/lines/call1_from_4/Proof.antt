@@ -1,12 +1,12 @@
 use borrow.Author.Needs.{needs}
 use mathlib.Core.Path.{_∙_}
 use Rattle.syntax.specs.Words.{bytes}
-use Rattle.reading.specs.Naming.{Beyond, call1From, placeOf, pick, find-at, find-rest, made1}
+use Rattle.reading.specs.Naming.{Beyond, call1From, placeNamed, standsAt, find-at, find-rest, made1}
 use Rattle.reading.proofs.lines.call1_from_4.Statement.{statement}
 use Rattle.reading.proofs.lines.call1_from_4.Tie as tie
 
 pub call1-from-4-spec : {M : Type 1} → statement M
-unfolding bytes Beyond placeOf pick call1From
+unfolding bytes Beyond placeNamed standsAt call1From
 call1-from-4-spec =
     tie.close
     (tie.spec

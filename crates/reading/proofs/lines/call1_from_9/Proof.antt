@@ -1,12 +1,12 @@
 use borrow.Author.Needs.{needs}
 use mathlib.Core.Path.{refl, _∙_}
 use Rattle.syntax.specs.Words.{bytes}
-use Rattle.reading.specs.Naming.{Beyond, placeOf, pick, find-at, find-none, made1}
+use Rattle.reading.specs.Naming.{Beyond, placeNamed, standsAt, find-at, find-none, made1}
 use Rattle.reading.proofs.lines.call1_from_9.Statement.{statement}
 use Rattle.reading.proofs.lines.call1_from_9.Tie as tie
 
 pub call1-from-9-spec : {M : Type 1} → statement M
-unfolding bytes Beyond placeOf pick
+unfolding bytes Beyond placeNamed standsAt
 call1-from-9-spec =
     tie.close
     (tie.spec

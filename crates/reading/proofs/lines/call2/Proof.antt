@@ -6,7 +6,7 @@ use Prim.Native.Nat.{ℕ}
 use Rattle.calls.specs.Call.{Call}
 use Rattle.syntax.specs.Words.{bytes}
 use Rattle.syntax.specs.Lines.{on, find, calls2, callOf}
-use Rattle.reading.specs.Naming.{Beyond, placeOf, pick, find-at, find-none}
+use Rattle.reading.specs.Naming.{Beyond, placeNamed, standsAt, find-at, find-none}
 use Rattle.reading.proofs.lines.call2.Statement.{statement}
 use Rattle.reading.proofs.lines.call2.Tie as tie
 
@@ -15,7 +15,7 @@ unfolding callOf
 made name a b o h = ap (λ (o : Option (List ℕ → List ℕ → Option Call)). on o λ f. f a b) h
 
 pub call2-spec : {M : Type 1} → statement M
-unfolding bytes Beyond placeOf pick
+unfolding bytes Beyond placeNamed standsAt
 call2-spec =
     tie.close
     (tie.spec

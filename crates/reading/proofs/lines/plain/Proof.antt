@@ -1,12 +1,12 @@
 use borrow.Author.Needs.{needs}
 use mathlib.Core.Path.{_∙_}
 use Rattle.syntax.specs.Words.{bytes}
-use Rattle.reading.specs.Naming.{Beyond, placeOf, pick, find-at, find-rest}
+use Rattle.reading.specs.Naming.{Beyond, placeNamed, standsAt, find-at, find-rest}
 use Rattle.reading.proofs.lines.plain.Statement.{statement}
 use Rattle.reading.proofs.lines.plain.Tie as tie
 
 pub plain-spec : {M : Type 1} → statement M
-unfolding bytes Beyond placeOf pick
+unfolding bytes Beyond placeNamed standsAt
 plain-spec =
     tie.close
     (tie.spec

@@ -1,12 +1,12 @@
 use borrow.Author.Needs.{needs}
 use mathlib.Core.Path.{refl}
 use Rattle.syntax.specs.Words.{bytes}
-use Rattle.reading.specs.Naming.{Beyond, placeOf, pick, find-at, find-none}
+use Rattle.reading.specs.Naming.{Beyond, placeNamed, standsAt, find-at, find-none}
 use Rattle.reading.proofs.lines.plain_from_5.Statement.{statement}
 use Rattle.reading.proofs.lines.plain_from_5.Tie as tie
 
 pub plain-from-5-spec : {M : Type 1} → statement M
-unfolding bytes Beyond placeOf pick
+unfolding bytes Beyond placeNamed standsAt
 plain-from-5-spec =
     tie.close
     (tie.spec

@@ -5,7 +5,7 @@ use mathlib.Core.Path.{refl}
 use Prim.Native.Nat.{ℕ}
 use Rattle.syntax.specs.Lines.{digit}
 use Rattle.syntax.specs.Words.{bytes, named}
-use Rattle.reading.specs.Naming.{Beyond, placeOf, pick, named-at, named-none}
+use Rattle.reading.specs.Naming.{Beyond, placeNamed, standsAt, named-at, named-none}
 use Rattle.reading.proofs.words.flag.Statement.{statement}
 use Rattle.reading.proofs.words.flag.Tie as tie
 
@@ -14,7 +14,7 @@ name false = bytes "0"
 name true = bytes "1"
 
 pub flag-spec : {M : Type 1} → statement M
-unfolding bytes named digit Beyond placeOf pick
+unfolding bytes named digit Beyond placeNamed standsAt
 flag-spec =
     tie.close
     (tie.spec

@@ -1,11 +1,11 @@
 use borrow.Author.Needs.{needs}
 use mathlib.Core.Path.{_∙_, sym}
-use Rattle.reading.specs.Naming.{placeOf}
+use Rattle.reading.specs.Naming.{placeNamed}
 use Rattle.reading.proofs.words.place4.Statement.{statement}
 use Rattle.reading.proofs.words.place4.Tie as tie
 
 pub place4-spec : {M : Type 1} → statement M
-unfolding placeOf
+unfolding placeNamed
 place4-spec =
     tie.close
     (tie.spec

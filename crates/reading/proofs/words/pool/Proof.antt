@@ -1,12 +1,12 @@
 use borrow.Author.Needs.{needs}
 use mathlib.Core.Path.{refl}
 use Rattle.syntax.specs.Words.{bytes}
-use Rattle.reading.specs.Naming.{Beyond, placeOf, pick, named-at, named-none}
+use Rattle.reading.specs.Naming.{Beyond, placeNamed, standsAt, named-at, named-none}
 use Rattle.reading.proofs.words.pool.Statement.{statement}
 use Rattle.reading.proofs.words.pool.Tie as tie
 
 pub pool-spec : {M : Type 1} → statement M
-unfolding bytes Beyond placeOf pick
+unfolding bytes Beyond placeNamed standsAt
 pool-spec =
     tie.close
     (tie.spec
