@@ -1,5 +1,6 @@
 -- The runner's calls after open, and what they answer: 01's words, numbers and values. Nothing here knows the runner.
-use mathlib.Core.Bool.{Bool, true, false}
+use mathlib.Core.Bool.{Bool, true, false, false≢true}
+use mathlib.Core.Path.{_≡_, refl}
 use mathlib.Core.List.{List}
 use mathlib.Core.Option.{Option, none, some}
 use Prim.Native.Nat.{ℕ}
@@ -138,6 +139,24 @@ isRefused (Says m) = false
 isRefused (IsKey k) = false
 isRefused (AreLimits l) = false
 isRefused Nothing = false
+
+-- and nothing else is
+pub refused-is : (a : Answer) → isRefused a ≡ true → (n : ℕ) × (a ≡ Refused n)
+refused-is Ok e = absurd (false≢true e)
+refused-is Applied e = absurd (false≢true e)
+refused-is Stale e = absurd (false≢true e)
+refused-is Late e = absurd (false≢true e)
+refused-is (Refused n) e = (n, refl)
+refused-is (Taken n) e = absurd (false≢true e)
+refused-is (Pending b) e = absurd (false≢true e)
+refused-is (Value n) e = absurd (false≢true e)
+refused-is (Time d) e = absurd (false≢true e)
+refused-is (Truth b) e = absurd (false≢true e)
+refused-is (Asks r) e = absurd (false≢true e)
+refused-is (Says m) e = absurd (false≢true e)
+refused-is (IsKey k) e = absurd (false≢true e)
+refused-is (AreLimits l) e = absurd (false≢true e)
+refused-is Nothing e = absurd (false≢true e)
 
 -- a call that was made, with its answer
 pub record Done : Type 0 where

@@ -1,4 +1,4 @@
--- The session card: its words, its lines, its answers, a session that is fed bytes, the calls that it makes, and 01's table.
+-- The session card: a session that is fed bytes, the calls that it makes, and lines by where it stands.
 pub mod Feed
 pub mod Calls
 pub mod Table

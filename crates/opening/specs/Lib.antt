@@ -2,3 +2,4 @@
 pub mod Open
 pub mod Meaning
 pub mod PlaceLaws
+pub mod Table
