@@ -2,7 +2,7 @@
 -- reports both streams untruncated. So what `Turn` asks can be met, and what it says is not empty. The runner and the stores are
 -- those of the session of 01's card.
 use mathlib.Core.Bool.{true, false}
-use mathlib.Core.Path.{_≡_, refl, ap, _∙_}
+use mathlib.Core.Path.{_≡_, refl, sym, ap, _∙_}
 use mathlib.Core.List.{List, [], _∷_, _++_, map}
 use Prim.Native.Nat.{ℕ, _≤_}
 use lib.IntN.{pos}
@@ -31,12 +31,13 @@ use Rattle.account.specs.Call.{Call}
 use Rattle.account.specs.Claim.{isTerminal}
 use Rattle.account.specs.Records.{Entry, call, nextEntry, answerEntry, runEntries, made}
 use Rattle.account.specs.Step as Step
-use Rattle.account.specs.TurnClaim.{Has, closing, answerAfter, tallied}
+use Rattle.account.specs.TurnClaim.{Has, closing, answerAfter, takenIn, sentIn}
 use Rattle.account.proofs.Plain.{said, next, answer, begun, afterAll}
 use Rattle.account.proofs.Lists.{plainOf}
 use Rattle.account.proofs.Demand.{same-answer, same-account as plain-account}
 use Rattle.account.proofs.Records.{same-account}
 use Rattle.account.proofs.Session.{conf, message, open-ok, named-four}
+use Rattle.account.proofs.Told.{tallied, taken-told}
 use Rattle.account.proofs.Turn.{turn}
 
 -- seven bytes of stdout through a ring of four; then the program closes both streams and exits
@@ -101,22 +102,23 @@ module _ (bytes lengths : List ℕ) (h : 16 ≤ length bytes) where
   unfolding answerEntry nextEntry
   terminal = same-answer conf 0 bytes lengths (open-ok bytes lengths h) calls message ∙ plain bytes lengths h .0
 
-  -- its account is not empty
-  pub account-is : tallied conf 0 bytes lengths entries Stdout ≡ rows
+  account-is : tallied conf 0 bytes lengths entries Stdout ≡ rows
   unfolding made
   account-is =
       ap (tallyOf Stdout) (same-account conf 0 bytes lengths (open-ok bytes lengths h) entries ∙ plain-account conf 0 bytes lengths (open-ok bytes lengths h) calls)
       ∙ plain bytes lengths h .1
 
-  -- and the turn speaks of it
-  pub all-sent : tallied conf 0 bytes lengths entries Stdout .sent ≡ tallied conf 0 bytes lengths entries Stdout .taken
-  all-sent = turn conf 0 bytes lengths (open-ok bytes lengths h) .rows entries (call message) complete Stdout terminal refl
+  -- the bytes taken of it are these
+  pub taken-is : takenIn Stdout (runEntries (Step.opened conf 0 bytes lengths) entries) ≡ rows .taken
+  taken-is = sym (taken-told conf 0 bytes lengths (open-ok bytes lengths h) entries Stdout) ∙ ap (λ (t : Tally). t .taken) account-is
+
+  -- and the turn speaks of it: these were sent
+  pub all-sent : sentIn Stdout (runEntries (Step.opened conf 0 bytes lengths) entries) ≡ rows .taken
+  all-sent = turn conf 0 bytes lengths (open-ok bytes lengths h) .rows entries (call message) complete Stdout terminal refl ∙ taken-is
 
   pub program-closed : Has (closing Stdout) (runEntries (Step.opened conf 0 bytes lengths) entries)
   program-closed = turn conf 0 bytes lengths (open-ok bytes lengths h) .own entries (call message) complete Stdout terminal refl
 
   -- whatever comes after
-  pub stays : (ds : List Entry) → tallied conf 0 bytes lengths (entries ++ (call message ∷ ds)) Stdout .taken ≡ rows .taken
-  stays ds =
-      turn conf 0 bytes lengths (open-ok bytes lengths h) .final entries (call message) ds Stdout (ap isTerminal terminal) .0
-      ∙ ap (λ (t : Tally). t .taken) account-is
+  pub stays : (ds : List Entry) → takenIn Stdout (runEntries (Step.opened conf 0 bytes lengths) (entries ++ (call message ∷ ds))) ≡ rows .taken
+  stays ds = turn conf 0 bytes lengths (open-ok bytes lengths h) .final entries (call message) ds Stdout (ap isTerminal terminal) .0 ∙ taken-is
