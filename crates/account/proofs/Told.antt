@@ -11,7 +11,6 @@ use Rattle.runner.specs.declared.message.Choice.{Choice}
 use Rattle.runner.specs.declared.message.Choice.the-variants as Choice
 use Rattle.runner.specs.declared.runner.Runner.{Runner}
 use Rattle.runner.specs.Message.{choose, payload}
-use Rattle.runner.specs.Streams.{outputTaken}
 use Rattle.channel.specs.declared.codec.Parsed.{Parsed}
 use Rattle.channel.specs.declared.codec.Parsed.the-variants as Parsed
 use Rattle.channel.specs.declared.codec.Record.the-variants as Record
@@ -162,7 +161,7 @@ unfolding answer
 plain-told c s z = go c (offers c) (kind c s)
   where
     go : (c : Call) → Offers c → Kind s c → Tells z c (answer s c)
-    go c (gives y b) k = output-told y b (outputTaken (s .runner) y (length b)) z
+    go c (gives y b) k = output-told y b _ z
     go c (silent o) (quiet q) = quiet-told c (answer s c) z o q
     go c (silent o) (speaks b) = said-told (choose (s .runner) (length b)) b (s .runner) (s .bytes) z
 
