@@ -17,10 +17,10 @@ use Rattle.channel.specs.declared.codec.Record.the-variants as Record
 use Rattle.channel.specs.Calls.{isChannel}
 use Rattle.channel.specs.Codec.{read}
 use Rattle.account.specs.Call as Call
-use Rattle.account.specs.Call.{Conf, Call, Answer}
+use Rattle.account.specs.Call.{Conf, Call, Answer, count}
 use Rattle.account.specs.Step as Step
 use Rattle.account.specs.Step.{State}
-use Rattle.account.specs.Account.{Account, Tally, none as untold, takenBy, sentBy, add, adds, account, start, tallyOf, count}
+use Rattle.account.specs.Account.{Account, Tally, none as untold, takenBy, sentBy, add, adds, account, start, tallyOf}
 use Rattle.account.specs.Claim.{Opens, isMessage}
 use Rattle.account.specs.Records.{Entry, EntryDone, call, readRecord, writeRecord, nextEntry, answerEntry, callOf, roomy, made, donesOf, runEntries, entryAccount}
 use Rattle.account.specs.TurnClaim.{offered, offeredIn, carried, takenIn, sentIn}

@@ -36,10 +36,10 @@ use Rattle.channel.specs.declared.codec.Record.the-variants as Record
 use Rattle.channel.specs.Calls.{isChannel}
 use Rattle.channel.specs.Codec.{read}
 use Rattle.account.specs.Call as Call
-use Rattle.account.specs.Call.{Conf, Call, Answer, Done}
+use Rattle.account.specs.Call.{Conf, Call, Answer, Done, count}
 use Rattle.account.specs.Step as Step
 use Rattle.account.specs.Step.{State}
-use Rattle.account.specs.Account.{Account, Replay, Tally, add, account, start, tallyOf, cut, count}
+use Rattle.account.specs.Account.{Account, Replay, Tally, add, account, start, tallyOf, cut}
 use Rattle.account.specs.Claim.{Opens, IsPrefix, isMessage, isTerminal}
 use Rattle.account.specs.Records.{Entry, EntryDone, call, readRecord, writeRecord, callOf, roomy, made, callsOf, consCall, consDone, donesOf, runEntries, entryAccount, Whole}
 use Rattle.account.specs.TurnClaim.{Has, closing, answerAfter, Turn}

@@ -13,9 +13,8 @@ use Rattle.exec.specs.declared.Stream.{Stream}
 use Rattle.exec.specs.Outcome.{isTruncated}
 use Rattle.exec.specs.Stream.{sameStream}
 use Rattle.account.specs.Call as Call
-use Rattle.account.specs.Call.{Conf, Call, Answer, Message}
+use Rattle.account.specs.Call.{Conf, Call, Answer, Message, count}
 use Rattle.account.specs.Step.{opened}
-use Rattle.account.specs.Account.{count}
 use Rattle.account.specs.Claim.{isTerminal}
 use Rattle.account.specs.Records.{Entry, EntryDone, call, readRecord, writeRecord, answerEntry, afterEntries, runEntries}
 
