@@ -13,9 +13,9 @@ use Rattle.exec.specs.Each.{Each, one, both}
 use Rattle.exec.specs.Key.{admits}
 use Rattle.exec.specs.Time.{due}
 use Rattle.calls.specs.Call as Call
-use Rattle.calls.specs.Call.{Call, Answer, Message, isRefused}
+use Rattle.calls.specs.Call.{Call, Answer, Message, isRefused, count}
 use Rattle.account.specs.Account
-use Rattle.account.specs.Account.{Account, Replay, Tally, mk, marked, markedUnless, takenBy, sentBy, tallyOf, count, heard, hear, adds, add}
+use Rattle.account.specs.Account.{Account, Replay, Tally, mk, marked, markedUnless, takenBy, sentBy, tallyOf, heard, hear, adds, add}
 use Rattle.account.proofs.Sides.{one-both, one-per, on-each, on-two}
 use Rattle.account.proofs.Flags.{either}
 

@@ -25,6 +25,7 @@ pub mod Session
 pub mod Tight
 pub mod InputFifo
 pub mod Records
+pub mod Told
 pub mod Spared
 pub mod Turn
 pub mod Refused

@@ -21,10 +21,10 @@ use Rattle.runner.specs.Range as Range
 use Rattle.stdio.specs.Outputs.{allDelivered}
 use Rattle.runner.specs.State.{outOf, base}
 use Rattle.calls.specs.Call as Call
-use Rattle.calls.specs.Call.{Conf, Call, Answer}
+use Rattle.calls.specs.Call.{Conf, Call, Answer, count}
 use Rattle.account.specs.Step.{State}
 use Rattle.account.specs.Account
-use Rattle.account.specs.Account.{Replay, Tally, add, account, start, tallyOf, cut, count}
+use Rattle.account.specs.Account.{Replay, Tally, add, account, start, tallyOf, cut}
 use Rattle.account.specs.Claim.{IsPrefix, isMessage, isTerminal, Silent}
 use Rattle.account.proofs.Plain.{next, answer, afterAll, run, begun}
 use Rattle.account.proofs.Streams.{Good, cut-is}

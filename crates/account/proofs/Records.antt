@@ -299,6 +299,11 @@ unfolding Does
 terminal-made none s after a d h = absurd (false≢true (sym (ap isTerminal (d .answered)) ∙ h))
 terminal-made (some c) s after a d h = (c, d .0, d .1, refl)
 
+-- and an entry that makes a call is answered as it
+pub made-answer : (m : Option Call) (c : Call) (s after : State) (a : Answer) → m ≡ some c → Does m s after a → a ≡ Step.answer s c
+unfolding Does
+made-answer m c s after a e d = let q : Does (some c) s after a = rw e at d in q .1
+
 unmade-as : (m : Option Call) (s after : State) (a : Answer) → m ≡ none → Does m s after a → (after ≡ s) × ((n : ℕ) × (a ≡ Call.Refused n))
 unfolding Does
 unmade-as m s after a e d = let u : Unmade s after a = rw e at d in (u .kept, (u .refusal, u .answered))
@@ -336,10 +341,10 @@ module _ (conf : Conf) (now : ℕ) (bytes lengths : List ℕ) (op : Opens conf n
       subst⁻¹ (Good conf) (open-same conf now bytes lengths op)
       (record { fine = fine-open conf now bytes lengths (lent (conf .limits) bytes lengths (opens-by conf now bytes lengths op)); same = refl })
 
-  good-at : (es : List Entry) → Good conf (afterEntries (Step.opened conf now bytes lengths) es)
+  pub good-at : (es : List Entry) → Good conf (afterEntries (Step.opened conf now bytes lengths) es)
   good-at es = good-list conf es (Step.opened conf now bytes lengths) good-open
 
-  to-calls : (es : List Entry) → afterEntries (Step.opened conf now bytes lengths) es ≡ Step.after (Step.opened conf now bytes lengths) (callsOf conf es)
+  pub to-calls : (es : List Entry) → afterEntries (Step.opened conf now bytes lengths) es ≡ Step.after (Step.opened conf now bytes lengths) (callsOf conf es)
   to-calls es = same-after conf es (Step.opened conf now bytes lengths) good-open
 
   -- THE LIST WITH RECORDS HAS THE ACCOUNT OF THE LIST OF ITS CALLS

@@ -1,5 +1,5 @@
 -- Refusals change nothing: by 12, 10 and 11 the guard gives back what it was given, and behind it only credit, input, end_input
--- and cancel refuse; of the records' own refusals `Records` tells.
+-- and cancel refuse, and only these answer Stale; of the records' own refusals `Records` tells.
 use mathlib.Core.Bool.{Bool, true, false, cond, not, _&&_, _||_, false≢true}
 use mathlib.Core.Path.{_≡_, refl, sym, ap, _∙_, subst}
 use mathlib.Core.List.{List, [], _∷_}
@@ -47,7 +47,7 @@ use Rattle.runner.specs.Streams as Streams
 use Rattle.channel.specs.Calls as Channel
 use Rattle.channel.specs.Calls.{WriteAfter, isChannel, admitted, admittedRead, admittedWrite, roomyWrite, sent, told, wrote, hasEnded}
 use Rattle.calls.specs.Call as Call
-use Rattle.calls.specs.Call.{Call, Answer}
+use Rattle.calls.specs.Call.{Call, Answer, isRefused}
 use Rattle.account.specs.Step as Step
 use Rattle.account.specs.Step.{State, onRunner, receivedAs, asks, waits}
 use Rattle.account.specs.Records.{Entry, call, readRecord, writeRecord, nextEntry, wroteAs, answerEntry}
@@ -60,30 +60,30 @@ use Rattle.account.proofs.Records.{Does, admitted-so, read-by, write-by
 
 -- ---- what is to be shown of a call that leaves the state t and has the answer a
 
--- of a refusal's number
-abbrev IfRefused : (ℕ → Type 0) → Answer → Type 0
-IfRefused P Call.Ok = Unit
-IfRefused P Call.Applied = Unit
-IfRefused P Call.Stale = Unit
-IfRefused P Call.Late = Unit
-IfRefused P (Call.Refused n) = P n
-IfRefused P (Call.Taken n) = Unit
-IfRefused P (Call.Pending b) = Unit
-IfRefused P (Call.Value n) = Unit
-IfRefused P (Call.Time d) = Unit
-IfRefused P (Call.Truth b) = Unit
-IfRefused P (Call.Asks r) = Unit
-IfRefused P (Call.Says m) = Unit
-IfRefused P (Call.IsKey k) = Unit
-IfRefused P (Call.AreLimits l) = Unit
-IfRefused P Call.Nothing = Unit
+-- of Stale, and of a refusal's number
+abbrev IfRefused : (stale : Type 0) → (ℕ → Type 0) → Answer → Type 0
+IfRefused Q P Call.Ok = Unit
+IfRefused Q P Call.Applied = Unit
+IfRefused Q P Call.Stale = Q
+IfRefused Q P Call.Late = Unit
+IfRefused Q P (Call.Refused n) = P n
+IfRefused Q P (Call.Taken n) = Unit
+IfRefused Q P (Call.Pending b) = Unit
+IfRefused Q P (Call.Value n) = Unit
+IfRefused Q P (Call.Time d) = Unit
+IfRefused Q P (Call.Truth b) = Unit
+IfRefused Q P (Call.Asks r) = Unit
+IfRefused Q P (Call.Says m) = Unit
+IfRefused Q P (Call.IsKey k) = Unit
+IfRefused Q P (Call.AreLimits l) = Unit
+IfRefused Q P Call.Nothing = Unit
 
 record Kept (s t : State) (n : ℕ) : Type 0 where
   same : t ≡ s
   known : among n ofCalls ≡ true
 
 abbrev Safe : (s t : State) → Answer → Type 0
-Safe s t a = IfRefused (Kept s t) a
+Safe s t a = IfRefused (t ≡ s) (Kept s t) a
 
 -- ---- refused by 12, 10 or 11
 
@@ -178,7 +178,7 @@ credit-safe s k p u =
     (pool-by (CreditSafe s u Admission.Own) (record { same = refl; known = refl })
     (λ i. granted s (putCredit i (grant (creditAt i cs) u .credit) cs) (s .runner .flags .finished) (grantable (creditAt i cs) u))
     (s .runner .limits .shared) p)
-    tt (record { same = refl; known = refl }) (s .runner .key) k
+    refl (record { same = refl; known = refl }) (s .runner .key) k
 
 late-safe : (s t : State) (late : Bool) → Safe s t (receivedAs (cond late (Received.Receipt Receipt.Late) (Received.Receipt Receipt.Applied)))
 late-safe s t true = tt
@@ -245,7 +245,7 @@ input-own s b =
 input-safe : (s : State) (k : Key) (b : List ℕ) → InputSafe s b (admits (s .runner .key) k)
 unfolding Streams.inputAnswer Streams.inputNext Streams.inputStore Streams.inputLengths
 input-safe s k b =
-    admits-by (InputSafe s b) (input-own s b) tt (record { same = refl; known = refl }) (s .runner .key) k
+    admits-by (InputSafe s b) (input-own s b) refl (record { same = refl; known = refl }) (s .runner .key) k
 
 -- end_input by 6: the input is kept
 ended : (over finished : Bool) (s : State) (i : Input)
@@ -260,7 +260,7 @@ end-safe : (s : State) (k : Key)
 unfolding Streams.endNext Streams.endAnswer Input.endInput Input.endAnswer
 end-safe s k =
     admits-by (λ a. Safe s (onRunner (Streams.endNext a (s .runner)) s) (receivedAs (Streams.endAnswer a (s .runner))))
-    (ended (s .runner .input .«peer_ended») (s .runner .flags .finished) s _) tt (record { same = refl; known = refl }) (s .runner .key) k
+    (ended (s .runner .input .«peer_ended») (s .runner .flags .finished) s _) refl (record { same = refl; known = refl }) (s .runner .key) k
 
 -- cancel is refused by its key alone
 cancel-safe : (s : State) (now : ℕ) (k : Key) (c : Cause)
@@ -268,7 +268,7 @@ cancel-safe : (s : State) (now : ℕ) (k : Key) (c : Cause)
 unfolding cancelNext cancelAnswer
 cancel-safe s now k c =
     admits-by (λ a. Safe s (onRunner (cancelNext a (s .runner) now c) s) (receivedAs (cancelAnswer a (s .runner) now)))
-    (late-safe s _ (isLate (ticked (s .runner) now))) tt (record { same = refl; known = refl }) (s .runner .key) k
+    (late-safe s _ (isLate (ticked (s .runner) now))) refl (record { same = refl; known = refl }) (s .runner .key) k
 
 -- ---- every call
 
@@ -279,15 +279,15 @@ wish-safe s t (Wish.Request (Request.Discard x)) = tt
 wish-safe s t (Wish.Request Request.CloseInput) = tt
 wish-safe s t (Wish.Request Request.Settle) = tt
 
-said-safe : (P : ℕ → Type 0) (m : Choice) (r : Runner) (bytes : List ℕ) → IfRefused P (said m r bytes)
+said-safe : (Q : Type 0) (P : ℕ → Type 0) (m : Choice) (r : Runner) (bytes : List ℕ) → IfRefused Q P (said m r bytes)
 unfolding said
-said-safe P Choice.None r bytes = tt
-said-safe P Choice.Credit r bytes = tt
-said-safe P Choice.Started r bytes = tt
-said-safe P Choice.InputClosed r bytes = tt
-said-safe P (Choice.End x) r bytes = tt
-said-safe P (Choice.Output x n) r bytes = tt
-said-safe P Choice.Terminal r bytes = tt
+said-safe Q P Choice.None r bytes = tt
+said-safe Q P Choice.Credit r bytes = tt
+said-safe Q P Choice.Started r bytes = tt
+said-safe Q P Choice.InputClosed r bytes = tt
+said-safe Q P (Choice.End x) r bytes = tt
+said-safe Q P (Choice.Output x n) r bytes = tt
+said-safe Q P Choice.Terminal r bytes = tt
 
 plain-safe : (s : State) (c : Call) → Safe s (Plain.next s c) (Plain.answer s c)
 unfolding Plain.next Plain.answer
@@ -315,7 +315,7 @@ plain-safe s (Call.disconnect now) = tt
 plain-safe s (Call.tick now) = tt
 plain-safe s Call.deadline = tt
 plain-safe s Call.nextRequest = wish-safe s _ (wish (s .runner))
-plain-safe s (Call.nextMessage buffer) = said-safe _ (choose (s .runner) (length buffer)) (s .runner) (s .bytes)
+plain-safe s (Call.nextMessage buffer) = said-safe _ _ (choose (s .runner) (length buffer)) (s .runner) (s .bytes)
 plain-safe s Call.isFinished = tt
 plain-safe s Call.isDetached = tt
 plain-safe s Call.awaitsSettlement = tt
@@ -332,7 +332,10 @@ safe : (s : State) (c : Call) → Safe s (Step.next s c) (Step.answer s c)
 safe s c = safe-by (stop (s .runner) (Plain.enough s c)) s c refl
 
 refused : (s : State) (c : Call) (n : ℕ) → Step.answer s c ≡ Call.Refused n → Kept s (Step.next s c) n
-refused s c n e = subst (IfRefused (Kept s (Step.next s c))) e (safe s c)
+refused s c n e = subst (Safe s (Step.next s c)) e (safe s c)
+
+stale : (s : State) (c : Call) → Step.answer s c ≡ Call.Stale → Step.next s c ≡ s
+stale s c e = subst (Safe s (Step.next s c)) e (safe s c)
 
 -- ---- a record
 
@@ -353,44 +356,58 @@ does-kept none s t a n d e =
 does-kept (some c) s t a n d e =
     let k = refused s c n (sym (d .1) ∙ e) in record { same = d .0 ∙ k .same; known = rw (k .known) refl }
 
+does-stale : (m : Option Call) (s t : State) (a : Answer) → Does m s t a → a ≡ Call.Stale → t ≡ s
+unfolding Does
+does-stale none s t a d e = absurd (false≢true (sym (ap isRefused e) ∙ ap isRefused (d .answered)))
+does-stale (some c) s t a d e = d .0 ∙ stale s c (sym (d .1) ∙ e)
+
 -- refused by 12, 10 or 11
-stop-kept : (s t : State) (stores : Bool) (x : Refusal) (n : ℕ) → stop (s .runner) stores ≡ Reply.Refused x → t ≡ s
-    → Call.Refused (number x) ≡ Call.Refused n → KeptBy s t n
-stop-kept s t stores x n g k e =
-    let m : number x ≡ n = cc in record { same = k; known = rw (← m) (rw (stop-known (s .runner) stores x g .0) refl) }
+stop-kept : (s : State) (stores : Bool) (x : Refusal) (n : ℕ) → stop (s .runner) stores ≡ Reply.Refused x → Call.Refused (number x) ≡ Call.Refused n → KeptBy s s n
+stop-kept s stores x n g e =
+    let m : number x ≡ n = cc in record { same = refl; known = rw (← m) (rw (stop-known (s .runner) stores x g .0) refl) }
 
 admitted-not : (r : Runner) (stores : Bool) (x : Refusal) → stop r stores ≡ Reply.Refused x → admitted r stores ≡ Reply.Refused x
 unfolding admitted
 admitted-not r stores x g = rw g refl
 
-read-kept : (met : Reply) (s : State) (now channel : ℕ) (b : List ℕ) (n : ℕ) → stop (s .runner) (storesDo (s .runner) (s .bytes) (s .lengths)) ≡ met
-    → answerEntry s (readRecord now channel b) ≡ Call.Refused n → KeptBy s (nextEntry s (readRecord now channel b)) n
-unfolding nextEntry answerEntry Channel.readRecord admittedRead
-read-kept Reply.Ok s now channel b n g e =
-    let a = admitted-so (s .runner) (storesDo (s .runner) (s .bytes) (s .lengths)) g in
-    rw a (does-kept _ s _ _ n (read-by (isChannel (s .runner .limits)) s now channel b) (rw a at e))
-read-kept (Reply.Refused x) s now channel b n g e =
-    let a = admitted-not (s .runner) (storesDo (s .runner) (s .bytes) (s .lengths)) x g in rw a (stop-kept s s _ x n g refl (rw a at e))
+-- what is so of an entry that does what its call does, and of one that is refused by 12, 10 or 11, is so of every entry
+module _ (s : State) (C : State → Answer → Type 0) (made : (m : Option Call) (t : State) (a : Answer) → Does m s t a → C t a)
+    (stops : (stores : Bool) (x : Refusal) → stop (s .runner) stores ≡ Reply.Refused x → C s (Call.Refused (number x))) where
+  read-so : (met : Reply) (now channel : ℕ) (b : List ℕ) → stop (s .runner) (storesDo (s .runner) (s .bytes) (s .lengths)) ≡ met
+      → C (nextEntry s (readRecord now channel b)) (answerEntry s (readRecord now channel b))
+  unfolding nextEntry answerEntry Channel.readRecord admittedRead
+  read-so Reply.Ok now channel b g =
+      rw (admitted-so (s .runner) (storesDo (s .runner) (s .bytes) (s .lengths)) g) (made _ _ _ (read-by (isChannel (s .runner .limits)) s now channel b))
+  read-so (Reply.Refused x) now channel b g =
+      rw (admitted-not (s .runner) (storesDo (s .runner) (s .bytes) (s .lengths)) x g) (stops _ x g)
 
-write-kept : (met : Reply) (s : State) (channel : ℕ) (buffer : List ℕ) (n : ℕ) → stop (s .runner) (bytesDo (s .runner .limits) (s .bytes)) ≡ met
-    → answerEntry s (writeRecord channel buffer) ≡ Call.Refused n → KeptBy s (nextEntry s (writeRecord channel buffer)) n
-unfolding nextEntry answerEntry Channel.writeRecord admittedWrite
-write-kept Reply.Ok s channel buffer n g e =
-    let a = admitted-so (s .runner) (bytesDo (s .runner .limits) (s .bytes)) g in
-    rw a (does-kept _ s _ _ n (write-by (isChannel (s .runner .limits)) (leb (13 + s .runner .limits .chunk) (length buffer)) s channel buffer g refl) (rw a at e))
-write-kept (Reply.Refused x) s channel buffer n g e =
-    let a = admitted-not (s .runner) (bytesDo (s .runner .limits) (s .bytes)) x g in rw a (stop-kept s s _ x n g refl (rw a at e))
+  write-so : (met : Reply) (channel : ℕ) (buffer : List ℕ) → stop (s .runner) (bytesDo (s .runner .limits) (s .bytes)) ≡ met
+      → C (nextEntry s (writeRecord channel buffer)) (answerEntry s (writeRecord channel buffer))
+  unfolding nextEntry answerEntry Channel.writeRecord admittedWrite
+  write-so Reply.Ok channel buffer g =
+      rw (admitted-so (s .runner) (bytesDo (s .runner .limits) (s .bytes)) g)
+      (made _ _ _ (write-by (isChannel (s .runner .limits)) (leb (13 + s .runner .limits .chunk) (length buffer)) s channel buffer g refl))
+  write-so (Reply.Refused x) channel buffer g =
+      rw (admitted-not (s .runner) (bytesDo (s .runner .limits) (s .bytes)) x g) (stops _ x g)
+
+  entry-so : (e : Entry) → C (nextEntry s e) (answerEntry s e)
+  unfolding nextEntry answerEntry Does
+  entry-so (call c) = made (some c) (Step.next s c) (Step.answer s c) (refl, refl)
+  entry-so (readRecord now channel b) = read-so (stop (s .runner) (storesDo (s .runner) (s .bytes) (s .lengths))) now channel b refl
+  entry-so (writeRecord channel buffer) = write-so (stop (s .runner) (bytesDo (s .runner .limits) (s .bytes))) channel buffer refl
 
 kept : (s : State) (e : Entry) (n : ℕ) → answerEntry s e ≡ Call.Refused n → KeptBy s (nextEntry s e) n
-unfolding nextEntry answerEntry
-kept s (call c) n e = let k = refused s c n e in record { same = k .same; known = rw (k .known) refl }
-kept s (readRecord now channel b) n e = read-kept (stop (s .runner) (storesDo (s .runner) (s .bytes) (s .lengths))) s now channel b n refl e
-kept s (writeRecord channel buffer) n e = write-kept (stop (s .runner) (bytesDo (s .runner .limits) (s .bytes))) s channel buffer n refl e
+kept s e n =
+    entry-so s (λ (t : State) (a : Answer). a ≡ Call.Refused n → KeptBy s t n) (λ m t a d. does-kept m s t a n d) (λ stores x g. stop-kept s stores x n g) e
+
+stale-entry : (s : State) (e : Entry) → answerEntry s e ≡ Call.Stale → nextEntry s e ≡ s
+stale-entry s e =
+    entry-so s (λ (t : State) (a : Answer). a ≡ Call.Stale → t ≡ s) (λ m t a d. does-stale m s t a d) (λ stores x g h. refl) e
 
 -- ---- the buffers
 
 -- what is said behind the guard is no refusal
-said-told : (P : ℕ → Type 0) (ended : Bool) (m : Choice) (r : Runner) (buffer : List ℕ) → IfRefused P (wroteAs (wrote ended (saidFor m r)) buffer)
+said-told : (P : ℕ → Type 0) (ended : Bool) (m : Choice) (r : Runner) (buffer : List ℕ) → IfRefused Unit P (wroteAs (wrote ended (saidFor m r)) buffer)
 unfolding saidFor wrote
 said-told P ended Choice.None r buffer = tt
 said-told P ended Choice.Credit r buffer = tt
@@ -401,14 +418,14 @@ said-told P ended (Choice.Output x n) r buffer = tt
 said-told P ended Choice.Terminal r buffer = tt
 
 message-buffer : (met : Reply) (s : State) (buffer : List ℕ) → stop (s .runner) (bytesDo (s .runner .limits) (s .bytes)) ≡ met
-    → IfRefused (λ n. Calls.nextMessage (s .runner) (s .bytes) buffer .buffer ≡ buffer) (Step.answer s (Call.nextMessage buffer))
+    → IfRefused Unit (λ n. Calls.nextMessage (s .runner) (s .bytes) buffer .buffer ≡ buffer) (Step.answer s (Call.nextMessage buffer))
 unfolding Calls.nextMessage Plain.enough Plain.answer
 message-buffer Reply.Ok s buffer g =
-    rw (answer-is s (Call.nextMessage buffer) g) (said-safe _ (choose (s .runner) (length buffer)) (s .runner) (s .bytes))
+    rw (answer-is s (Call.nextMessage buffer) g) (said-safe _ _ (choose (s .runner) (length buffer)) (s .runner) (s .bytes))
 message-buffer (Reply.Refused x) s buffer g = rw (stopped s (Call.nextMessage buffer) x g .1) (rw g refl)
 
 abbrev BufferSafe : WriteAfter → List ℕ → Type 0
-BufferSafe w buffer = IfRefused (λ n. w .buffer ≡ buffer) (wroteAs (w .writing .wrote) (w .buffer))
+BufferSafe w buffer = IfRefused Unit (λ n. w .buffer ≡ buffer) (wroteAs (w .writing .wrote) (w .buffer))
 
 write-buffer : (channels room : Bool) (s : State) (channel : ℕ) (buffer : List ℕ) → stop (s .runner) (bytesDo (s .runner .limits) (s .bytes)) ≡ Reply.Ok
     → leb (13 + s .runner .limits .chunk) (length buffer) ≡ room
@@ -433,12 +450,14 @@ unfolding answerEntry
 refusals = record {
   call-kept = λ s c n e. refused s c n e .same;
   message-kept = λ s buffer n e.
-      subst (IfRefused (λ m. Calls.nextMessage (s .runner) (s .bytes) buffer .buffer ≡ buffer)) e
+      subst (IfRefused Unit (λ m. Calls.nextMessage (s .runner) (s .bytes) buffer .buffer ≡ buffer)) e
       (message-buffer (stop (s .runner) (bytesDo (s .runner .limits) (s .bytes))) s buffer refl);
   call-number = λ s c n e. refused s c n e .known;
   entry-kept = λ s e n a. kept s e n a .same;
   buffer-kept = λ s channel buffer n e.
-      subst (IfRefused (λ m. Channel.writeRecord (s .runner) channel (s .bytes) buffer .buffer ≡ buffer)) e
+      subst (IfRefused Unit (λ m. Channel.writeRecord (s .runner) channel (s .bytes) buffer .buffer ≡ buffer)) e
       (record-buffer (stop (s .runner) (bytesDo (s .runner .limits) (s .bytes))) s channel buffer refl);
   entry-number = λ s e n a. kept s e n a .known;
+  stale-kept = stale;
+  stale-read = stale-entry;
 }

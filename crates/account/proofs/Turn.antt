@@ -7,7 +7,7 @@ use mathlib.Core.Option.{Option, none, some}
 use Prim.Native.Nat.{ℕ, _+_, _≤_}
 use native.Mathlib.Omega.{arith}
 use lib.Dec.{ltb}
-use lib.ListN.{length, take, length-append}
+use lib.ListN.{length, length-append}
 use borrow.Author.Tests.{ltb-false}
 use Rattle.exec.specs.declared.Admission.{Admission}
 use Rattle.exec.specs.declared.Admission.the-variants as Admission
@@ -36,13 +36,13 @@ use Rattle.channel.specs.declared.codec.Record.the-variants as Record
 use Rattle.channel.specs.Calls.{isChannel}
 use Rattle.channel.specs.Codec.{read}
 use Rattle.calls.specs.Call as Call
-use Rattle.calls.specs.Call.{Conf, Call, Answer, Done}
+use Rattle.calls.specs.Call.{Conf, Call, Answer, Done, count}
 use Rattle.account.specs.Step as Step
 use Rattle.account.specs.Step.{State}
-use Rattle.account.specs.Account.{Account, Replay, Tally, add, account, start, tallyOf, cut, count}
+use Rattle.account.specs.Account.{Account, Replay, Tally, add, account, start, tallyOf, cut}
 use Rattle.account.specs.Claim.{Opens, IsPrefix, isMessage, isTerminal}
 use Rattle.account.specs.Records.{Entry, EntryDone, call, readRecord, writeRecord, callOf, roomy, made, callsOf, consCall, consDone, donesOf, runEntries, entryAccount, Whole}
-use Rattle.account.specs.TurnClaim.{Has, closing, answerAfter, tallied, Turn}
+use Rattle.account.specs.TurnClaim.{Has, closing, answerAfter, Turn}
 use Rattle.account.proofs.Plain.{next, answer, afterAll, run, begun}
 use Rattle.account.proofs.Stages.{launchedIf}
 use Rattle.account.proofs.Sides.{on-out, one-per}
@@ -52,6 +52,7 @@ use Rattle.account.proofs.Lists.{Course, running, over, open-course, pl
 use Rattle.account.proofs.Range.{lent}
 use Rattle.account.proofs.Demand.{opens-by, same-run, same-answer, same-account as plain-account}
 use Rattle.account.proofs.Records.{same-dones, calls-append, good-open, same-account, at-terminal, whole}
+use Rattle.account.proofs.Told.{take-zero, Same, quiet-same, tallied, taken-told, sent-told}
 use Rattle.account.proofs.Spared.{dropped-marks, failed-marks, spared}
 use Rattle.account.proofs.Flags.{and-l, either, or-false-l, or-false-r}
 
@@ -201,35 +202,16 @@ after-shut s c e = let d : Ends s c = ends c s e in rw (d .call, d .chosen) (ter
 
 -- what was taken and sent by the account z is as it was
 module _ (z : Account) where
-  abbrev Same : Stream → Bool → Tally → Type 0
-  Same x k t = (t .taken ≡ tallyOf x z .taken) × (t .sent ≡ tallyOf x z .sent)
-
-  take-none : (n : ℕ) (b t : List ℕ) → n ≡ 0 → t ++ take n b ≡ t
-  take-none n [] t e = rw e (append-nil t)
-  take-none n (x ∷ b) t e = rw e (append-nil t)
-
-  -- a call that takes nothing and says no Output
-  quiet-same : (c : Call) (r : Answer) (a : Account) → ((x : Stream) (b : List ℕ) → c ≡ Call.output x b → count r ≡ 0)
-      → ((x : Stream) (b : List ℕ) → r ≡ Call.Says (Call.Output x b) → ⊥) → All Same a → All Same (add a c r)
-  quiet-same c r a g m h = add-keeps Same c r (record {
-    marks = λ x b k t p. p;
-    lost = λ x k t p. p;
-    fails = λ x k t d p. p;
-    closes = λ x k t d p. p;
-    takes = λ x b k t d p. (take-none (count r) b (t .taken) (g x b d) ∙ p .0, p .1);
-    sends = λ x b k t d p. absurd (m x b d);
-  }) a h
-
-  list-same : (ds : List Call) (s : State) (a : Account) → s .runner .flags .finished ≡ true → Shut (s .runner) → All Same a → All Same (account a (run s ds))
+  list-same : (ds : List Call) (s : State) (a : Account) → s .runner .flags .finished ≡ true → Shut (s .runner) → All (Same z) a → All (Same z) (account a (run s ds))
   list-same [] s a f h p = p
   list-same (d ∷ ds) s a f h p =
       list-same ds (next s d) (add a d (answer s d)) (fin-stays d s f) (shut-next d s f h)
-      (quiet-same d (answer s d) a (shut-takes d s h) (λ x b e. true≢false (sym (ap isMessage e) ∙ no-more d s f)) p)
+      (quiet-same z d (answer s d) a (λ x b e. take-zero (count (answer s d)) b (shut-takes d s h x b e)) (λ x b e. true≢false (sym (ap isMessage e) ∙ no-more d s f)) p)
 
-  terminal-same : (c : Call) (ds : List Call) (s : State) (a : Account) → isTerminal (answer s c) ≡ true → All Same a → All Same (account a (run s (c ∷ ds)))
+  terminal-same : (c : Call) (ds : List Call) (s : State) (a : Account) → isTerminal (answer s c) ≡ true → All (Same z) a → All (Same z) (account a (run s (c ∷ ds)))
   terminal-same c ds s a e p =
       list-same ds (next s c) (add a c (answer s c)) (ends-fin s c (ends c s e)) (after-shut s c e)
-      (quiet-same c (answer s c) a (λ x b d. ap count (ends-answer s c (ends c s e))) (λ x b d. false≢true (sym (ap isTerminal d) ∙ e)) p)
+      (quiet-same z c (answer s c) a (λ x b d. take-zero (count (answer s c)) b (ap count (ends-answer s c (ends c s e)))) (λ x b d. false≢true (sym (ap isTerminal d) ∙ e)) p)
 
 -- ---- a record closes no stream
 
@@ -319,7 +301,9 @@ module _ (conf : Conf) (now : ℕ) (bytes lengths : List ℕ) (op : Opens conf n
 
   pub turn : Turn conf now bytes lengths
   turn = record {
-    rows = λ es e o x h u. uncut-sent (tallied conf now bytes lengths es x) (w .joined es x) (uncut es e o x h u);
+    rows = λ es e o x h u.
+        sym (sent-told conf now bytes lengths op es x) ∙ uncut-sent (tallied conf now bytes lengths es x) (w .joined es x) (uncut es e o x h u)
+        ∙ taken-told conf now bytes lengths op es x;
     own = λ es e o x h u. (let q = terminal-call es e (ap isTerminal h) in
         let course = open-course conf now bytes lengths (lent (conf .limits) bytes lengths (opens-by conf now bytes lengths op)) (callsOf conf es) in
         own-at es x (replay-shut x (state es) (plain es) (q .0) course (q .2))
@@ -327,5 +311,8 @@ module _ (conf : Conf) (now : ℕ) (bytes lengths : List ℕ) (op : Opens conf n
     undropped = λ es e o x n h u l. spared conf now bytes lengths op es e o x (Call.discarded x n) (dropped-marks x n l) h u;
     unfailed = λ es e o x h u. spared conf now bytes lengths op es e o x (Call.outputFailed x) (failed-marks x) h u;
     final = λ es e ds x h. (let q = terminal-call es e h in
-        rw (to-plain (es ++ (e ∷ ds)), to-plain es) (final-at es e ds (q .0) (q .1) (q .2) x));
+        let p : Same (plain es) x true (tallied conf now bytes lengths (es ++ (e ∷ ds)) x) = rw (to-plain (es ++ (e ∷ ds))) (final-at es e ds (q .0) (q .1) (q .2) x) in (
+          sym (taken-told conf now bytes lengths op (es ++ (e ∷ ds)) x) ∙ p .0 ∙ ap (λ (a : Account). tallyOf x a .taken) (sym (to-plain es)) ∙ taken-told conf now bytes lengths op es x,
+          sym (sent-told conf now bytes lengths op (es ++ (e ∷ ds)) x) ∙ p .1 ∙ ap (λ (a : Account). tallyOf x a .sent) (sym (to-plain es)) ∙ sent-told conf now bytes lengths op es x,
+        ));
   }

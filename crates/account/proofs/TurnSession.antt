@@ -1,42 +1,53 @@
--- A session in which the turn is taken, computed from the definitions: no cancel, rows over the end of the ring, and a Terminal that
--- reports both streams untruncated. So what `Turn` asks can be met, and what it says is not empty. The runner and the stores are
--- those of the session of 01's card.
+-- Two sessions in which the turn is taken, computed from the definitions: no cancel, rows over the end of the ring, and a Terminal
+-- that reports both streams untruncated. So what `Turn` asks can be met, and what it says is not empty. The first is of calls; its
+-- runner and stores are those of the session of 01's card. The second is of a channel: credit comes in a record read, and every
+-- message goes out in a record written.
 use mathlib.Core.Bool.{true, false}
-use mathlib.Core.Path.{_≡_, refl, ap, _∙_}
+use mathlib.Core.Path.{_≡_, refl, sym, ap, _∙_}
 use mathlib.Core.List.{List, [], _∷_, _++_, map}
+use mathlib.Core.Option.{some}
 use Prim.Native.Nat.{ℕ, _≤_}
+use native.Mathlib.Omega.{arith}
+use borrow.Author.Tests.{le-leb}
 use lib.IntN.{pos}
 use lib.ListN.{length}
 use Rattle.exec.specs.declared.LaunchResult.the-variants as LaunchResult
 use Rattle.exec.specs.declared.MaybeCause.the-variants as MaybeCause
+use Rattle.exec.specs.declared.MaybeDuration.the-variants as MaybeDuration
 use Rattle.exec.specs.declared.MaybeLaunchFailure.the-variants as MaybeLaunchFailure
 use Rattle.exec.specs.declared.MaybeStatus.the-variants as MaybeStatus
 use Rattle.exec.specs.declared.Outcome.{Outcome}
 use Rattle.exec.specs.declared.Pool.the-variants as Pool
 use Rattle.exec.specs.declared.Settlement.the-variants as Settlement
 use Rattle.exec.specs.declared.Status.the-variants as Status
+use Rattle.exec.specs.declared.Stream.{Stream}
 use Rattle.exec.specs.declared.Stream.the-variants.{Stdout, Stderr}
 use Rattle.exec.specs.Key.{admits}
-use Rattle.exec.specs.Limits.{cost}
+use Rattle.exec.specs.Limits.{cost, bytesWith, bytesWindow, limitsFor}
 use Rattle.ring.specs.Ring.{wrap, ringRead, ringFrom, ringWrite}
 use Rattle.ring.specs.Runs.{copied}
+use Rattle.runner.specs.Calls as Calls
 use Rattle.runner.specs.Choose.{ifElse}
 use Rattle.runner.specs.Life.{closeRunnerInput, passGrace, passTimeout, passSettlement, passGiveUp, passAbandonment, fire, ticked, noteStarted, noteLaunch, launchedNext, noteExit, noteExitOnce, exitedNext, settledNext, isReady, outcomeOf}
 use Rattle.runner.specs.Message.{sendableOf, order, choose, outputPaid, outputSent, effect, payload}
 use Rattle.runner.specs.Range.{fresh}
 use Rattle.runner.specs.Streams.{outputTaken, outputNext, outputStore, creditIn, creditAnswer, creditNext, closedNext}
+use Rattle.channel.specs.Bytes.{be32At, numberAt}
+use Rattle.channel.specs.Codec.{kinded, fitting, checked, read}
 use Rattle.account.specs.Account.{Tally, timeoutR, giveUpA, abandonA, tickA, exitR, exitA, adds, add, start, tallyOf}
 use Rattle.calls.specs.Call as Call
-use Rattle.calls.specs.Call.{Call}
-use Rattle.account.specs.Claim.{isTerminal}
-use Rattle.account.specs.Records.{Entry, call, nextEntry, answerEntry, runEntries, made}
+use Rattle.calls.specs.Call.{Conf, Call, Answer}
+use Rattle.account.specs.Claim.{Opens, isTerminal}
+use Rattle.account.specs.Records.{Entry, EntryDone, call, readRecord, writeRecord, nextEntry, answerEntry, afterEntries, runEntries, callOf, made, callsOf, donesOf}
 use Rattle.account.specs.Step as Step
-use Rattle.account.specs.TurnClaim.{Has, closing, answerAfter, tallied}
-use Rattle.account.proofs.Plain.{said, next, answer, begun, afterAll}
+use Rattle.account.specs.Step.{State}
+use Rattle.account.specs.TurnClaim.{Has, closing, answerAfter, carried, takenIn, sentIn}
+use Rattle.account.proofs.Plain.{said, next, answer, begun, afterAll, run}
 use Rattle.account.proofs.Lists.{plainOf}
-use Rattle.account.proofs.Demand.{same-answer, same-account as plain-account}
-use Rattle.account.proofs.Records.{same-account}
-use Rattle.account.proofs.Session.{conf, message, open-ok, named-four}
+use Rattle.account.proofs.Demand.{same-run, same-answer, same-account as plain-account}
+use Rattle.account.proofs.Records.{does, same-dones, made-answer, good-open, good-at, to-calls, same-account}
+use Rattle.account.proofs.Session.{conf, message, answersOf, open-ok, named-four}
+use Rattle.account.proofs.Told.{tallied, taken-told}
 use Rattle.account.proofs.Turn.{turn}
 
 -- seven bytes of stdout through a ring of four; then the program closes both streams and exits
@@ -101,22 +112,196 @@ module _ (bytes lengths : List ℕ) (h : 16 ≤ length bytes) where
   unfolding answerEntry nextEntry
   terminal = same-answer conf 0 bytes lengths (open-ok bytes lengths h) calls message ∙ plain bytes lengths h .0
 
-  -- its account is not empty
-  pub account-is : tallied conf 0 bytes lengths entries Stdout ≡ rows
+  account-is : tallied conf 0 bytes lengths entries Stdout ≡ rows
   unfolding made
   account-is =
       ap (tallyOf Stdout) (same-account conf 0 bytes lengths (open-ok bytes lengths h) entries ∙ plain-account conf 0 bytes lengths (open-ok bytes lengths h) calls)
       ∙ plain bytes lengths h .1
 
-  -- and the turn speaks of it
-  pub all-sent : tallied conf 0 bytes lengths entries Stdout .sent ≡ tallied conf 0 bytes lengths entries Stdout .taken
-  all-sent = turn conf 0 bytes lengths (open-ok bytes lengths h) .rows entries (call message) complete Stdout terminal refl
+  -- the bytes taken of it are these
+  pub taken-is : takenIn Stdout (runEntries (Step.opened conf 0 bytes lengths) entries) ≡ rows .taken
+  taken-is = sym (taken-told conf 0 bytes lengths (open-ok bytes lengths h) entries Stdout) ∙ ap (λ (t : Tally). t .taken) account-is
+
+  -- and the turn speaks of it: these were sent
+  pub all-sent : sentIn Stdout (runEntries (Step.opened conf 0 bytes lengths) entries) ≡ rows .taken
+  all-sent = turn conf 0 bytes lengths (open-ok bytes lengths h) .rows entries (call message) complete Stdout terminal refl ∙ taken-is
 
   pub program-closed : Has (closing Stdout) (runEntries (Step.opened conf 0 bytes lengths) entries)
   program-closed = turn conf 0 bytes lengths (open-ok bytes lengths h) .own entries (call message) complete Stdout terminal refl
 
   -- whatever comes after
-  pub stays : (ds : List Entry) → tallied conf 0 bytes lengths (entries ++ (call message ∷ ds)) Stdout .taken ≡ rows .taken
-  stays ds =
-      turn conf 0 bytes lengths (open-ok bytes lengths h) .final entries (call message) ds Stdout (ap isTerminal terminal) .0
-      ∙ ap (λ (t : Tally). t .taken) account-is
+  pub stays : (ds : List Entry) → takenIn Stdout (runEntries (Step.opened conf 0 bytes lengths) (entries ++ (call message ∷ ds))) ≡ rows .taken
+  stays ds = turn conf 0 bytes lengths (open-ok bytes lengths h) .final entries (call message) ds Stdout (ap isTerminal terminal) .0 ∙ taken-is
+
+-- ---- a channel
+
+-- the same with one pool for both streams
+abbrev pub channel : Conf
+channel = record {
+  key = record { id = 7; generation = 2 };
+  limits = limitsFor 4 (bytesWindow 8) (bytesWindow 8) true;
+  timers = record { timeout = MaybeDuration.None; grace = 10; settlement = 5 };
+}
+
+-- a record into chunk + 13 bytes, for channel 1
+abbrev pub written : Entry
+written = writeRecord 1 (0 ∷ 0 ∷ 0 ∷ 0 ∷ 0 ∷ 0 ∷ 0 ∷ 0 ∷ 0 ∷ 0 ∷ 0 ∷ 0 ∷ 0 ∷ 0 ∷ 0 ∷ 0 ∷ 0 ∷ [])
+
+-- WINDOW_ADJUST of 8 bytes, for channel 1
+abbrev pub adjust : Entry
+adjust = readRecord 0 1 (93 ∷ 0 ∷ 0 ∷ 0 ∷ 1 ∷ 0 ∷ 0 ∷ 0 ∷ 8 ∷ [])
+
+abbrev pub records : List Entry
+records = call (Call.launched LaunchResult.Started)
+    ∷ adjust
+    ∷ call (Call.output Stdout (97 ∷ 98 ∷ 99 ∷ []))
+    ∷ call (Call.output Stderr (120 ∷ 121 ∷ []))
+    ∷ written
+    ∷ written
+    ∷ written
+    ∷ written
+    ∷ call (Call.output Stdout (100 ∷ 101 ∷ []))
+    ∷ written
+    ∷ call (Call.outputClosed Stdout)
+    ∷ call (Call.outputClosed Stderr)
+    ∷ call (Call.exited 20 (MaybeStatus.Some (Status.Exited (pos 0))))
+    ∷ call (Call.settled Settlement.Settled)
+    ∷ written
+    ∷ written
+    ∷ written
+    ∷ []
+
+-- what each is answered
+abbrev pub answered : List Answer
+answered = Call.Ok
+    ∷ Call.Applied
+    ∷ Call.Taken 3
+    ∷ Call.Taken 2
+    ∷ Call.Says (Call.Credit 8)
+    ∷ Call.Says Call.Started
+    ∷ Call.Says (Call.Output Stdout (97 ∷ 98 ∷ 99 ∷ []))
+    ∷ Call.Says (Call.Output Stderr (120 ∷ 121 ∷ []))
+    ∷ Call.Taken 2
+    ∷ Call.Says (Call.Output Stdout (100 ∷ 101 ∷ []))
+    ∷ Call.Ok
+    ∷ Call.Ok
+    ∷ Call.Ok
+    ∷ Call.Ok
+    ∷ Call.Says Call.InputClosed
+    ∷ Call.Says (Call.End Stdout)
+    ∷ Call.Says (Call.End Stderr)
+    ∷ []
+
+-- the calls that they make
+abbrev next-one : Call
+next-one = Call.nextMessage (0 ∷ 0 ∷ 0 ∷ 0 ∷ [])
+
+abbrev channel-calls : List Call
+channel-calls = Call.launched LaunchResult.Started
+    ∷ Call.credit (record { id = 7; generation = 2 }) Pool.Output 8
+    ∷ Call.output Stdout (97 ∷ 98 ∷ 99 ∷ [])
+    ∷ Call.output Stderr (120 ∷ 121 ∷ [])
+    ∷ next-one
+    ∷ next-one
+    ∷ next-one
+    ∷ next-one
+    ∷ Call.output Stdout (100 ∷ 101 ∷ [])
+    ∷ next-one
+    ∷ Call.outputClosed Stdout
+    ∷ Call.outputClosed Stderr
+    ∷ Call.exited 20 (MaybeStatus.Some (Status.Exited (pos 0)))
+    ∷ Call.settled Settlement.Settled
+    ∷ next-one
+    ∷ next-one
+    ∷ next-one
+    ∷ []
+
+written-makes : made channel written ≡ some next-one
+unfolding made
+written-makes = refl
+
+records-make : callsOf channel records ≡ channel-calls
+unfolding made callOf read kinded checked fitting numberAt be32At
+records-make = refl
+
+abbrev ChannelComes : (bytes lengths : List ℕ) → Type 0
+ChannelComes bytes lengths =
+    (answersOf (run (begun channel 0 bytes lengths) channel-calls) ≡ answered)
+    × (answer (afterAll (begun channel 0 bytes lengths) channel-calls) next-one ≡ Call.Says (Call.Terminal complete))
+
+-- only the first eight bytes of the store are written
+channel-computed : (a0 a1 a2 a3 a4 a5 a6 a7 : ℕ) (rest lengths : List ℕ) → ChannelComes (a0 ∷ a1 ∷ a2 ∷ a3 ∷ a4 ∷ a5 ∷ a6 ∷ a7 ∷ rest) lengths
+unfolding next answer said admits cost wrap ringRead ringFrom ringWrite copied ifElse closeRunnerInput passGrace passTimeout passSettlement passGiveUp passAbandonment fire ticked noteStarted noteLaunch launchedNext noteExit noteExitOnce exitedNext settledNext isReady outcomeOf sendableOf order choose outputPaid outputSent effect payload fresh outputTaken outputNext outputStore creditIn creditAnswer creditNext closedNext
+channel-computed a0 a1 a2 a3 a4 a5 a6 a7 rest lengths = (refl, refl)
+
+named-eight : (P : List ℕ → Type 0) → ((a0 a1 a2 a3 a4 a5 a6 a7 : ℕ) (rest : List ℕ) → P (a0 ∷ a1 ∷ a2 ∷ a3 ∷ a4 ∷ a5 ∷ a6 ∷ a7 ∷ rest))
+    → (bytes : List ℕ) → 16 ≤ length bytes → P bytes
+named-eight P p [] h = absurd (omega arith)
+named-eight P p (a0 ∷ []) h = absurd (omega arith)
+named-eight P p (a0 ∷ a1 ∷ []) h = absurd (omega arith)
+named-eight P p (a0 ∷ a1 ∷ a2 ∷ []) h = absurd (omega arith)
+named-eight P p (a0 ∷ a1 ∷ a2 ∷ a3 ∷ []) h = absurd (omega arith)
+named-eight P p (a0 ∷ a1 ∷ a2 ∷ a3 ∷ a4 ∷ []) h = absurd (omega arith)
+named-eight P p (a0 ∷ a1 ∷ a2 ∷ a3 ∷ a4 ∷ a5 ∷ []) h = absurd (omega arith)
+named-eight P p (a0 ∷ a1 ∷ a2 ∷ a3 ∷ a4 ∷ a5 ∷ a6 ∷ []) h = absurd (omega arith)
+named-eight P p (a0 ∷ a1 ∷ a2 ∷ a3 ∷ a4 ∷ a5 ∷ a6 ∷ a7 ∷ rest) h = p a0 a1 a2 a3 a4 a5 a6 a7 rest
+
+channel-plain : (bytes lengths : List ℕ) → 16 ≤ length bytes → ChannelComes bytes lengths
+channel-plain bytes lengths h =
+    named-eight (λ (b : List ℕ). ChannelComes b lengths) (λ a0 a1 a2 a3 a4 a5 a6 a7 rest. channel-computed a0 a1 a2 a3 a4 a5 a6 a7 rest lengths) bytes h
+
+-- the answers of a list of what was done, and the bytes that they carry
+abbrev pub answersIn : List EntryDone → List Answer
+answersIn ds = map (λ (d : EntryDone). d .answer) ds
+
+abbrev carriedAll : Stream → List Answer → List ℕ
+carriedAll x [] = []
+carriedAll x (r ∷ rs) = carried x r ++ carriedAll x rs
+
+by-answers : (x : Stream) (ds : List EntryDone) → sentIn x ds ≡ carriedAll x (answersIn ds)
+by-answers x [] = refl
+by-answers x (d ∷ ds) = ap (λ (b : List ℕ). carried x (d .answer) ++ b) (by-answers x ds)
+
+-- each of them makes a call, so none of the answers is left out
+each-makes : (s : State) → answersIn (runEntries s records) ≡ answersOf (donesOf channel (runEntries s records))
+unfolding made callOf read kinded checked fitting numberAt be32At
+each-makes s = refl
+
+module _ (bytes lengths : List ℕ) (h : 16 ≤ length bytes) where
+  pub channel-opens : Opens channel 0 bytes lengths
+  unfolding Calls.«open» bytesWith
+  channel-opens = rw (le-leb 16 (length bytes) h, le-leb 0 (length lengths) (omega arith)) refl
+
+  -- the calls and records are answered so
+  pub channel-answers : answersIn (runEntries (Step.opened channel 0 bytes lengths) records) ≡ answered
+  channel-answers =
+      each-makes (Step.opened channel 0 bytes lengths)
+      ∙ ap answersOf (same-dones channel records (Step.opened channel 0 bytes lengths) (good-open channel 0 bytes lengths channel-opens)
+      ∙ ap (Step.run (Step.opened channel 0 bytes lengths)) records-make ∙ same-run channel 0 bytes lengths channel-opens channel-calls)
+      ∙ channel-plain bytes lengths h .0
+
+  -- then Terminal goes out, and reports both streams untruncated
+  pub channel-terminal : answerAfter channel 0 bytes lengths records written ≡ Call.Says (Call.Terminal complete)
+  channel-terminal =
+      let s : State = afterEntries (Step.opened channel 0 bytes lengths) records in
+      made-answer (made channel written) next-one s (nextEntry s written) (answerEntry s written) written-makes (does channel written s (good-at channel 0 bytes lengths channel-opens records))
+      ∙ ap (λ (t : State). Step.answer t next-one) (to-calls channel 0 bytes lengths channel-opens records ∙ ap (Step.after (Step.opened channel 0 bytes lengths)) records-make)
+      ∙ same-answer channel 0 bytes lengths channel-opens channel-calls next-one
+      ∙ channel-plain bytes lengths h .1
+
+  -- these bytes were sent of each stream, in the records that carry them
+  pub channel-sent : (sentIn Stdout (runEntries (Step.opened channel 0 bytes lengths) records) ≡ 97 ∷ 98 ∷ 99 ∷ 100 ∷ 101 ∷ [])
+      × (sentIn Stderr (runEntries (Step.opened channel 0 bytes lengths) records) ≡ 120 ∷ 121 ∷ [])
+  channel-sent = (
+    by-answers Stdout (runEntries (Step.opened channel 0 bytes lengths) records) ∙ ap (carriedAll Stdout) channel-answers,
+    by-answers Stderr (runEntries (Step.opened channel 0 bytes lengths) records) ∙ ap (carriedAll Stderr) channel-answers,
+  )
+
+  -- and the turn speaks of them: they are all that was taken
+  pub channel-taken : (takenIn Stdout (runEntries (Step.opened channel 0 bytes lengths) records) ≡ 97 ∷ 98 ∷ 99 ∷ 100 ∷ 101 ∷ [])
+      × (takenIn Stderr (runEntries (Step.opened channel 0 bytes lengths) records) ≡ 120 ∷ 121 ∷ [])
+  channel-taken =
+      let t = turn channel 0 bytes lengths channel-opens .rows records written complete in (
+        sym (t Stdout channel-terminal refl) ∙ channel-sent .0,
+        sym (t Stderr channel-terminal refl) ∙ channel-sent .1,
+      )

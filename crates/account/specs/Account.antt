@@ -15,7 +15,7 @@ use Rattle.exec.specs.declared.Stream.{Stream}
 use Rattle.exec.specs.Each.{Each, one, onOne, alike, both, every}
 use Rattle.exec.specs.Key.{admits}
 use Rattle.exec.specs.Time.{after, then, earliest, due, timeoutAt}
-use Rattle.calls.specs.Call.{Conf, Done, Call, key, limits, credit, input, endInput, cancel, launched, readAllowance, output, discarded, outputClosed, outputFailed, outputHungUp, pendingInput, inputWritten, inputClosed, exited, settled, dropped, reset, disconnect, tick, deadline, nextRequest, nextMessage, isFinished, isDetached, awaitsSettlement, memoryBound, buffered, highWater, Answer, Ok, Applied, Stale, Late, Refused, Taken, Pending, Value, Time, Truth, Asks, Says, IsKey, AreLimits, Nothing, isRefused, Message, Credit, Started, Output, End, InputClosed, Terminal}
+use Rattle.calls.specs.Call.{Conf, Done, Call, key, limits, credit, input, endInput, cancel, launched, readAllowance, output, discarded, outputClosed, outputFailed, outputHungUp, pendingInput, inputWritten, inputClosed, exited, settled, dropped, reset, disconnect, tick, deadline, nextRequest, nextMessage, isFinished, isDetached, awaitsSettlement, memoryBound, buffered, highWater, Answer, Ok, Applied, Stale, Late, Refused, Taken, Pending, Value, Time, Truth, Asks, Says, IsKey, AreLimits, Nothing, isRefused, count, Message, Credit, Started, Output, End, InputClosed, Terminal}
 
 -- Where the settlement stands, by what was reported and what time has passed.
 pub data Settling : Type 0 where
@@ -268,23 +268,6 @@ abbrev pub hangR : Stream → Replay → Replay
 hangR x r = withStreams (r .closed) (onOne x (λ (h : Bool). true) (r .hung)) r
 
 -- ---- what a call and its answer add
-
-abbrev pub count : Answer → ℕ
-count Ok = 0
-count Applied = 0
-count Stale = 0
-count Late = 0
-count (Refused n) = 0
-count (Taken n) = n
-count (Pending b) = 0
-count (Value n) = 0
-count (Time d) = 0
-count (Truth b) = 0
-count (Asks r) = 0
-count (Says m) = 0
-count (IsKey k) = 0
-count (AreLimits l) = 0
-count Nothing = 0
 
 abbrev pub takenBy : List ℕ → Tally → Tally
 takenBy b t = record { taken = t .taken ++ b; sent = t .sent; mark = t .mark }

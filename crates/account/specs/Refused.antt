@@ -1,5 +1,6 @@
 -- Demand 1: a refusal carries its number and leaves state, stores and buffers unchanged. Over EVERY state, whether a list of
--- calls from open reaches it or not. Stale and Late are answers and no refusals: a Late input is charged.
+-- calls from open reaches it or not. Stale and Late are answers and no refusals: Stale changes nothing either, a Late input is
+-- charged.
 use mathlib.Core.Bool.{Bool, true, false, _||_}
 use mathlib.Core.Path.{_≡_}
 use mathlib.Core.List.{List, [], _∷_}
@@ -38,3 +39,6 @@ pub record Refusals : Type 0 where
   pub buffer-kept : (s : State) (channel : ℕ) (buffer : List ℕ) (n : ℕ) → answerEntry s (writeRecord channel buffer) ≡ Call.Refused n
       → Channel.writeRecord (s .runner) channel (s .bytes) buffer .buffer ≡ buffer
   pub entry-number : (s : State) (e : Entry) (n : ℕ) → answerEntry s e ≡ Call.Refused n → (among n ofCalls || among n ofRecords) ≡ true
+  -- 'Same id, lower generation: Stale, and nothing else happens, not even the tick of cancel'
+  pub stale-kept : (s : State) (c : Call) → answer s c ≡ Call.Stale → next s c ≡ s
+  pub stale-read : (s : State) (e : Entry) → answerEntry s e ≡ Call.Stale → nextEntry s e ≡ s

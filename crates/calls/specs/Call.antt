@@ -158,6 +158,24 @@ refused-is (IsKey k) e = absurd (false≢true e)
 refused-is (AreLimits l) e = absurd (false≢true e)
 refused-is Nothing e = absurd (false≢true e)
 
+-- how many bytes it says were taken
+abbrev pub count : Answer → ℕ
+count Ok = 0
+count Applied = 0
+count Stale = 0
+count Late = 0
+count (Refused n) = 0
+count (Taken n) = n
+count (Pending b) = 0
+count (Value n) = 0
+count (Time d) = 0
+count (Truth b) = 0
+count (Asks r) = 0
+count (Says m) = 0
+count (IsKey k) = 0
+count (AreLimits l) = 0
+count Nothing = 0
+
 -- a call that was made, with its answer
 pub record Done : Type 0 where
   pub call : Call
