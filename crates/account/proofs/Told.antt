@@ -183,13 +183,13 @@ read-mute conf now b (Parsed.Read Record.Eof) = λ x. refl
 read-mute conf now b (Parsed.Read Record.Close) = λ x. refl
 read-mute conf now b (Parsed.Refused y) = tt
 
--- what an entry offers is what its call offers
+-- what an entry offers is what the call offers that it makes
 abbrev Offering : Entry → Option Call → Type 0
-Offering e none = (x : Stream) → offeredIn x e ≡ []
+Offering e none = Unit
 Offering e (some c) = (x : Stream) → offeredIn x e ≡ offered x c
 
 mute-offering : (e : Entry) (m : Option Call) → ((x : Stream) → offeredIn x e ≡ []) → Mute m → Offering e m
-mute-offering e none h q = h
+mute-offering e none h q = tt
 mute-offering e (some c) h q = λ x. h x ∙ sym (q x)
 
 offering : (conf : Conf) (e : Entry) → Offering e (made conf e)
