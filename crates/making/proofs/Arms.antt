@@ -1,4 +1,4 @@
--- The calls that `calls::make` makes, by the kind of their answers.
+-- The calls that `making::make` makes, by the kind of their answers.
 use mathlib.Core.Path.{_≡_, ap, _∙_}
 use mathlib.Core.List.{List}
 use Prim.Native.Nat.{ℕ}
