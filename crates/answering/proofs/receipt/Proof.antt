@@ -2,20 +2,10 @@ use borrow.Author.Needs.{needs}
 use Rattle.answering.proofs.receipt.Statement.{statement}
 use Rattle.answering.proofs.receipt.Tie as tie
 
-returns : tie.Need-returns
-returns c w =
-    simp
-    (c .enum-told .given .1)
-
-returns-2 : tie.Need-returns-2
-returns-2 c w =
-    simp
-    (c .enum-told2 .given .1)
-
-returns-3 : tie.Need-returns-3
-returns-3 c w =
-    simp
-    (c .enum-told3 .given .1)
-
 pub receipt-spec : {M : Type 1} → statement M
-receipt-spec = tie.close (tie.spec (search needs) (search needs) (search needs) returns returns-2 returns-3)
+receipt-spec =
+    tie.close
+    (tie.spec (search needs) (search needs) (search needs)
+    (λ c w. simp (c .enum-told .given .1))
+    (λ c w. simp (c .enum-told2 .given .1))
+    (λ c w. simp (c .enum-told3 .given .1)))

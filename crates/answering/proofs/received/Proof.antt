@@ -2,27 +2,9 @@ use borrow.Author.Needs.{needs}
 use Rattle.answering.proofs.received.Statement.{statement}
 use Rattle.answering.proofs.received.Tie as tie
 
-returns : tie.Need-returns
-returns c w =
-    simp (
-      c .before .before .received .given .1,
-      c .receipt .ensures w,
-    )
-
-returns-2 : tie.Need-returns-2
-returns-2 c w =
-    simp (
-      c .before .before .received2 .given .1,
-      c .number .ensures,
-    )
-
 pub received-spec : {M : Type 1} → statement M
 received-spec =
     tie.close
-    (tie.spec
-    (search needs)
-    (search needs)
-    (search needs)
-    (search needs)
-    returns
-    returns-2)
+    (tie.spec (search needs) (search needs) (search needs) (search needs)
+    (λ c w. simp (c .before .before .received .given .1, c .receipt .ensures w))
+    (λ c w. simp (c .before .before .received2 .given .1, c .number .ensures)))

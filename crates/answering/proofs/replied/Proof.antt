@@ -2,17 +2,9 @@ use borrow.Author.Needs.{needs}
 use Rattle.answering.proofs.replied.Statement.{statement}
 use Rattle.answering.proofs.replied.Tie as tie
 
-returns : tie.Need-returns
-returns c w =
-    simp
-    (c .enum-told .given .1)
-
-returns-2 : tie.Need-returns-2
-returns-2 c w =
-    simp (
-      c .before .before .reply .given .1,
-      c .number .ensures,
-    )
-
 pub replied-spec : {M : Type 1} → statement M
-replied-spec = tie.close (tie.spec (search needs) (search needs) (search needs) returns returns-2)
+replied-spec =
+    tie.close
+    (tie.spec (search needs) (search needs) (search needs)
+    (λ c w. simp (c .enum-told .given .1))
+    (λ c w. simp (c .before .before .reply .given .1, c .number .ensures)))

@@ -1,4 +1,4 @@
--- `calls::clear` meets its contract. The invariant: i bytes are zero.
+-- `making::clear` meets its contract. The invariant: i bytes are zero.
 use mathlib.Core.Path.{_≡_, refl}
 use mathlib.Core.List.{_++_}
 use Prim.Native.Nat.{_-_, _≤_}
@@ -16,31 +16,16 @@ Inv-loop work₀ n i₀ work i = (i ≤ n) × (work ≡ zeros i ++ drop i work�
 abbrev μ-loop : tie.MeasureT-loop
 μ-loop work₀ n i₀ work i = n - i
 
-loop-holds : tie.Need-loop-holds Inv-loop μ-loop
-loop-holds c = (omega arith, zeros-start _, refl)
-
 loop-again : tie.Need-loop-again Inv-loop μ-loop
 loop-again c =
     let l = c .before .loop in
     (omega arith, rw (l .inv .1) (zeros-turn _ _ (omega arith)), simp length-set (l .inv .2))
 
-same-length : tie.Need-same-length Inv-loop μ-loop
-same-length c = c .before .loop .inv .2
-
-returns : tie.Need-returns Inv-loop μ-loop
-returns c =
-    let i : c .before .loop .i ≡ c .before .before .args .n = omega arith in rw (← i) (c .before .loop .inv .1)
-
 pub clear-spec : {M : Type 1} → statement M
 clear-spec =
     tie.close
-    (tie.spec
-    Inv-loop
-    μ-loop
-    loop-holds
-    (search needs)
-    (search needs)
-    (search needs)
-    loop-again
-    same-length
-    returns)
+    (tie.spec Inv-loop μ-loop
+    (λ c. (omega arith, zeros-start _, refl))
+    (search needs) (search needs) (search needs) loop-again
+    (λ c. c .before .loop .inv .2)
+    (λ c. let i : c .before .loop .i ≡ c .before .before .args .n = omega arith in rw (← i) (c .before .loop .inv .1)))

@@ -5,8 +5,8 @@ use borrow.Author.Needs.{needs}
 use Rattle.making.proofs.next_request.Statement.{statement}
 use Rattle.making.proofs.next_request.Tie as tie
 
-returns : tie.Need-returns
-returns c = (ap (λ (x : Asking). x .runner) (c .before .before .next-request .ensures), λ w. c .asked .ensures w ∙ ap (λ (x : Asking). asks (x .asked)) (c .before .before .next-request .ensures))
-
 pub next-request-spec : {M : Type 1} → statement M
-next-request-spec = tie.close (tie.spec (search needs) (search needs) returns)
+next-request-spec =
+    tie.close
+    (tie.spec (search needs) (search needs)
+    (λ c. (ap (λ (x : Asking). x .runner) (c .before .before .next-request .ensures), λ w. c .asked .ensures w ∙ ap (λ (x : Asking). asks (x .asked)) (c .before .before .next-request .ensures))))

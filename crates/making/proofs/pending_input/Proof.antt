@@ -14,10 +14,9 @@ waits-requires c κs =
     let m = pending-most (c .before .before .before .before .before .args .runner) (c .before .before .before .before .before .args .store .now) in
     omega (arith, e, m)
 
-returns : tie.Need-returns
-unfolding answer
-returns c =
-    c .before .before .waits .ensures ∙ ap (λ (x : PendingAfter). waits (x .refusal) (x .pending)) (c .before .before .before .before .pending-input .ensures)
-
 pub pending-input-spec : {M : Type 1} → statement M
-pending-input-spec = tie.close (tie.spec (search needs) waits-requires (search needs) returns)
+unfolding answer
+pending-input-spec =
+    tie.close
+    (tie.spec (search needs) waits-requires (search needs)
+    (λ c. c .before .before .waits .ensures ∙ ap (λ (x : PendingAfter). waits (x .refusal) (x .pending)) (c .before .before .before .before .pending-input .ensures)))

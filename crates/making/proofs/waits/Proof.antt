@@ -12,8 +12,8 @@ returns c =
     let t = copied-first (a .work .now) (a .pending .now) _ refl (omega arith) in
     rw (z, c .before .before .copy-in .ensures, t) refl
 
-returns-2 : tie.Need-returns-2
-returns-2 c = waits-some (c .before .before .before .args .refusal) _ (c .if1 .left)
-
 pub waits-spec : {M : Type 1} → statement M
-waits-spec = tie.close (tie.spec (search needs) (search needs) returns returns-2)
+waits-spec =
+    tie.close
+    (tie.spec (search needs) (search needs) returns
+    (λ c. waits-some (c .before .before .before .args .refusal) _ (c .if1 .left)))

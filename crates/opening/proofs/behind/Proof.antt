@@ -22,4 +22,5 @@ returns-2 c =
     (simp (ne-eqb _ _ ne, c .before .comma .ensures .0), omega (arith, c .before .comma .ensures .1))
 
 pub behind-spec : {M : Type 1} → statement M
-behind-spec = tie.close (tie.spec (search needs) returns (search needs) returns-2)
+behind-spec =
+    tie.close (tie.spec (search needs) returns (search needs) returns-2)

@@ -15,12 +15,6 @@ Inv-loop line n k₀ i₀ k i = (i ≤ n) × (n ≡ length line) × (k ≤ i + 1
 abbrev μ-loop : tie.MeasureT-loop
 μ-loop line n k₀ i₀ k i = n - i
 
-loop-holds : tie.Need-loop-holds Inv-loop μ-loop
-loop-holds c = (omega arith, refl, omega arith, omega arith)
-
-add-k : tie.Need-add-k Inv-loop μ-loop
-add-k c = let m = c .is-comma .ensures .1 in omega (arith, m)
-
 loop-again : tie.Need-loop-again Inv-loop μ-loop
 loop-again c =
     let l = c .before .before .before .loop in
@@ -41,14 +35,8 @@ returns c =
 pub count-spec : {M : Type 1} → statement M
 count-spec =
     tie.close
-    (tie.spec
-    Inv-loop
-    μ-loop
-    loop-holds
-    (search needs)
-    (search needs)
-    add-k
-    (search needs)
-    (search needs)
-    loop-again
-    returns)
+    (tie.spec Inv-loop μ-loop
+    (λ c. (omega arith, refl, omega arith, omega arith))
+    (search needs) (search needs)
+    (λ c. let m = c .is-comma .ensures .1 in omega (arith, m))
+    (search needs) (search needs) loop-again returns)

@@ -18,5 +18,4 @@ returns c =
 
 pub end-spec : {M : Type 1} → statement M
 end-spec =
-    tie.close
-    (tie.spec (search needs) (search needs) (search needs) (search needs) (search needs) returns)
+    tie.close (tie.spec (search needs) (search needs) (search needs) (search needs) (search needs) returns)

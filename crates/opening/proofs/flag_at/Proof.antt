@@ -5,19 +5,8 @@ use borrow.Author.Needs.{needs}
 use Rattle.opening.proofs.flag_at.Statement.{statement}
 use Rattle.opening.proofs.flag_at.Tie as tie
 
-returns : tie.Need-returns
-returns c =
-    let a = c .before .before .before .before .before .args in
-    c .flag .ensures ∙ ap digit (place-part (a .line .now) (a .k) _ _ (c .before .before .before .place .ensures) (c .before .before .end .ensures .0))
-
 pub flag-at-spec : {M : Type 1} → statement M
 flag-at-spec =
     tie.close
-    (tie.spec
-    (search needs)
-    (search needs)
-    (search needs)
-    (search needs)
-    (search needs)
-    (search needs)
-    returns)
+    (tie.spec (search needs) (search needs) (search needs) (search needs) (search needs) (search needs)
+    (λ c. c .flag .ensures ∙ ap digit (place-part _ _ _ _ (c .before .before .before .place .ensures) (c .before .before .end .ensures .0))))

@@ -5,20 +5,9 @@ use borrow.Author.Needs.{needs}
 use Rattle.opening.proofs.is_open.Statement.{statement}
 use Rattle.opening.proofs.is_open.Tie as tie
 
-returns : tie.Need-returns
-unfolding isOpen bytes
-returns c =
-    simp (c .is .ensures, c .before .before .before .count .ensures, first-part (c .before .before .before .before .before .before .args .line .now) _ (c .before .before .before .before .comma .ensures .0))
-
 pub is-open-spec : {M : Type 1} → statement M
+unfolding isOpen bytes
 is-open-spec =
     tie.close
-    (tie.spec
-    (search needs)
-    (search needs)
-    (search needs)
-    (search needs)
-    (search needs)
-    (search needs)
-    (search needs)
-    returns)
+    (tie.spec (search needs) (search needs) (search needs) (search needs) (search needs) (search needs) (search needs)
+    (λ c. simp (c .is .ensures, c .before .before .before .count .ensures, first-part (c .before .before .before .before .before .before .args .line .now) _ (c .before .before .before .before .comma .ensures .0))))

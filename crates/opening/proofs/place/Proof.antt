@@ -1,13 +1,13 @@
 -- `opening::place` meets its contract. The invariant: so many fields are passed.
 use mathlib.Core.Path.{_≡_, refl, ap, _∙_}
-use Prim.Native.Nat.{_-_, _+_, _≤_}
+use Prim.Native.Nat.{_-_, _≤_}
 use native.Mathlib.Nat.{sub-zero}
 use native.Mathlib.Omega.{arith}
 use borrow.Author.Needs.{needs}
 use lib.ListN.{length, drop}
 use Rattle.opening.specs.Open.{at}
 use Rattle.syntax.specs.Lines.{fields}
-use Rattle.opening.specs.PlaceLaws.{Behind, part-behind, place-turn}
+use Rattle.opening.specs.PlaceLaws.{part-behind, place-turn}
 use Rattle.opening.proofs.place.Statement.{statement}
 use Rattle.opening.proofs.place.Tie as tie
 
@@ -16,9 +16,6 @@ Inv-loop line k n i₀ j₀ i j = (j ≤ k) × (i ≤ n) × (n ≡ length line) 
 
 abbrev μ-loop : tie.MeasureT-loop
 μ-loop line k n i₀ j₀ i j = k - j
-
-loop-holds : tie.Need-loop-holds Inv-loop μ-loop
-loop-holds c = (omega arith, omega arith, refl, rw (sub-zero _) refl)
 
 add-i : tie.Need-add-i Inv-loop μ-loop
 add-i c =
@@ -43,16 +40,6 @@ returns c =
 pub place-spec : {M : Type 1} → statement M
 place-spec =
     tie.close
-    (tie.spec
-    Inv-loop
-    μ-loop
-    loop-holds
-    (search needs)
-    (search needs)
-    (search needs)
-    (search needs)
-    add-i
-    (search needs)
-    (search needs)
-    loop-again
-    returns)
+    (tie.spec Inv-loop μ-loop
+    (λ c. (omega arith, omega arith, refl, rw (sub-zero _) refl))
+    (search needs) (search needs) (search needs) (search needs) add-i (search needs) (search needs) loop-again returns)

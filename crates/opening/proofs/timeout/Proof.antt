@@ -9,12 +9,9 @@ pub timeout-spec : {M : Type 1} → statement M
 unfolding timeout
 timeout-spec =
     tie.close
-    (tie.spec
-    (search needs)
+    (tie.spec (search needs)
     (λ c. simp (sym (c .before .missing .ensures) ∙ c .if1 .taken))
-    (search needs)
-    (search needs)
-    (search needs)
+    (search needs) (search needs) (search needs)
     (λ c. simp (
       sym (c .before .before .wide .ensures) ∙ ap numberIs (c .enum-told .given .1),
       sym (c .before .before .before .before .missing .ensures) ∙ c .before .before .before .if1 .left,

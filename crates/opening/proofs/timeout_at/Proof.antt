@@ -5,19 +5,8 @@ use borrow.Author.Needs.{needs}
 use Rattle.opening.proofs.timeout_at.Statement.{statement}
 use Rattle.opening.proofs.timeout_at.Tie as tie
 
-returns : tie.Need-returns
-returns c =
-    let a = c .before .before .before .before .before .args in
-    c .timeout .ensures ∙ ap timeout (place-part (a .line .now) (a .k) _ _ (c .before .before .before .place .ensures) (c .before .before .end .ensures .0))
-
 pub timeout-at-spec : {M : Type 1} → statement M
 timeout-at-spec =
     tie.close
-    (tie.spec
-    (search needs)
-    (search needs)
-    (search needs)
-    (search needs)
-    (search needs)
-    (search needs)
-    returns)
+    (tie.spec (search needs) (search needs) (search needs) (search needs) (search needs) (search needs)
+    (λ c. c .timeout .ensures ∙ ap timeout (place-part _ _ _ _ (c .before .before .before .place .ensures) (c .before .before .end .ensures .0))))

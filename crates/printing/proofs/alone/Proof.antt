@@ -6,11 +6,9 @@ use borrow.Author.Needs.{needs}
 use Rattle.printing.proofs.alone.Statement.{statement}
 use Rattle.printing.proofs.alone.Tie as tie
 
-returns : tie.Need-returns
-unfolding bytes
-returns c =
-    within (joined-four (44 ∷ []) (45 ∷ []) (44 ∷ []) (45 ∷ []) (c .before .before .before .before .before .before .before .put .ensures) (c .before .before .put2 .ensures)) (omega arith)
-
 pub alone-spec : {M : Type 1} → statement M
+unfolding bytes
 alone-spec =
-    tie.close (tie.spec (search needs) (search needs) (search needs) (search needs) returns)
+    tie.close
+    (tie.spec (search needs) (search needs) (search needs) (search needs)
+    (λ c. within (joined-four (44 ∷ []) (45 ∷ []) (44 ∷ []) (45 ∷ []) (c .before .before .before .before .before .before .before .put .ensures) (c .before .before .put2 .ensures)) (omega arith)))

@@ -1,10 +1,7 @@
-use mathlib.Core.Path.{ap}
-use mir.Syntax.{w32}
-use mir.Val.{SFits}
-use mir.ValLaws.{toZ-ofZ}
 use Rattle.text.specs.Decimal.{signedOf}
 use Rattle.syntax.specs.Words.{bytes}
-use Rattle.printing.specs.Written.{joined, same-text}
+use Rattle.printing.specs.Written.{joined}
+use Rattle.printing.proofs.Parts.{handed-on}
 use borrow.Author.Needs.{needs}
 use Rattle.printing.proofs.put_failure.Statement.{statement}
 use Rattle.printing.proofs.put_failure.Tie as tie
@@ -12,19 +9,9 @@ use Rattle.printing.proofs.put_failure.Tie as tie
 returns : tie.Need-returns
 unfolding bytes
 returns c =
-    let error = c .before .before .before .before .before .before .before .before .before .before .before .before .before .before .before .args .failure .error in
-    let fit : SFits w32 error = search needs in
-    let e = ap signedOf (toZ-ofZ w32 error fit) in
-    rw (← c .before .before .before .before .before .before .before .before .before .before .before .before .before .wide .ensures)
-    (joined (joined (c .before .before .before .before .before .before .before .before .before .before .before .put-number .ensures) (c .before .before .before .before .before .before .before .put-byte .ensures)) (same-text e (c .before .before .put-signed .ensures)))
+    let error = handed-on signedOf (c .before .before .before .before .before .before .before .before .before .before .before .before .before .before .before .args .failure .error) (search needs) (c .before .before .put-signed .ensures) in
+    rw (← c .before .before .before .before .before .before .before .before .before .before .before .before .before .wide .ensures) (joined (joined (c .before .before .before .before .before .before .before .before .before .before .before .put-number .ensures) (c .before .before .before .before .before .before .before .put-byte .ensures)) error)
 
 pub put-failure-spec : {M : Type 1} → statement M
 put-failure-spec =
-    tie.close
-    (tie.spec
-    (search needs)
-    (search needs)
-    (search needs)
-    (search needs)
-    (search needs)
-    returns)
+    tie.close (tie.spec (search needs) (search needs) (search needs) (search needs) (search needs) returns)

@@ -1,4 +1,4 @@
--- `answers::put_hex` meets its contract: two digits a byte.
+-- `printing::put_hex` meets its contract: two digits a byte.
 use native.Mathlib.Omega.{arith}
 use Rattle.text.specs.Hexadecimal.{hexOf}
 use Rattle.text.specs.HexadecimalLaws.{hex-length}
@@ -15,4 +15,5 @@ returns c =
     wrote (hexOf b) (w .0) (w .1) (omega arith) (omega arith)
 
 pub put-hex-spec : {M : Type 1} → statement M
-put-hex-spec = tie.close (tie.spec (search needs) (search needs) returns)
+put-hex-spec =
+    tie.close (tie.spec (search needs) (search needs) returns)

@@ -1,4 +1,4 @@
--- `answers::put_number` meets its contract: a u64 has at most 20 digits.
+-- `printing::put_number` meets its contract: a u64 has at most 20 digits.
 use Prim.Native.Nat.{_≤_}
 use native.Mathlib.Omega.{arith}
 use lib.ListN.{length}
@@ -17,4 +17,5 @@ returns c =
     wrote (digitsOf (a .n)) (w .0) (w .1) l (omega arith)
 
 pub put-number-spec : {M : Type 1} → statement M
-put-number-spec = tie.close (tie.spec (search needs) (search needs) returns)
+put-number-spec =
+    tie.close (tie.spec (search needs) (search needs) returns)

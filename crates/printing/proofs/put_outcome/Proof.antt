@@ -1,4 +1,4 @@
--- `answers::put_outcome` meets its contract: its three parts are 01's eight fields.
+-- `printing::put_outcome` meets its contract: its three parts are 01's eight fields.
 use native.Mathlib.Omega.{arith}
 use Rattle.syntax.specs.Answers.{flag}
 use Rattle.syntax.specs.Words.{bytes}
@@ -15,12 +15,4 @@ returns c =
 
 pub put-outcome-spec : {M : Type 1} → statement M
 put-outcome-spec =
-    tie.close
-    (tie.spec
-    (search needs)
-    (search needs)
-    (search needs)
-    (search needs)
-    (search needs)
-    (search needs)
-    returns)
+    tie.close (tie.spec (search needs) (search needs) (search needs) (search needs) (search needs) (search needs) returns)

@@ -1,4 +1,4 @@
--- `answers::put_signed` meets its contract: an i32 has at most a minus and ten digits.
+-- `printing::put_signed` meets its contract: an i32 has at most a minus and ten digits.
 use native.Mathlib.Omega.{arith}
 use mir.Syntax.{w32}
 use mir.ValLaws.{toZ-ofZ}
@@ -15,4 +15,5 @@ returns c =
     wrote-signed _ n (toZ-ofZ w32 n (s .fits .n)) (s .fits .n) (w .0) (w .1) (omega arith)
 
 pub put-signed-spec : {M : Type 1} → statement M
-put-signed-spec = tie.close (tie.spec (search needs) (search needs) returns)
+put-signed-spec =
+    tie.close (tie.spec (search needs) (search needs) returns)

@@ -5,29 +5,10 @@ use borrow.Author.Needs.{needs}
 use Rattle.printing.proofs.put_time.Statement.{statement}
 use Rattle.printing.proofs.put_time.Tie as tie
 
-returns : tie.Need-returns
-unfolding bytes
-returns c =
-    rw (c .before .before .before .before .before .enum-told .given .1)
-    (within (c .before .before .alone .ensures) (omega arith))
-
-returns-2 : tie.Need-returns-2
-unfolding bytes
-returns-2 c =
-    rw (c .before .before .before .before .before .before .time .given .1)
-    (within (c .before .before .with-number .ensures) (omega arith))
-
 pub put-time-spec : {M : Type 1} → statement M
+unfolding bytes
 put-time-spec =
     tie.close
-    (tie.spec
-    (search needs)
-    (search needs)
-    (search needs)
-    (search needs)
-    (search needs)
-    (search needs)
-    (search needs)
-    returns
-    (search needs)
-    returns-2)
+    (tie.spec (search needs) (search needs) (search needs) (search needs) (search needs) (search needs) (search needs)
+    (λ c. rw (c .before .before .before .before .before .enum-told .given .1) (within (c .before .before .alone .ensures) (omega arith)))
+    (search needs) (λ c. rw (c .before .before .before .before .before .before .time .given .1) (within (c .before .before .with-number .ensures) (omega arith))))

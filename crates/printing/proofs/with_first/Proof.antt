@@ -1,4 +1,4 @@
--- `answers::with_first` meets its contract: the first n of work, or all of it where it has fewer.
+-- `printing::with_first` meets its contract: the first n of work, or all of it where it has fewer.
 use mathlib.Core.Path.{ap}
 use Prim.Native.Nat.{_-_}
 use native.Mathlib.Omega.{arith}
@@ -17,12 +17,4 @@ returns c =
 
 pub with-first-spec : {M : Type 1} → statement M
 with-first-spec =
-    tie.close
-    (tie.spec
-    (search needs)
-    (search needs)
-    (search needs)
-    (search needs)
-    (search needs)
-    (search needs)
-    returns)
+    tie.close (tie.spec (search needs) (search needs) (search needs) (search needs) (search needs) (search needs) returns)

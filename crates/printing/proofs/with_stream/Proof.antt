@@ -1,24 +1,13 @@
-use mathlib.Core.List.{[], _∷_}
 use native.Mathlib.Omega.{arith}
 use Rattle.syntax.specs.Words.{bytes}
-use Rattle.printing.specs.Written.{joined, joined-two, within}
+use Rattle.printing.proofs.Parts.{word-and-field}
 use borrow.Author.Needs.{needs}
 use Rattle.printing.proofs.with_stream.Statement.{statement}
 use Rattle.printing.proofs.with_stream.Tie as tie
 
-returns : tie.Need-returns
-unfolding bytes
-returns c =
-    within (joined-two (44 ∷ []) (45 ∷ []) (joined (joined (c .before .before .before .before .before .before .before .before .before .before .before .before .before .before .before .put .ensures) (c .before .before .before .before .before .before .before .before .before .before .before .put-byte .ensures)) (c .before .before .before .before .before .before .before .put-stream .ensures)) (c .before .before .put2 .ensures)) (omega arith)
-
 pub with-stream-spec : {M : Type 1} → statement M
+unfolding bytes
 with-stream-spec =
     tie.close
-    (tie.spec
-    (search needs)
-    (search needs)
-    (search needs)
-    (search needs)
-    (search needs)
-    (search needs)
-    returns)
+    (tie.spec (search needs) (search needs) (search needs) (search needs) (search needs) (search needs)
+    (λ c. word-and-field (c .before .before .before .before .before .before .before .before .before .before .before .before .before .before .before .put .ensures) (c .before .before .before .before .before .before .before .before .before .before .before .put-byte .ensures) (c .before .before .before .before .before .before .before .put-stream .ensures) (c .before .before .put2 .ensures) (omega arith) (omega arith)))
