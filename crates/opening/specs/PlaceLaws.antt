@@ -68,9 +68,6 @@ pub count-turn : (s : List ℕ) (i : ℕ) → i < length s → length (fields (d
 unfolding fields
 count-turn s i h = rw (drop-cons s i 0 h, add-one) (by (eqb (getD s i 0) 44))
   where
-    rest : List ℕ
-    rest = drop (suc i) s
-
     by : (e : Bool) → length (cond e ([] ∷ fields (drop (suc i) s)) (inFirst (getD s i 0) (fields (drop (suc i) s)))) ≡ cond e 1 0 + length (fields (drop (suc i) s))
     by true = omega arith
     by false = in-first (getD s i 0) (fields (drop (suc i) s)) (fields-some (drop (suc i) s)) ∙ omega arith
@@ -84,9 +81,13 @@ pub record Behind (s : List ℕ) (i b : ℕ) : Type 0 where
   pub is : b ≡ behindOf (drop i s)
   pub most : i + b ≤ length s
 
+-- a part up to the end is all that is left
+pub rest-whole : (s : List ℕ) (i : ℕ) → take (length s - i) (drop i s) ≡ drop i s
+rest-whole s i = take-all (length s - i) (drop i s) (simp length-drop (omega arith))
+
 pub part-behind : (s : List ℕ) (i b : ℕ) → i ≤ length s → b ≡ behindOf (take (length s - i) (drop i s)) → b ≤ length (take (length s - i) (drop i s)) → Behind s i b
 part-behind s i b l e m =
-    let all : take (length s - i) (drop i s) ≡ drop i s = take-all (length s - i) (drop i s) (simp length-drop (omega arith)) in
+    let all = rest-whole s i in
     let rest : length (drop i s) ≡ length s - i = length-drop i s in
     let m′ : b ≤ length (drop i s) = rw all at m in
     record { is = rw all at e; most = omega arith }

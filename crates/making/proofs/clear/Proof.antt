@@ -16,16 +16,12 @@ Inv-loop work₀ n i₀ work i = (i ≤ n) × (work ≡ zeros i ++ drop i work�
 abbrev μ-loop : tie.MeasureT-loop
 μ-loop work₀ n i₀ work i = n - i
 
-loop-again : tie.Need-loop-again Inv-loop μ-loop
-loop-again c =
-    let l = c .before .loop in
-    (omega arith, rw (l .inv .1) (zeros-turn _ _ (omega arith)), simp length-set (l .inv .2))
-
 pub clear-spec : {M : Type 1} → statement M
 clear-spec =
     tie.close
     (tie.spec Inv-loop μ-loop
     (λ c. (omega arith, zeros-start _, refl))
-    (search needs) (search needs) (search needs) loop-again
+    (search needs) (search needs) (search needs)
+    (λ c. (omega arith, rw (c .before .loop .inv .1) (zeros-turn _ _ (omega arith)), simp length-set (c .before .loop .inv .2)))
     (λ c. c .before .loop .inv .2)
     (λ c. let i : c .before .loop .i ≡ c .before .before .args .n = omega arith in rw (← i) (c .before .loop .inv .1)))

@@ -8,12 +8,6 @@ use borrow.Author.Needs.{needs}
 use Rattle.opening.proofs.behind.Statement.{statement}
 use Rattle.opening.proofs.behind.Tie as tie
 
-returns : tie.Need-returns
-unfolding behindOf
-returns c =
-    let e = sym (c .before .comma .ensures .0) ∙ c .if1 .taken in
-    (simp (eq-eqb _ _ e), omega arith)
-
 returns-2 : tie.Need-returns-2
 unfolding behindOf
 returns-2 c =
@@ -22,5 +16,9 @@ returns-2 c =
     (simp (ne-eqb _ _ ne, c .before .comma .ensures .0), omega (arith, c .before .comma .ensures .1))
 
 pub behind-spec : {M : Type 1} → statement M
+unfolding behindOf
 behind-spec =
-    tie.close (tie.spec (search needs) returns (search needs) returns-2)
+    tie.close
+    (tie.spec (search needs)
+    (λ c. (simp (eq-eqb _ _ (sym (c .before .comma .ensures .0) ∙ c .if1 .taken)), omega arith))
+    (search needs) returns-2)
