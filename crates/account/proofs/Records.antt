@@ -31,15 +31,14 @@ use Rattle.runner.specs.Calls as Calls
 use Rattle.runner.specs.Calls.{storesDo}
 use Rattle.runner.specs.Message.{choose, payload, saidFor, bufferAfter}
 use Rattle.runner.specs.Range.{stop, bytesDo, fresh}
-use Rattle.channel.specs.declared.codec.Parsed.{Parsed}
-use Rattle.channel.specs.declared.codec.Parsed.the-variants as Parsed
-use Rattle.channel.specs.declared.codec.Record.{Record}
-use Rattle.channel.specs.declared.codec.Record.the-variants as Record
+use Rattle.codec.specs.declared.Parsed.{Parsed}
+use Rattle.codec.specs.declared.Parsed.the-variants as Parsed
+use Rattle.codec.specs.declared.Record.{Record}
+use Rattle.codec.specs.declared.Record.the-variants as Record
 use Rattle.channel.specs.Calls as Channel
-use Rattle.channel.specs.Calls.{ReadAfter, isChannel, admitted, heardAs, notedAs, parsedRead, admittedRead, admittedWrite, roomyWrite, sent, told, wrote, wroteBuffer, sentAs, sentBuffer, laidRecord, partBack, hasEnded}
-use Rattle.channel.specs.Codec.{start, size, kinded, isTyped, fitting, checked, read}
-use Rattle.channel.specs.CallLaws.{laid-front}
-use Rattle.channel.specs.RoundTrip.{payload-back}
+use Rattle.channel.specs.Calls.{ReadAfter, isChannel, admitted, heardAs, notedAs, parsedRead, admittedRead, admittedWrite, roomyWrite, sent, told, wrote, wroteBuffer, sentAs, sentBuffer, partBack, hasEnded}
+use Rattle.codec.specs.Codec.{start, size, kinded, isTyped, fitting, checked, read, laidRecord}
+use Rattle.codec.specs.RoundTrip.{payload-back, laid-front}
 use Rattle.calls.specs.Call as Call
 use Rattle.calls.specs.Call.{Conf, Call, Answer, Done}
 use Rattle.account.specs.Step as Step

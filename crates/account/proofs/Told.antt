@@ -11,11 +11,11 @@ use Rattle.runner.specs.declared.message.Choice.{Choice}
 use Rattle.runner.specs.declared.message.Choice.the-variants as Choice
 use Rattle.runner.specs.declared.runner.Runner.{Runner}
 use Rattle.runner.specs.Message.{choose, payload}
-use Rattle.channel.specs.declared.codec.Parsed.{Parsed}
-use Rattle.channel.specs.declared.codec.Parsed.the-variants as Parsed
-use Rattle.channel.specs.declared.codec.Record.the-variants as Record
+use Rattle.codec.specs.declared.Parsed.{Parsed}
+use Rattle.codec.specs.declared.Parsed.the-variants as Parsed
+use Rattle.codec.specs.declared.Record.the-variants as Record
 use Rattle.channel.specs.Calls.{isChannel}
-use Rattle.channel.specs.Codec.{read}
+use Rattle.codec.specs.Codec.{read}
 use Rattle.calls.specs.Call as Call
 use Rattle.calls.specs.Call.{Conf, Call, Answer, count}
 use Rattle.account.specs.Step as Step

@@ -30,11 +30,11 @@ use Rattle.runner.specs.Life.{awaitsLaunch, ticked, cancelNext, noteStarted, no
 use Rattle.runner.specs.Message.{effect, wish, wishEffect}
 use Rattle.runner.specs.State.{outOf, at}
 use Rattle.runner.specs.Streams.{outputTaken, outputNext, discardedNext, closedNext, failedNext, hungUpNext, creditNext, inputNext, endNext, writtenNext}
-use Rattle.channel.specs.declared.codec.Parsed.{Parsed}
-use Rattle.channel.specs.declared.codec.Parsed.the-variants as Parsed
-use Rattle.channel.specs.declared.codec.Record.the-variants as Record
+use Rattle.codec.specs.declared.Parsed.{Parsed}
+use Rattle.codec.specs.declared.Parsed.the-variants as Parsed
+use Rattle.codec.specs.declared.Record.the-variants as Record
 use Rattle.channel.specs.Calls.{isChannel}
-use Rattle.channel.specs.Codec.{read}
+use Rattle.codec.specs.Codec.{read}
 use Rattle.calls.specs.Call as Call
 use Rattle.calls.specs.Call.{Conf, Call, Answer, Done, count}
 use Rattle.account.specs.Step as Step

@@ -32,8 +32,8 @@ use Rattle.runner.specs.Life.{closeRunnerInput, passGrace, passTimeout, passSet
 use Rattle.runner.specs.Message.{sendableOf, order, choose, outputPaid, outputSent, effect, payload}
 use Rattle.runner.specs.Range.{fresh}
 use Rattle.runner.specs.Streams.{outputTaken, outputNext, outputStore, creditIn, creditAnswer, creditNext, closedNext}
-use Rattle.channel.specs.Bytes.{be32At, numberAt}
-use Rattle.channel.specs.Codec.{kinded, fitting, checked, read}
+use Rattle.octets.specs.Bytes.{be32At, numberAt}
+use Rattle.codec.specs.Codec.{kinded, fitting, checked, read}
 use Rattle.account.specs.Account.{Tally, timeoutR, giveUpA, abandonA, tickA, exitR, exitA, adds, add, start, tallyOf}
 use Rattle.calls.specs.Call as Call
 use Rattle.calls.specs.Call.{Conf, Call, Answer}

@@ -21,12 +21,12 @@ use Rattle.channel.specs.declared.calls.Answer as Answers
 use Rattle.channel.specs.declared.calls.Answer.the-variants as Reads
 use Rattle.channel.specs.declared.calls.Wrote.{Wrote}
 use Rattle.channel.specs.declared.calls.Wrote.the-variants as Wrote
-use Rattle.channel.specs.declared.codec.Parsed.{Parsed}
-use Rattle.channel.specs.declared.codec.Parsed.the-variants as Parsed
-use Rattle.channel.specs.declared.codec.Record.the-variants as Record
+use Rattle.codec.specs.declared.Parsed.{Parsed}
+use Rattle.codec.specs.declared.Parsed.the-variants as Parsed
+use Rattle.codec.specs.declared.Record.the-variants as Record
 use Rattle.channel.specs.Calls as Channel
 use Rattle.channel.specs.Calls.{isChannel}
-use Rattle.channel.specs.Codec.{read}
+use Rattle.codec.specs.Codec.{read}
 use Rattle.calls.specs.Call as Call
 use Rattle.calls.specs.Call.{Conf, Call, Answer, Done}
 use Rattle.account.specs.Step.{State, onRunner, next, answer, opened}

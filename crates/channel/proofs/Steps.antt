@@ -1,7 +1,7 @@
 -- Laws of the record calls' code, over plain variables: there is too much to compute at the calls' own places.
 use mathlib.Core.Bool.{Bool, true, false, cond, not, _&&_}
 use mathlib.Core.Path.{_≡_, refl, sym, ap, _∙_}
-use mathlib.Core.List.{List, _++_, append-assoc}
+use mathlib.Core.List.{List, _++_}
 use Prim.Native.Nat.{ℕ, _+_, _-_, _^_, _≤_, _<_, min}
 use native.Mathlib.Omega.{arith}
 use lib.Dec.{leb}
@@ -11,15 +11,11 @@ use Rattle.exec.specs.declared.Limits.{Limits}
 use Rattle.exec.specs.declared.Refusal.the-variants.{NoLimits, StoreShort, StateOutOfRange}
 use Rattle.exec.specs.declared.Reply.{Reply}
 use Rattle.exec.specs.Limits.{isValid, poolOf}
-use Rattle.ring.specs.Runs.{copied, copied-length}
 use Rattle.credit.specs.Need.{byteNeed, lengthNeed}
 use Rattle.runner.specs.declared.answer.Hearing.{Hearing}
 use Rattle.runner.specs.declared.answer.LimitsAnswer.{LimitsAnswer}
-use Rattle.runner.specs.declared.answer.LimitsAnswer.the-variants as LimitsAnswer
 use Rattle.runner.specs.declared.answer.Message.{Message}
 use Rattle.runner.specs.declared.answer.Message.the-variants as Message
-use Rattle.runner.specs.declared.answer.Said.{Said}
-use Rattle.runner.specs.declared.answer.Said.the-variants as Said
 use Rattle.runner.specs.declared.answer.Saying.{Saying}
 use Rattle.runner.specs.declared.message.Choice.{Choice}
 use Rattle.runner.specs.declared.message.Choice.the-variants as Choice
@@ -33,14 +29,13 @@ use Rattle.runner.specs.State.{outOf, creditAt}
 use Rattle.runner.specs.Streams.{InputAfter, inputAfter}
 use Rattle.channel.specs.declared.calls.Reading.{Reading}
 use Rattle.channel.specs.declared.calls.Writing.{Writing}
-use Rattle.channel.specs.declared.codec.Record.{Record}
-use Rattle.channel.specs.declared.codec.Record.the-variants.{Adjust, Data, Extended, Eof, Close}
-use Rattle.channel.specs.Codec.{header, start, size}
-use Rattle.channel.specs.CodecLaws.{header-laid}
+use Rattle.codec.specs.declared.Record.{Record}
+use Rattle.codec.specs.declared.Record.the-variants.{Data}
+use Rattle.codec.specs.Codec.{size}
 use Rattle.exec.specs.declared.Stream.{Stream}
 use Rattle.exec.specs.declared.Stream.the-variants.{Stdout, Stderr}
 use Rattle.exec.specs.declared.Reply.the-variants as Reply
-use Rattle.channel.specs.Calls.{outputRecord, onChannel, admitted, readAfter, heard, made, admittedRead, readRecord, writeAfter, hasEnded, sentAs, laidRecord, partBack, told, sent, admittedWrite, writeRecord}
+use Rattle.channel.specs.Calls.{outputRecord, onChannel, admitted, readAfter, heard, made, admittedRead, readRecord, writeAfter, hasEnded, sentAs, partBack, told, sent, admittedWrite, writeRecord}
 use Rattle.channel.specs.CallLaws.{admittedLimits, admittedBy, rest, Narrow, Roomy, RoomyFor, Sayable}
 
 -- ---- what is met before a record
@@ -94,34 +89,6 @@ data-made rec n r at s store lengths x h b l e ex eh =
     rw (e, ex) (ap (λ (y : InputAfter). readAfter (heard (y .hearing)) (y .bytes) (y .lengths)) i)
 
 -- ---- a record written
-
--- bytes that are not moved
-pub unmoved : (d : List ℕ) (at n : ℕ) → d ≡ copied d at d at n
-unfolding copied
-unmoved d at n =
-    sym (append-assoc (take at d) (take n (drop at d)) (drop (at + n) d)
-    ∙ ap (λ (x : List ℕ). take at d ++ (take n (drop at d) ++ x)) (sym (drop-drop n at d))
-    ∙ ap (λ (x : List ℕ). take at d ++ x) (take-append-drop n (drop at d))
-    ∙ take-append-drop at d)
-
-pub start-most : (rec : Record) → start rec ≤ 13
-start-most (Adjust units) = omega arith
-start-most (Data n) = omega arith
-start-most (Extended n) = omega arith
-start-most Eof = omega arith
-start-most Close = omega arith
-
-module _ (rec : Record) (d b : List ℕ) (room : 13 + size rec ≤ length d) (e : b ≡ copied d (start rec) d 13 (size rec)) where
-  -- and the header is laid before it
-  pub laid-by : (channel : ℕ) (e₁ : List ℕ) → e₁ ≡ header channel rec ++ drop (start rec) b → e₁ ≡ laidRecord channel rec d
-  unfolding laidRecord
-  laid-by channel e₁ h =
-      h
-      ∙ ap (λ (x : List ℕ). header channel rec ++ drop (start rec) x) e
-      ∙ header-laid channel rec d d 13 (size rec) (omega (arith, start-most rec))
-
-  pub room-kept : start rec ≤ length b
-  room-kept = rw e (omega (arith, start-most rec, copied-length d (start rec) d 13 (size rec) (omega (arith, start-most rec)) room))
 
 -- a message's record fits where its payload does
 pub roomy-sent : (ended : Bool) (m : Message) (room : ℕ) → RoomyFor m room → Roomy (sentAs ended m) room

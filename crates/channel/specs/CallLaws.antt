@@ -1,13 +1,13 @@
 -- Laws of the record calls: what their inner functions ask and give (a record that was read is whole, a message's bytes fit its
--- record), that a record which was laid reads back, and that the buffer is kept where no message waits.
+-- record), and that the buffer is kept where no message waits.
 use mathlib.Core.Bool.{Bool, true, false, cond}
 use mathlib.Core.List.{List, _++_}
 use mathlib.Core.Path.{_≡_, refl, sym, ap, _∙_}
 use Prim.Native.Nat.{ℕ, _+_, _-_, _^_, _≤_, _<_}
 use native.Mathlib.Omega.{arith}
 use lib.Dec.{leb}
-use lib.ListN.{length, take, drop, length-append, length-drop, take-append-drop}
-use lib.Seq.{take-all, take-at, length-take-le, drop-drop}
+use lib.ListN.{length, take, drop, length-drop, take-append-drop}
+use lib.Seq.{take-all, drop-drop}
 use Rattle.exec.specs.declared.Limits.{Limits}
 use Rattle.exec.specs.declared.Refusal.the-variants.{StoreShort, NotAChannel}
 use Rattle.exec.specs.declared.Reply.{Reply}
@@ -28,14 +28,13 @@ use Rattle.runner.specs.Range.{bytesDo, stop}
 use Rattle.channel.specs.declared.calls.Sending.{Sending}
 use Rattle.channel.specs.declared.calls.Sending.the-variants as Sending
 use Rattle.channel.specs.declared.calls.Wrote.the-variants as Wrote
-use Rattle.channel.specs.declared.codec.Parsed.{Parsed}
-use Rattle.channel.specs.declared.codec.Parsed.the-variants as Parsed
-use Rattle.channel.specs.Calls.{isChannel, admitted, hasEnded, laidRecord, wrote, wroteBuffer, partBack, told, sent, roomyWrite, admittedWrite, writeRecord}
-use Rattle.channel.specs.declared.codec.Record.{Record}
-use Rattle.channel.specs.declared.codec.Record.the-variants.{Data}
-use Rattle.channel.specs.Codec.{header, start, size, Fits, bytesOf, read}
-use Rattle.channel.specs.CodecLaws.{header-length, read-is}
-use Rattle.channel.specs.RoundTrip.{back}
+use Rattle.codec.specs.declared.Parsed.{Parsed}
+use Rattle.codec.specs.declared.Parsed.the-variants as Parsed
+use Rattle.channel.specs.Calls.{isChannel, admitted, hasEnded, wrote, wroteBuffer, partBack, told, sent, roomyWrite, admittedWrite, writeRecord}
+use Rattle.codec.specs.declared.Record.{Record}
+use Rattle.codec.specs.declared.Record.the-variants.{Data}
+use Rattle.codec.specs.Codec.{start, size, read}
+use Rattle.codec.specs.CodecLaws.{read-is}
 
 -- admission by what the runner tells of its limits
 unfoldable pub admittedLimits : Limits → (enough : Bool) → Reply
@@ -95,23 +94,6 @@ unfoldable pub Sayable : Said → (room : ℕ) → Type 0
 Sayable Said.None room = Unit
 Sayable (Said.Message m) room = Narrow m × RoomyFor m room
 Sayable (Said.Refused x) room = Unit
-
--- ---- a record that was laid
-
-module _ (channel : ℕ) (rec : Record) (b : List ℕ) (room : 13 + size rec ≤ length b) where
-  payload-length : length (take (size rec) (drop 13 b)) ≡ size rec
-  payload-length = length-take-le (size rec) (drop 13 b) (simp length-drop (omega arith))
-
-  -- its bytes stand at the buffer's start
-  pub laid-front : take (start rec + size rec) (laidRecord channel rec b) ≡ bytesOf channel rec (take (size rec) (drop 13 b))
-  unfolding laidRecord bytesOf
-  laid-front =
-      take-at (header channel rec ++ take (size rec) (drop 13 b)) (drop (start rec + size rec) b) (start rec + size rec)
-      (simp (length-append, header-length channel rec, payload-length))
-
-  -- WHAT A RUNNER WRITES, THE PEER'S READER READS
-  pub laid-reads : channel < 2 ^ 32 → Fits rec → read channel (take (start rec + size rec) (laidRecord channel rec b)) ≡ Parsed.Read rec
-  laid-reads known fits = ap (read channel) laid-front ∙ back channel rec (take (size rec) (drop 13 b)) known fits payload-length
 
 -- ---- no message
 

@@ -1,6 +1,6 @@
 -- The two record calls on a runner, each whole: 12, 10, 11 and 13 first, then the record's own refusals, which all change
 -- nothing, and then the call that the record makes. A record read makes one of the runner's calls; a record written is a message.
-use mathlib.Core.Bool.{Bool, true, false, cond, _&&_, _||_}
+use mathlib.Core.Bool.{Bool, true, false, cond, _&&_}
 use mathlib.Core.List.{List, _++_}
 use Prim.Native.Nat.{ℕ, _+_}
 use lib.Dec.{leb}
@@ -38,11 +38,11 @@ use Rattle.channel.specs.declared.calls.Sending.the-variants as Sending
 use Rattle.channel.specs.declared.calls.Writing.{Writing}
 use Rattle.channel.specs.declared.calls.Wrote.{Wrote}
 use Rattle.channel.specs.declared.calls.Wrote.the-variants as Wrote
-use Rattle.channel.specs.declared.codec.Parsed.{Parsed}
-use Rattle.channel.specs.declared.codec.Parsed.the-variants as Parsed
-use Rattle.channel.specs.declared.codec.Record.{Record}
-use Rattle.channel.specs.declared.codec.Record.the-variants.{Adjust, Data, Extended, Eof, Close}
-use Rattle.channel.specs.Codec.{start, size, bytesOf, read}
+use Rattle.codec.specs.declared.Parsed.{Parsed}
+use Rattle.codec.specs.declared.Parsed.the-variants as Parsed
+use Rattle.codec.specs.declared.Record.{Record}
+use Rattle.codec.specs.declared.Record.the-variants.{Adjust, Data, Extended, Eof, Close}
+use Rattle.codec.specs.Codec.{start, size, read, laidRecord}
 
 -- ---- what is met before a record: 12, 10, 11, 13
 
@@ -138,11 +138,6 @@ sentAs ended (Message.Terminal outcome) = Sending.Record Close
 -- an End has come
 abbrev pub hasEnded : Runner → Bool
 hasEnded r = anyStream (λ (x : Stream). outOf x r .ended)
-
--- the record at the buffer's start, with its payload from byte 13 on of the buffer
-unfoldable pub laidRecord : (channel : ℕ) → Record → List ℕ → List ℕ
-laidRecord channel rec buffer =
-    bytesOf channel rec (take (size rec) (drop 13 buffer)) ++ drop (start rec + size rec) buffer
 
 -- its length, 0 where nothing is written
 abbrev pub lengthOf : Sending → ℕ

@@ -40,10 +40,10 @@ use Rattle.runner.specs.Message as Message
 use Rattle.runner.specs.Range as Range
 use Rattle.runner.specs.Streams as Streams
 use Rattle.runner.specs.Streams.{InputAfter, inputAfter}
-use Rattle.channel.specs.declared.codec.Parsed.the-variants as Parsed
-use Rattle.channel.specs.declared.codec.Record.the-variants.{Adjust, Data}
-use Rattle.channel.specs.Bytes.{be32At, numberAt}
-use Rattle.channel.specs.Codec.{header, bytesOf, kinded, fitting, checked, read}
+use Rattle.codec.specs.declared.Parsed.the-variants as Parsed
+use Rattle.codec.specs.declared.Record.the-variants.{Adjust, Data}
+use Rattle.octets.specs.Bytes.{be32At, numberAt}
+use Rattle.codec.specs.Codec.{header, bytesOf, kinded, fitting, checked, read}
 
 -- ---- the runners of the table
 -- (to unfold one of them is to unfold what its line names: the definitions that its calls compute with)

@@ -1,9 +1,7 @@
 // The two record calls on a runner: a record read is the call that it stands for, a record written is the next message.
 ghost use mathlib.Core.Path.{_≡_};
-ghost use mathlib.Core.List.{_++_};
 ghost use Prim.Native.Nat.{_+_, _≤_};
-ghost use lib.ListN.{length, take, drop};
-ghost use Rattle.ring.specs.Runs.{copied};
+ghost use lib.ListN.{length};
 ghost use Rattle.channel.specs.Calls.{
   isBytes,
   isChannel,
@@ -20,7 +18,6 @@ ghost use Rattle.channel.specs.Calls.{
   outputRecord,
   sentAs,
   hasEnded,
-  laidRecord,
   lengthOf,
   sentBuffer,
   wrote,
@@ -32,11 +29,9 @@ ghost use Rattle.channel.specs.Calls.{
   writeRecord,
 };
 ghost use Rattle.channel.specs.CallLaws.{admittedLimits, admittedBy, Whole, Narrow, Sayable, Roomy};
-ghost use Rattle.channel.specs.Codec.{start, size};
-use crate::codec::Parsed;
-use crate::codec::Record;
-use crate::codec::put_header;
-use crate::codec::slide;
+ghost use Rattle.codec.specs.Codec.{start};
+use codec::Parsed;
+use codec::Record;
 use exec::Limits;
 use exec::Pool;
 use exec::Receipt;
@@ -164,7 +159,7 @@ fn read_admitted(
 {
     match reply {
         Reply::Ok => {
-            let parsed = crate::codec::read(bytes, channel);
+            let parsed = codec::read(bytes, channel);
             read_parsed(parsed, runner, at, bytes, store, lengths)
         }
         Reply::Refused(refusal) => Reading {
@@ -399,25 +394,6 @@ fn lay_out(out: Sending, channel: u32, buffer: &mut [u8])
 {
     match out {
         Sending::Nothing => {}
-        Sending::Record(rec) => lay(rec, channel, buffer),
-    }
-}
-
-// Lays the record at the buffer's start, its payload brought from byte 13 to the header's end.
-fn lay(rec: Record, channel: u32, buffer: &mut [u8])
-    requires { ⌜ 13 + size rec ≤ length (now buffer) ⌝ }
-    ensures { λ _. ⌜ now (buffer .exit) ≡ laidRecord channel rec (now (buffer .entry)) ⌝ }
-{
-    bring(buffer, rec.start(), rec.size());
-    put_header(buffer, channel, rec);
-}
-
-// Where the header ends at byte 13, the payload stands there already.
-fn bring(buffer: &mut [u8], at: usize, n: usize)
-    requires { ⌜ (at ≤ 13) × (13 + n ≤ length (now buffer)) ⌝ }
-    ensures { λ _. ⌜ now (buffer .exit) ≡ copied (now (buffer .entry)) at (now (buffer .entry)) 13 n ⌝ }
-{
-    if at < 13 {
-        slide(buffer, at, 13, n);
+        Sending::Record(rec) => codec::lay(channel, rec, buffer),
     }
 }

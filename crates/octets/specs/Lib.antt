@@ -1,0 +1,3 @@
+-- Numbers in bytes.
+pub mod Bytes
+pub mod BytesLaws
