@@ -16,7 +16,7 @@ use Rattle.exec.specs.declared.Unit.the-variants.{Bytes, Frames}
 use Rattle.exec.specs.Limits.{isValid}
 use Rattle.exec.specs.Outcome.{isTruncated}
 use Rattle.credit.specs.Need.{byteNeed, lengthNeedAs, lengthNeed}
-use Rattle.stdio.specs.declared.input.Input.{Input}
+use Rattle.input.specs.declared.Input.{Input}
 use Rattle.runner.specs.declared.runner.Runner.{Runner}
 use Rattle.runner.specs.Calls as Calls
 use Rattle.runner.specs.Range.{bytesDo, lengthsDo, stop, openStop, fresh}

@@ -23,10 +23,10 @@ use Rattle.exec.specs.Limits.{inputBytes as inboxSize}
 use Rattle.ring.specs.Ring.{ringWrite}
 use Rattle.ring.specs.RingLaws.{write-length, write-other}
 use Rattle.credit.specs.Need.{byteNeed}
-use Rattle.stdio.specs.declared.output.Output.{Output}
+use Rattle.output.specs.declared.Output.{Output}
 use Rattle.credit.specs.Inbox.{inboxBase}
-use Rattle.stdio.specs.Input.{isKept, kept-paid, receiveBytes}
-use Rattle.stdio.specs.Output.{keeps, keeps-fit, sentOut, endedOut, askedOut, lostOut, closedOut, failedOut, hungUp}
+use Rattle.input.specs.Input.{isKept, kept-paid, receiveBytes}
+use Rattle.output.specs.Output.{keeps, keeps-fit, sentOut, endedOut, askedOut, lostOut, closedOut, failedOut, hungUp}
 use Rattle.runner.specs.declared.answer.Request.the-variants as Request
 use Rattle.runner.specs.declared.message.Choice.{Choice}
 use Rattle.runner.specs.declared.message.Choice.the-variants as Choice
@@ -35,7 +35,7 @@ use Rattle.runner.specs.declared.message.Wish.the-variants as Wish
 use Rattle.runner.specs.declared.runner.Runner.{Runner}
 use Rattle.runner.specs.Life.{awaitsLaunch, ticked, isLate, cancelAnswer, closeRunnerInput, noteStarted, noteLaunch, launchedNext, settledNext}
 use Rattle.runner.specs.Message.{choose, outputPaid, outputSent, effect, payload, wish, wishEffect}
-use Rattle.stdio.specs.Outputs.{putOutput}
+use Rattle.output.specs.Outputs.{putOutput}
 use Rattle.runner.specs.State.{outOf, withOutputs, at, base}
 use Rattle.runner.specs.Streams.{isShut, room, outputTaken, outputNext, outputStore, discardedNext, closedNext, failedNext, hungUpNext, creditNext, isTaken, inputNext, inputStore, endNext, writtenNext}
 use Rattle.calls.specs.Call as Call

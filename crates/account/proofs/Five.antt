@@ -21,8 +21,8 @@ use Rattle.exec.specs.declared.Unit as Units
 use Rattle.exec.specs.declared.Unit.the-variants.{Bytes, Frames}
 use Rattle.runner.specs.declared.message.Choice.{Choice}
 use Rattle.runner.specs.declared.message.Choice.the-variants as Choice
-use Rattle.stdio.specs.declared.input.Input.{Input}
-use Rattle.stdio.specs.declared.output.Output.{Output}
+use Rattle.input.specs.declared.Input.{Input}
+use Rattle.output.specs.declared.Output.{Output}
 use Rattle.runner.specs.declared.runner.Runner.{Runner}
 use Rattle.exec.specs.declared.Deadline.{Deadline}
 use Rattle.exec.specs.declared.Deadline.the-variants.{At, Never}
@@ -32,8 +32,8 @@ use Rattle.exec.specs.Key.{admits}
 use Rattle.exec.specs.Limits.{poolOf}
 use Rattle.exec.specs.Stream.{streamAt, following}
 use Rattle.credit.specs.Sender.{sendable}
-use Rattle.stdio.specs.Input.{closeInput}
-use Rattle.stdio.specs.Output.{isDone}
+use Rattle.input.specs.Input.{closeInput}
+use Rattle.output.specs.Output.{isDone}
 use Rattle.runner.specs.State.{outOf, creditAt}
 use Rattle.runner.specs.Life as Life
 use Rattle.runner.specs.Life.{isCleanedUp, endGrace, giveUp, beginTermination, passGrace, terminate, ticked, isReady, cancelAnswer}

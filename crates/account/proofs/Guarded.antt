@@ -24,7 +24,7 @@ use Rattle.exec.specs.Refusal.{number}
 use Rattle.credit.specs.Need.{byteNeed}
 use Rattle.credit.specs.Sender.{grantable}
 use Rattle.ring.specs.RingLaws.{read-length}
-use Rattle.stdio.specs.Input as Input
+use Rattle.input.specs.Input as Input
 use Rattle.runner.specs.declared.answer.Request.the-variants as Request
 use Rattle.runner.specs.declared.message.Choice.{Choice}
 use Rattle.runner.specs.declared.message.Choice.the-variants as Choice

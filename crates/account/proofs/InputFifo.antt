@@ -25,11 +25,11 @@ use Rattle.credit.specs.Sender.{creditFits}
 use Rattle.exec.specs.declared.Receipt.the-variants as Receipt
 use Rattle.exec.specs.declared.Received.{Received}
 use Rattle.exec.specs.declared.Received.the-variants as Received
-use Rattle.stdio.specs.declared.input.Input.{Input}
-use Rattle.stdio.specs.Input as In
-use Rattle.stdio.specs.Input.{pendingInput, receiveAnswer, isKept, receiveInput, receiveBytes, closeWhenTaken, isUsedUp, peerEnds, popIn, endInput, writtenInput}
-use Rattle.stdio.specs.Output.{keeps as keepsOf, keeps-fit}
-use Rattle.stdio.specs.Outputs.{outputsFit}
+use Rattle.input.specs.declared.Input.{Input}
+use Rattle.input.specs.Input as In
+use Rattle.input.specs.Input.{pendingInput, receiveAnswer, isKept, receiveInput, receiveBytes, closeWhenTaken, isUsedUp, peerEnds, popIn, endInput, writtenInput}
+use Rattle.output.specs.Output.{keeps as keepsOf, keeps-fit}
+use Rattle.output.specs.Outputs.{outputsFit}
 use Rattle.runner.specs.declared.answer.Request.the-variants as Request
 use Rattle.runner.specs.declared.message.Choice.{Choice}
 use Rattle.runner.specs.declared.message.Choice.the-variants as Choice

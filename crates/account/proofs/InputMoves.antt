@@ -13,8 +13,8 @@ use Rattle.exec.specs.declared.LaunchResult.the-variants as LaunchResult
 use Rattle.exec.specs.declared.MaybeStatus.{MaybeStatus}
 use Rattle.exec.specs.Time.{due}
 use Rattle.credit.specs.Inbox.{newInbox}
-use Rattle.stdio.specs.declared.input.Input.{Input}
-use Rattle.stdio.specs.Input.{closeInput}
+use Rattle.input.specs.declared.Input.{Input}
+use Rattle.input.specs.Input.{closeInput}
 use Rattle.runner.specs.declared.runner.Runner.{Runner}
 use Rattle.runner.specs.Life.{awaitsLaunch, isCleanedUp, closeRunnerInput, endGrace, giveUp, abandonLaunch, abandonOpenStreams, beginTermination, passGrace, terminate, passTimeout, passSettlement, giveUpUnlessClean, passGiveUp, dropLaunch, dropStreams, passAbandonment, fire, ticked, isLate as tooLate, cancelNext, noteStarted, noteLaunch, launchedNext, noteExit, isOver, noteExitOnce, timeoutCleared, exitedNext, silenced, giveUpSoon, cutOff, cutOffOnce, detachNext}
 use Rattle.lifecycle.specs.declared.life.Launch.the-variants as Launch

@@ -17,12 +17,12 @@ use Rattle.ring.specs.RingLaws.{wrap-lt, read-length, read-none, write-read}
 use Rattle.ring.specs.Frames.{restOf, sum, Popped, popped}
 use Rattle.ring.specs.FrameLaws.{rest-sum, pop-rest, pop-most, pop-length, push-is-write}
 use Rattle.credit.specs.Inbox.{framesPushed, framesPopped, lengthsPushed, freedBy, lengthsPopped, firstAfter, pushed}
-use Rattle.stdio.specs.declared.input.Input.{Input}
+use Rattle.input.specs.declared.Input.{Input}
 use Rattle.exec.specs.declared.Receipt.the-variants as Receipt
 use Rattle.exec.specs.declared.Received.{Received}
 use Rattle.exec.specs.declared.Received.the-variants as Received
-use Rattle.stdio.specs.Input.{closeInput, receiveAnswer, isReceipt, isApplied, receiveInput, receiveLengths, isPaid, passed, endInput, writtenInput, writtenLengths, closeWhenTaken, peerEnds, popIn}
-use Rattle.stdio.proofs.Receives.{chunk-fits}
+use Rattle.input.specs.Input.{closeInput, receiveAnswer, isReceipt, isApplied, receiveInput, receiveLengths, isPaid, passed, endInput, writtenInput, writtenLengths, closeWhenTaken, peerEnds, popIn}
+use Rattle.input.proofs.Receives.{chunk-fits}
 
 -- ---- frames: the bytes they hold, and what a pop leaves
 

@@ -13,12 +13,12 @@ use Rattle.exec.specs.Stream.{every-stream}
 use Rattle.exec.specs.Outcome.{isTruncated}
 use Rattle.ring.specs.RingLaws.{read-none}
 use Rattle.lifecycle.specs.Life.{exitKnown, isFenced, isSettled}
-use Rattle.stdio.specs.declared.output.Output.{Output}
-use Rattle.stdio.specs.Output.{newOutput, isDone, isDelivered}
+use Rattle.output.specs.declared.Output.{Output}
+use Rattle.output.specs.Output.{newOutput, isDone, isDelivered}
 use Rattle.runner.specs.declared.runner.Runner.{Runner}
 use Rattle.runner.specs.Life.{awaitsLaunch, ticked, isReady, outcomeOf}
 use Rattle.runner.specs.Range as Range
-use Rattle.stdio.specs.Outputs.{allDelivered}
+use Rattle.output.specs.Outputs.{allDelivered}
 use Rattle.runner.specs.State.{outOf, base}
 use Rattle.calls.specs.Call as Call
 use Rattle.calls.specs.Call.{Conf, Call, Answer, count}

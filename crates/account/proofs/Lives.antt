@@ -21,7 +21,7 @@ use Rattle.exec.specs.Each.{per, both}
 use Rattle.exec.specs.Time.{after, due}
 use Rattle.lifecycle.specs.Life.{launchKnown, exitKnown, orLost, isFenced, isSettled, expired, settleWith}
 use Rattle.lifecycle.specs.Setters.{setTimeoutAt}
-use Rattle.stdio.specs.Output.{graceEnded, givenUp, abandoned}
+use Rattle.output.specs.Output.{graceEnded, givenUp, abandoned}
 use Rattle.runner.specs.Life as Life
 use Rattle.runner.specs.Life.{awaitsLaunch, isCleanedUp, closeRunnerInput, endGrace, giveUp, abandonLaunch, abandonOpenStreams, beginTermination, passGrace, terminate, dropLaunch, ticked, noteExit, noteExitOnce, exitedNext, silenced, giveUpSoon, cutOff, cutOffOnce, detachNext}
 use Rattle.runner.specs.State.{withClocks, outOf, base}

@@ -9,19 +9,19 @@ use borrow.Author.Tests.{ltb-false, le-ltb}
 use Rattle.exec.specs.declared.Settlement.{Settlement}
 use Rattle.exec.specs.declared.Stream.{Stream}
 use Rattle.exec.specs.declared.Stream.the-variants.{Stdout, Stderr}
-use Rattle.stdio.specs.declared.input.Input.{Input}
-use Rattle.stdio.specs.declared.output.Output.{Output}
+use Rattle.input.specs.declared.Input.{Input}
+use Rattle.output.specs.declared.Output.{Output}
 use Rattle.lifecycle.specs.declared.life.Settling.{Settling}
 use Rattle.lifecycle.specs.declared.life.Settling.the-variants as Settling
 use Rattle.runner.specs.declared.runner.Runner.{Runner}
 use Rattle.exec.specs.declared.Deadline.{Deadline}
 use Rattle.lifecycle.specs.Life.{launchKnown, exitKnown, isSettled, expired, settleWith}
-use Rattle.stdio.specs.Input as In
-use Rattle.stdio.specs.Input.{closeWhenTaken, peerEnds, endInput}
-use Rattle.stdio.specs.Output.{graceEnded, givenUp, closedOut, failedOut, hungUp, lostOut, endedOut, askedOut, sentOut, keeps, intake}
+use Rattle.input.specs.Input as In
+use Rattle.input.specs.Input.{closeWhenTaken, peerEnds, endInput}
+use Rattle.output.specs.Output.{graceEnded, givenUp, closedOut, failedOut, hungUp, lostOut, endedOut, askedOut, sentOut, keeps, intake}
 use Rattle.runner.specs.Life.{awaitsLaunch, isCleanedUp, endGrace, giveUp, dropLaunch}
 use Rattle.exec.specs.Stream.{every-stream, sumOfStreams}
-use Rattle.stdio.specs.Outputs.{allClosed}
+use Rattle.output.specs.Outputs.{allClosed}
 use Rattle.runner.specs.State.{outOf}
 use Rattle.account.proofs.Streams.{blocked-by}
 use Rattle.account.proofs.Sides.{out-each}

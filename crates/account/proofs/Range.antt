@@ -37,9 +37,9 @@ use Rattle.credit.specs.RangeLaws.{both}
 use Rattle.credit.specs.Receiver.{unitsFit}
 use Rattle.credit.specs.Sender.{newCredit, grantable, grant, spent}
 use Rattle.lifecycle.specs.Life.{isFenced}
-use Rattle.stdio.specs.declared.input.Input.{Input}
-use Rattle.stdio.specs.declared.output.Output.{Output}
-use Rattle.stdio.specs.Output.{newOutput, graceEnded, givenUp, abandoned, sentOut, endedOut, askedOut, lostOut, closedOut, failedOut, hungUp, keeps, keeps-fit, outputFits}
+use Rattle.input.specs.declared.Input.{Input}
+use Rattle.output.specs.declared.Output.{Output}
+use Rattle.output.specs.Output.{newOutput, graceEnded, givenUp, abandoned, sentOut, endedOut, askedOut, lostOut, closedOut, failedOut, hungUp, keeps, keeps-fit, outputFits}
 use Rattle.runner.specs.declared.answer.Request.the-variants as Request
 use Rattle.runner.specs.declared.message.Choice.{Choice}
 use Rattle.runner.specs.declared.message.Choice.the-variants as Choice

@@ -29,8 +29,8 @@ use Rattle.exec.specs.Limits.{cost, isValid, offChunk, outputPool}
 use Rattle.exec.specs.Refusal.{number}
 use Rattle.credit.specs.declared.sender.Credit.{Credit}
 use Rattle.credit.specs.Sender.{grantable, grant}
-use Rattle.stdio.specs.declared.input.Input.{Input}
-use Rattle.stdio.specs.Input as Input
+use Rattle.input.specs.declared.Input.{Input}
+use Rattle.input.specs.Input as Input
 use Rattle.runner.specs.declared.answer.Request.the-variants as Request
 use Rattle.runner.specs.declared.message.Choice.{Choice}
 use Rattle.runner.specs.declared.message.Choice.the-variants as Choice

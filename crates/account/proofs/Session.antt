@@ -23,7 +23,7 @@ use Rattle.exec.specs.Key.{admits}
 use Rattle.exec.specs.Limits.{cost, bytesWith, bytesWindow, limitsFor}
 use Rattle.ring.specs.Ring.{wrap, ringRead, ringFrom, ringWrite}
 use Rattle.ring.specs.Runs.{copied}
-use Rattle.stdio.specs.Output.{takenIn, sent}
+use Rattle.output.specs.Output.{takenIn, sent}
 use Rattle.runner.specs.Calls as Calls
 use Rattle.runner.specs.Choose.{ifElse}
 use Rattle.runner.specs.Life.{closeRunnerInput, endGrace, giveUp, abandonLaunch, abandonOpenStreams, beginTermination, passGrace, terminate, passTimeout, passSettlement, giveUpUnlessClean, passGiveUp, dropLaunch, dropStreams, passAbandonment, fire, ticked, cancelled, cancelAnswer, cancelNext, noteStarted, noteLaunch, launchedNext, isReady, outcomeOf}

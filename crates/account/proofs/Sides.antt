@@ -9,8 +9,8 @@ use Rattle.exec.specs.declared.Stream.{Stream}
 use Rattle.exec.specs.declared.Stream.the-variants.{Stdout, Stderr}
 use Rattle.exec.specs.Each.{Each, one, onOne, per, both}
 use Rattle.exec.specs.Stream.{sameStream, everyStream, sumOfStreams}
-use Rattle.stdio.specs.declared.output.Output.{Output}
-use Rattle.stdio.specs.Outputs.{eachOutput, outputIn, putOutput}
+use Rattle.output.specs.declared.Output.{Output}
+use Rattle.output.specs.Outputs.{eachOutput, outputIn, putOutput}
 use Rattle.runner.specs.State.{base}
 
 pub same-self : (x : Stream) → sameStream x x ≡ true

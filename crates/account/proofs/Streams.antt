@@ -9,8 +9,8 @@ use borrow.Author.Tests.{le-ltb, lt-ltb}
 use lib.ListN.{length, take, length-append}
 use Rattle.ring.specs.Ring.{wrap, ringWrite}
 use Rattle.ring.specs.RingLaws.{wrap-lt, read-none, write-read, write-length}
-use Rattle.stdio.specs.declared.output.Output.{Output}
-use Rattle.stdio.specs.Output.{graceEnded, givenUp, abandoned, closedOut, failedOut, lostOut, sentOut, takes, keeps, intake, keeps-fit}
+use Rattle.output.specs.declared.Output.{Output}
+use Rattle.output.specs.Output.{graceEnded, givenUp, abandoned, closedOut, failedOut, lostOut, sentOut, takes, keeps, intake, keeps-fit}
 use Rattle.account.specs.Account.{Tally, marked, takenBy, sentBy, cut}
 use Rattle.account.proofs.Rings.{some?, ring, ring-some, ring-split}
 use lib.Seq.{take-length}

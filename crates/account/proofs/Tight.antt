@@ -12,7 +12,7 @@ use Rattle.runner.specs.Choose.{ifElse}
 use Rattle.runner.specs.Life.{closeRunnerInput, endGrace, giveUp, abandonLaunch, abandonOpenStreams, beginTermination, passGrace, terminate, passTimeout, passSettlement, giveUpUnlessClean, passGiveUp, dropLaunch, dropStreams, passAbandonment, fire, ticked, cancelled, cancelAnswer, cancelNext, noteStarted, noteLaunch, launchedNext, isReady, outcomeOf}
 use Rattle.runner.specs.Message.{sendableOf, order, choose, outputPaid, outputSent, effect, payload}
 use Rattle.runner.specs.Range.{fresh}
-use Rattle.stdio.specs.Output.{sent}
+use Rattle.output.specs.Output.{sent}
 use Rattle.calls.specs.Call as Call
 use Rattle.calls.specs.Call.{Call, Answer}
 use Rattle.account.specs.Claim.{anyTerminal, messages}

@@ -21,8 +21,8 @@ use Rattle.exec.specs.declared.Stream.{Stream}
 use Rattle.exec.specs.declared.Stream.the-variants.{Stdout, Stderr}
 use Rattle.runner.specs.declared.message.Choice.{Choice}
 use Rattle.runner.specs.declared.message.Choice.the-variants as Choice
-use Rattle.stdio.specs.declared.input.Input.{Input}
-use Rattle.stdio.specs.declared.output.Output.{Output}
+use Rattle.input.specs.declared.Input.{Input}
+use Rattle.output.specs.declared.Output.{Output}
 use Rattle.runner.specs.declared.runner.Runner.{Runner}
 use Rattle.exec.specs.declared.Deadline.{Deadline}
 use Rattle.exec.specs.declared.Deadline.the-variants.{Never}
@@ -30,9 +30,9 @@ use Rattle.exec.specs.Time.{earliest, due}
 use Rattle.exec.specs.Key.{admits}
 use Rattle.lifecycle.specs.Life.{exitKnown, isFenced}
 use Rattle.lifecycle.specs.Setters.{setTimeoutAt}
-use Rattle.stdio.specs.Input.{closeInput, closeWhenTaken, popIn, endInput, receiveInput, writtenInput}
-use Rattle.stdio.specs.Output.{abandoned, closedOut, failedOut, hungUp, lostOut, endedOut, askedOut, sentOut}
-use Rattle.stdio.specs.Outputs.{putOutput}
+use Rattle.input.specs.Input.{closeInput, closeWhenTaken, popIn, endInput, receiveInput, writtenInput}
+use Rattle.output.specs.Output.{abandoned, closedOut, failedOut, hungUp, lostOut, endedOut, askedOut, sentOut}
+use Rattle.output.specs.Outputs.{putOutput}
 use Rattle.runner.specs.State.{withClocks, withInput, withOutputs, withFlow, outOf, at}
 use Rattle.runner.specs.Life as Life
 use Rattle.runner.specs.Life.{awaitsLaunch, isCleanedUp, closeRunnerInput, endGrace, giveUp, abandonLaunch, abandonOpenStreams, terminate, dropLaunch, ticked, noteStarted, noteLaunch, launchedNext, settledNext, noteExit, noteExitOnce, exitedNext, silenced, giveUpSoon, cutOff, cutOffOnce, detachNext}

@@ -20,8 +20,8 @@ use Rattle.exec.specs.declared.Stream.{Stream}
 use Rattle.exec.specs.Each.{one}
 use Rattle.exec.specs.Key.{admits}
 use Rattle.exec.specs.Outcome.{isTruncated}
-use Rattle.stdio.specs.declared.output.Output.{Output}
-use Rattle.stdio.specs.Output.{isDone, lostOut, closedOut, failedOut, hungUp, askedOut}
+use Rattle.output.specs.declared.Output.{Output}
+use Rattle.output.specs.Output.{isDone, lostOut, closedOut, failedOut, hungUp, askedOut}
 use Rattle.runner.specs.declared.answer.Request.the-variants as Request
 use Rattle.runner.specs.declared.message.Wish.{Wish}
 use Rattle.runner.specs.declared.message.Wish.the-variants as Wish

@@ -20,8 +20,8 @@ use Rattle.exec.specs.declared.Received.{Received}
 use Rattle.exec.specs.declared.Received.the-variants.{Refused}
 use Rattle.exec.specs.declared.Refusal.{Refusal}
 use Rattle.exec.specs.declared.Refusal.the-variants as Refusal
-use Rattle.stdio.specs.declared.input.Input.{Input}
-use Rattle.stdio.specs.Input.{receiveAnswer, isReceipt, answered, receiveInput, endInput, writtenInput}
+use Rattle.input.specs.declared.Input.{Input}
+use Rattle.input.specs.Input.{receiveAnswer, isReceipt, answered, receiveInput, endInput, writtenInput}
 use Rattle.runner.specs.declared.answer.Request.the-variants as Request
 use Rattle.runner.specs.declared.message.Choice.{Choice}
 use Rattle.runner.specs.declared.message.Choice.the-variants as Choice

@@ -8,7 +8,7 @@ use lib.ListN.{length}
 use Rattle.exec.specs.declared.Limits.{Limits}
 use Rattle.exec.specs.Limits.{cost}
 use Rattle.credit.specs.Inbox.{inboxHeld}
-use Rattle.stdio.specs.declared.input.Input.{Input}
+use Rattle.input.specs.declared.Input.{Input}
 use Rattle.runner.specs.declared.runner.Runner.{Runner}
 use Rattle.calls.specs.Call.{Conf, Call, key, limits, credit, input, endInput, cancel, launched, readAllowance, output, discarded, outputClosed, outputFailed, outputHungUp, pendingInput, inputWritten, inputClosed, exited, settled, dropped, reset, disconnect, tick, deadline, nextRequest, nextMessage, isFinished, isDetached, awaitsSettlement, memoryBound, buffered, highWater, Answer, Ok, Applied, Stale, Late, Refused, Taken, Pending, Value, Time, Truth, Asks, Says, IsKey, AreLimits, Nothing}
 use Rattle.account.specs.Step.{State, next, answer, opened, after}

@@ -26,8 +26,8 @@ use Rattle.ring.specs.Frames.{popFrom}
 use Rattle.ring.specs.Ring.{wrap, ringFrom, ringWrite}
 use Rattle.ring.specs.Runs.{copied}
 use Rattle.credit.specs.Inbox.{front}
-use Rattle.stdio.specs.Input as Input
-use Rattle.stdio.specs.Output.{outputFits}
+use Rattle.input.specs.Input as Input
+use Rattle.output.specs.Output.{outputFits}
 use Rattle.runner.specs.declared.answer.Hearing.{Hearing}
 use Rattle.runner.specs.declared.answer.When.{When}
 use Rattle.runner.specs.declared.answer.When.the-variants as When

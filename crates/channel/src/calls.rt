@@ -47,7 +47,7 @@ use runner::answer::Noting;
 use runner::answer::Said;
 use runner::answer::Saying;
 use runner::runner::Runner;
-use stdio::output::Output;
+use output::Output;
 
 // What a record read gives: the answer of the call that it made.
 pub enum Answer {

@@ -23,7 +23,7 @@ use Rattle.runner.specs.Range.{bytesDo, stop}
 use Rattle.ring.specs.Ring.{firstRun}
 use Rattle.credit.specs.Inbox.{front, inboxBase}
 use Rattle.exec.specs.Limits.{inputBytes}
-use Rattle.stdio.specs.Input as Input
+use Rattle.input.specs.Input as Input
 use Rattle.runner.specs.Streams.{OutputAfter, InputAfter, pendingOf}
 use Rattle.runner.specs.declared.answer.Saying.{Saying}
 use Rattle.runner.specs.Message.{MessageAfter, messageAfter, saidFor, choose, sendableOf}

@@ -25,15 +25,15 @@ use Rattle.credit.specs.declared.sender.Granting.{Granting}
 use Rattle.credit.specs.Need.{byteNeed}
 use Rattle.credit.specs.RangeLaws as Inbox
 use Rattle.credit.specs.Sender.{grantable, grant}
-use Rattle.stdio.specs.declared.input.Input.{Input}
-use Rattle.stdio.specs.declared.input.Receiving.{Receiving}
-use Rattle.stdio.specs.declared.output.Intake.{Intake}
-use Rattle.stdio.specs.declared.output.Output.{Output}
-use Rattle.stdio.specs.Input as In
-use Rattle.stdio.specs.Input.{isApplied}
-use Rattle.stdio.specs.Output.{IntakeAfter, intakeAfter, takenIn, keeps, keeps-fit}
-use Rattle.stdio.specs.Outputs.{putOutput}
-use Rattle.stdio.proofs.Receives.{chunk-fits}
+use Rattle.input.specs.declared.Input.{Input}
+use Rattle.input.specs.declared.Receiving.{Receiving}
+use Rattle.output.specs.declared.Intake.{Intake}
+use Rattle.output.specs.declared.Output.{Output}
+use Rattle.input.specs.Input as In
+use Rattle.input.specs.Input.{isApplied}
+use Rattle.output.specs.Output.{IntakeAfter, intakeAfter, takenIn, keeps, keeps-fit}
+use Rattle.output.specs.Outputs.{putOutput}
+use Rattle.input.proofs.Receives.{chunk-fits}
 use Rattle.runner.specs.declared.answer.Taken.the-variants as Taken
 use Rattle.runner.specs.declared.runner.Runner.{Runner}
 use Rattle.runner.specs.declared.streams.Accounting.{Accounting}

@@ -22,8 +22,8 @@ use Rattle.exec.specs.Limits.{isValid, noLimits, outputPool}
 use Rattle.exec.specs.Refusal.{number}
 use Rattle.credit.specs.Need.{byteNeed, lengthNeed}
 use Rattle.credit.specs.RangeLaws.{both}
-use Rattle.stdio.specs.declared.input.Input.{Input}
-use Rattle.stdio.specs.Input as In
+use Rattle.input.specs.declared.Input.{Input}
+use Rattle.input.specs.Input as In
 use Rattle.runner.specs.declared.answer.Hearing.{Hearing}
 use Rattle.runner.specs.declared.answer.Said.{Said}
 use Rattle.runner.specs.declared.answer.Taken.the-variants as Taken

@@ -6,9 +6,9 @@ use mathlib.Core.List.{List}
 use Rattle.exec.specs.declared.Stream.{Stream}
 use Rattle.exec.specs.Stream.{index, following}
 use Rattle.credit.specs.declared.sender.Credit.{Credit}
-use Rattle.stdio.specs.declared.output.Output.{Output}
-use Rattle.stdio.specs.Output.{SendAfter, sendAfter, sent}
-use Rattle.stdio.specs.Outputs.{putOutput}
+use Rattle.output.specs.declared.Output.{Output}
+use Rattle.output.specs.Output.{SendAfter, sendAfter, sent}
+use Rattle.output.specs.Outputs.{putOutput}
 use Rattle.runner.specs.declared.message.Choice.{Choice}
 use Rattle.runner.specs.declared.message.Choice.the-variants as Choice
 use Rattle.runner.specs.declared.runner.Runner.{Runner}

@@ -23,9 +23,9 @@ use Rattle.lifecycle.specs.declared.life.Settling.the-variants.{Fenced}
 use Rattle.lifecycle.specs.Clocks.{terminateClocks, stopWaiting, giveUpBy, clocksDue, firstOf}
 use Rattle.lifecycle.specs.Life.{launchKnown, exitKnown, isFenced, isSettled, settlingLate, expectedBy, endFor, endWith, lifeGivenUp, lifeExpired, lifeSettled, lifeOutcome}
 use Rattle.lifecycle.specs.Setters.{setTimeoutAt, setGraceUntil, setGiveUpAt, setAbandonAt, setLaunch, setSettling}
-use Rattle.stdio.specs.Input.{closeInput, messageTold}
-use Rattle.stdio.specs.Output.{graceEnded, givenUp, abandoned}
-use Rattle.stdio.specs.Outputs.{eachOutput, allClosed, anyHeld, allDelivered}
+use Rattle.input.specs.Input.{closeInput, messageTold}
+use Rattle.output.specs.Output.{graceEnded, givenUp, abandoned}
+use Rattle.output.specs.Outputs.{eachOutput, allClosed, anyHeld, allDelivered}
 use Rattle.runner.specs.declared.answer.Hearing.{Hearing}
 use Rattle.runner.specs.declared.runner.Runner.{Runner}
 use Rattle.runner.specs.State.{with, withClocks, withLife, flagsOf, outOf}

@@ -14,9 +14,9 @@ use Rattle.ring.specs.Ring.{ringRead}
 use Rattle.credit.specs.Sender.{sendable, spent}
 use Rattle.lifecycle.specs.declared.flags.Flags.{Flags}
 use Rattle.lifecycle.specs.Life.{terminateTaken}
-use Rattle.stdio.specs.declared.output.Output.{Output}
-use Rattle.stdio.specs.Input.{canGrant, grantedIn, messageTold, closeAsked}
-use Rattle.stdio.specs.Output.{isDone, endedOut, askedOut, sentOut}
+use Rattle.output.specs.declared.Output.{Output}
+use Rattle.input.specs.Input.{canGrant, grantedIn, messageTold, closeAsked}
+use Rattle.output.specs.Output.{isDone, endedOut, askedOut, sentOut}
 use Rattle.runner.specs.declared.answer.Message.the-variants as Message
 use Rattle.runner.specs.declared.answer.Request.{Request}
 use Rattle.runner.specs.declared.answer.Request.the-variants as Request

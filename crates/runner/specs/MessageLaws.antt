@@ -20,7 +20,7 @@ use Rattle.runner.specs.declared.message.Choice.{Choice}
 use Rattle.runner.specs.declared.message.Choice.the-variants as Choice
 use Rattle.runner.specs.declared.runner.Runner.{Runner}
 use Rattle.runner.specs.Choose.{ifElse}
-use Rattle.stdio.specs.Input.{canGrant}
+use Rattle.input.specs.Input.{canGrant}
 use Rattle.runner.specs.Life.{awaitsLaunch, isReady}
 use Rattle.runner.specs.Message.{sendableOf, untold, order, choose}
 use Rattle.runner.specs.RangeLaws.{Queued, InRange}

@@ -20,9 +20,9 @@ use Rattle.credit.specs.Sender.{newCredit}
 use Rattle.lifecycle.specs.declared.life.Exit.the-variants as Exit
 use Rattle.lifecycle.specs.declared.life.Launch.the-variants as Launch
 use Rattle.lifecycle.specs.declared.life.Settling.the-variants as Settling
-use Rattle.stdio.specs.Input.{newInput}
-use Rattle.stdio.specs.Output.{newOutput}
-use Rattle.stdio.specs.Outputs.{outputsFit}
+use Rattle.input.specs.Input.{newInput}
+use Rattle.output.specs.Output.{newOutput}
+use Rattle.output.specs.Outputs.{outputsFit}
 use Rattle.runner.specs.declared.runner.Runner.{Runner}
 use Rattle.runner.specs.State.{flagsOf, creditsFit}
 

@@ -18,10 +18,10 @@ use Rattle.exec.specs.Stream.{index, everyStream, every-stream}
 use Rattle.credit.specs.Range.{inboxFits, inboxWithin}
 use Rattle.credit.specs.RangeLaws as Inbox
 use Rattle.credit.specs.Sender.{creditFits}
-use Rattle.stdio.specs.declared.output.Output.{Output}
-use Rattle.stdio.specs.Output as Queue
-use Rattle.stdio.specs.Output.{outputFits, output-range}
-use Rattle.stdio.specs.Outputs.{outputIn, outputsFit, outputsWithin}
+use Rattle.output.specs.declared.Output.{Output}
+use Rattle.output.specs.Output as Queue
+use Rattle.output.specs.Output.{outputFits, output-range}
+use Rattle.output.specs.Outputs.{outputIn, outputsFit, outputsWithin}
 use Rattle.runner.specs.declared.runner.Runner.{Runner}
 use Rattle.runner.specs.Range.{inRange, openStop, stop}
 use Rattle.runner.specs.State.{outOf, creditAt, creditsFit}

@@ -11,9 +11,9 @@ use Rattle.credit.specs.Sender.{newCredit, creditFits}
 use Rattle.lifecycle.specs.declared.clocks.Clocks.{Clocks}
 use Rattle.lifecycle.specs.declared.flags.Flags.{Flags}
 use Rattle.lifecycle.specs.declared.life.Life.{Life}
-use Rattle.stdio.specs.declared.input.Input.{Input}
-use Rattle.stdio.specs.declared.output.Output.{Output}
-use Rattle.stdio.specs.Outputs.{outputIn, putOutput, queuedOf}
+use Rattle.input.specs.declared.Input.{Input}
+use Rattle.output.specs.declared.Output.{Output}
+use Rattle.output.specs.Outputs.{outputIn, putOutput, queuedOf}
 use Rattle.runner.specs.declared.runner.Runner.{Runner}
 
 -- ---- parts set

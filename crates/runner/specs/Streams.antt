@@ -18,9 +18,9 @@ use Rattle.exec.specs.declared.Stream.{Stream}
 use Rattle.ring.specs.Ring.{ringWrite}
 use Rattle.credit.specs.declared.sender.Credit.{Credit}
 use Rattle.credit.specs.Sender.{grantable, grant}
-use Rattle.stdio.specs.declared.input.Input.{Input}
-use Rattle.stdio.specs.Input as Input
-use Rattle.stdio.specs.Output.{allowance, takes, keeps, intake, closedOut, failedOut, hungUp, lostOut}
+use Rattle.input.specs.declared.Input.{Input}
+use Rattle.input.specs.Input as Input
+use Rattle.output.specs.Output.{allowance, takes, keeps, intake, closedOut, failedOut, hungUp, lostOut}
 use Rattle.runner.specs.declared.answer.Hearing.{Hearing}
 use Rattle.runner.specs.declared.answer.Taken.the-variants as Taken
 use Rattle.runner.specs.declared.answer.Taking.{Taking}

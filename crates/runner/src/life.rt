@@ -52,12 +52,12 @@ use exec::Received;
 use exec::Settlement;
 use lifecycle::life::Launch;
 use lifecycle::life::Settling;
-use stdio::outputs::abandon_each;
-use stdio::outputs::all_closed;
-use stdio::outputs::all_delivered;
-use stdio::outputs::any_held;
-use stdio::outputs::end_grace_of_each;
-use stdio::outputs::give_up_each;
+use output::outputs::abandon_each;
+use output::outputs::all_closed;
+use output::outputs::all_delivered;
+use output::outputs::any_held;
+use output::outputs::end_grace_of_each;
+use output::outputs::give_up_each;
 
 impl Runner {
     // Whether the launch result is still waited for.

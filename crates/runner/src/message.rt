@@ -34,9 +34,9 @@ use crate::runner::Runner;
 use credit::sender::Credit;
 use exec::MaybeCause;
 use exec::Stream;
-use stdio::output::Output;
-use stdio::outputs::output_in;
-use stdio::outputs::put_output;
+use output::Output;
+use output::outputs::output_in;
+use output::outputs::put_output;
 
 // What the runner says next, by what its state shows.
 pub enum Choice {

@@ -16,7 +16,7 @@ pub(crate) fn ring_base(stream: Stream, chunk: u32) -> usize
     }
 }
 
-// One of two, as in `stdio::outputs`.
+// One of two, as in `output::outputs`.
 fn one_of(first: bool, a: Credit, b: Credit) -> Credit
     ensures { λ r. ⌜ r ≡ cond first a b ⌝ }
 {

@@ -53,7 +53,7 @@ impl Runner {
         let input = self.input;
         let inbox = input.inbox;
         let window = input.window;
-        ((stdio::outputs::fit(outputs, limits.chunk) & credits_fit(first, second))
+        ((output::outputs::fit(outputs, limits.chunk) & credits_fit(first, second))
             & inbox.fits(limits, window))
             & (self.turn <= 1)
     }
@@ -79,7 +79,7 @@ impl Runner {
         let outputs = self.outputs;
         let first = self.credits[0];
         let second = self.credits[1];
-        (stdio::outputs::within(outputs, limits.chunk) & credits_fit(first, second))
+        (output::outputs::within(outputs, limits.chunk) & credits_fit(first, second))
             & (self.turn <= 1)
     }
 

@@ -82,10 +82,10 @@ use lifecycle::life::Exit;
 use lifecycle::life::Launch;
 use lifecycle::life::Life;
 use lifecycle::life::Settling;
-use stdio::input::Input;
-use stdio::output::Output;
-use stdio::outputs::output_in;
-use stdio::outputs::put_output;
+use input::Input;
+use output::Output;
+use output::outputs::output_in;
+use output::outputs::put_output;
 
 pub struct Runner {
     pub key: Key,

@@ -5,7 +5,7 @@ ghost use Prim.Native.Nat.{_≤_, _<_, _^_, max};
 ghost use lib.ListN.{length};
 ghost use Rattle.exec.specs.Key.{admits};
 ghost use Rattle.credit.specs.Need.{byteNeed};
-ghost use Rattle.stdio.specs.Input.{isApplied};
+ghost use Rattle.input.specs.Input.{isApplied};
 ghost use Rattle.runner.specs.Calls.{credit, accountingOf};
 ghost use Rattle.runner.specs.RangeLaws.{InRange};
 ghost use Rattle.runner.specs.State.{buffered};
@@ -38,8 +38,8 @@ use exec::Receipt;
 use exec::Received;
 use exec::Reply;
 use exec::Stream;
-use stdio::outputs::output_in;
-use stdio::outputs::put_output;
+use output::outputs::output_in;
+use output::outputs::put_output;
 
 // What credit moves of the runner, and its answer. Such parts are handed back, and not the runner, as the grant has several ways
 // to end: each would copy the runner, and the caller could not leave it where it is.
@@ -57,7 +57,7 @@ impl Runner {
         let outputs = self.outputs;
         let input = self.input;
         let inbox = input.inbox;
-        stdio::outputs::buffered_of(outputs) + inbox.length
+        output::outputs::buffered_of(outputs) + inbox.length
     }
 
     // The high-water mark, given whether a call kept none of its bytes.

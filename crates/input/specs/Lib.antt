@@ -1,0 +1,3 @@
+-- The input of a workload, and the laws that callers use.
+pub mod Setters
+pub mod Input

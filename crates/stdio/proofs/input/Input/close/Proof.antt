@@ -1,7 +1,0 @@
--- `stdio::input::Input::close` meets its contract.
-use borrow.Author.Needs.{needs}
-use Rattle.stdio.proofs.input.Input.close.Statement.{statement}
-use Rattle.stdio.proofs.input.Input.close.Tie as tie
-
-pub close-spec : {M : Type 1} → statement M
-close-spec = tie.close (tie.spec (λ c. search needs) (λ c κs. search needs) (λ c. simp (c .before .before .if1 .left, c .before .new .ensures)))

@@ -1,7 +1,0 @@
--- `stdio::output::Output::allowance` meets its contract.
-use borrow.Author.Needs.{needs}
-use Rattle.stdio.proofs.output.Output.allowance.Statement.{statement}
-use Rattle.stdio.proofs.output.Output.allowance.Tie as tie
-
-pub allowance-spec : {M : Type 1} → statement M
-allowance-spec = tie.close (tie.spec (λ c. simp (c .if1 .taken)) (search needs) (λ c. simp (c .before .if1 .left)))
