@@ -3,14 +3,14 @@ use mathlib.Core.Bool.{Bool, true, false}
 use Prim.Native.Nat.{ℕ, _≤_, min}
 use native.Mathlib.Omega.{arith}
 use Rattle.exec.specs.declared.Stream.{Stream}
-use Rattle.runner.specs.declared.message.Choice.{Choice}
-use Rattle.runner.specs.declared.message.Choice.the-variants as Choice
+use Rattle.choice.specs.declared.Choice.{Choice}
+use Rattle.choice.specs.declared.Choice.the-variants as Choice
 use Rattle.runner.specs.declared.runner.Runner.{Runner}
-use Rattle.runner.specs.Choose.{ifElse}
+use Rattle.choice.specs.Order.{ifElse, order}
 use Rattle.exec.specs.Limits.{poolOf}
 use Rattle.exec.specs.Stream.{streamAt, following}
 use Rattle.runner.specs.State.{outOf, creditAt}
-use Rattle.runner.specs.Message.{sendableOf, order, choose}
+use Rattle.runner.specs.Message.{sendableOf, choose}
 use Rattle.runner.specs.MessageLaws.{least}
 
 -- no message carries more than the queue holds

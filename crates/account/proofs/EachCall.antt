@@ -28,8 +28,8 @@ use Rattle.credit.specs.Inbox.{inboxBase}
 use Rattle.input.specs.Input.{isKept, kept-paid, receiveBytes}
 use Rattle.output.specs.Output.{keeps, keeps-fit, sentOut, endedOut, askedOut, lostOut, closedOut, failedOut, hungUp}
 use Rattle.runner.specs.declared.answer.Request.the-variants as Request
-use Rattle.runner.specs.declared.message.Choice.{Choice}
-use Rattle.runner.specs.declared.message.Choice.the-variants as Choice
+use Rattle.choice.specs.declared.Choice.{Choice}
+use Rattle.choice.specs.declared.Choice.the-variants as Choice
 use Rattle.runner.specs.declared.message.Wish.{Wish}
 use Rattle.runner.specs.declared.message.Wish.the-variants as Wish
 use Rattle.runner.specs.declared.runner.Runner.{Runner}

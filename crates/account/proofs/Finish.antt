@@ -16,16 +16,16 @@ use Rattle.runner.specs.declared.answer.Request.the-variants as Request
 use Rattle.runner.specs.declared.message.Wish.{Wish}
 use Rattle.runner.specs.declared.message.Wish.the-variants as Wish
 use Rattle.exec.specs.declared.Stream.{Stream}
-use Rattle.runner.specs.declared.message.Choice.{Choice}
-use Rattle.runner.specs.declared.message.Choice.the-variants as Choice
+use Rattle.choice.specs.declared.Choice.{Choice}
+use Rattle.choice.specs.declared.Choice.the-variants as Choice
 use Rattle.runner.specs.declared.runner.Runner.{Runner}
-use Rattle.runner.specs.Choose.{ifElse}
+use Rattle.choice.specs.Order.{ifElse, order}
 use Rattle.exec.specs.Key.{admits}
 use Rattle.exec.specs.Limits.{outputPool}
 use Rattle.runner.specs.Calls.{askedFor}
 use Rattle.runner.specs.Life.{awaitsLaunch, closeRunnerInput, noteStarted, noteLaunch, launchedNext, settledNext, isReady, cancelAnswer, outcomeOf}
 use Rattle.runner.specs.Streams.{outputNext, discardedNext, closedNext, failedNext, hungUpNext, creditAnswer, creditNext, inputAnswer, inputNext, endAnswer, endNext, writtenNext}
-use Rattle.runner.specs.Message.{order, choose, outputPaid, outputSent, effect, wish, handed, wishEffect}
+use Rattle.runner.specs.Message.{choose, outputPaid, outputSent, effect, wish, handed, wishEffect}
 use Rattle.calls.specs.Call as Call
 use Rattle.calls.specs.Call.{Call, Answer}
 use Rattle.account.specs.Step.{State, receivedAs, asks}

@@ -19,14 +19,14 @@ use Rattle.exec.specs.declared.Stream.{Stream}
 use Rattle.exec.specs.declared.Stream.the-variants.{Stdout, Stderr}
 use Rattle.exec.specs.declared.Unit as Units
 use Rattle.exec.specs.declared.Unit.the-variants.{Bytes, Frames}
-use Rattle.runner.specs.declared.message.Choice.{Choice}
-use Rattle.runner.specs.declared.message.Choice.the-variants as Choice
+use Rattle.choice.specs.declared.Choice.{Choice}
+use Rattle.choice.specs.declared.Choice.the-variants as Choice
 use Rattle.input.specs.declared.Input.{Input}
 use Rattle.output.specs.declared.Output.{Output}
 use Rattle.runner.specs.declared.runner.Runner.{Runner}
 use Rattle.exec.specs.declared.Deadline.{Deadline}
 use Rattle.exec.specs.declared.Deadline.the-variants.{At, Never}
-use Rattle.runner.specs.Choose.{ifElse}
+use Rattle.choice.specs.Order.{ifElse, order}
 use Rattle.exec.specs.Time.{after, then, earliest, due, after-at}
 use Rattle.exec.specs.Key.{admits}
 use Rattle.exec.specs.Limits.{poolOf}
@@ -37,7 +37,7 @@ use Rattle.output.specs.Output.{isDone}
 use Rattle.runner.specs.State.{outOf, creditAt}
 use Rattle.runner.specs.Life as Life
 use Rattle.runner.specs.Life.{isCleanedUp, endGrace, giveUp, beginTermination, passGrace, terminate, ticked, isReady, cancelAnswer}
-use Rattle.runner.specs.Message.{sendableOf, order, choose, effect}
+use Rattle.runner.specs.Message.{sendableOf, choose, effect}
 use Rattle.calls.specs.Call as Call
 use Rattle.calls.specs.Call.{Call}
 use Rattle.account.specs.Step.{State, receivedAs}

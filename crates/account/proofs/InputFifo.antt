@@ -31,8 +31,8 @@ use Rattle.input.specs.Input.{pendingInput, receiveAnswer, isKept, receiveInput
 use Rattle.output.specs.Output.{keeps as keepsOf, keeps-fit}
 use Rattle.output.specs.Outputs.{outputsFit}
 use Rattle.runner.specs.declared.answer.Request.the-variants as Request
-use Rattle.runner.specs.declared.message.Choice.{Choice}
-use Rattle.runner.specs.declared.message.Choice.the-variants as Choice
+use Rattle.choice.specs.declared.Choice.{Choice}
+use Rattle.choice.specs.declared.Choice.the-variants as Choice
 use Rattle.runner.specs.declared.message.Wish.{Wish}
 use Rattle.runner.specs.declared.message.Wish.the-variants as Wish
 use Rattle.runner.specs.declared.runner.Runner.{Runner}

@@ -8,8 +8,8 @@ use Rattle.exec.specs.Key.{admits}
 use Rattle.exec.specs.Limits.{outputPool}
 use Rattle.credit.specs.Need.{byteNeed}
 use Rattle.lifecycle.specs.Life.{isRequested}
-use Rattle.runner.specs.declared.message.Choice.{Choice}
-use Rattle.runner.specs.declared.message.Choice.the-variants as Choice
+use Rattle.choice.specs.declared.Choice.{Choice}
+use Rattle.choice.specs.declared.Choice.the-variants as Choice
 use Rattle.runner.specs.declared.runner.Runner.{Runner}
 use Rattle.runner.specs.Calls.{askedFor}
 use Rattle.runner.specs.Life.{closeRunnerInput, cancelAnswer, cancelNext, launchedNext, exitedNext, settledNext, detachNext, ticked, deadlineOf, outcomeOf}

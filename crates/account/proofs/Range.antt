@@ -41,8 +41,8 @@ use Rattle.input.specs.declared.Input.{Input}
 use Rattle.output.specs.declared.Output.{Output}
 use Rattle.output.specs.Output.{newOutput, graceEnded, givenUp, abandoned, sentOut, endedOut, askedOut, lostOut, closedOut, failedOut, hungUp, keeps, keeps-fit, outputFits}
 use Rattle.runner.specs.declared.answer.Request.the-variants as Request
-use Rattle.runner.specs.declared.message.Choice.{Choice}
-use Rattle.runner.specs.declared.message.Choice.the-variants as Choice
+use Rattle.choice.specs.declared.Choice.{Choice}
+use Rattle.choice.specs.declared.Choice.the-variants as Choice
 use Rattle.runner.specs.declared.message.Wish.{Wish}
 use Rattle.runner.specs.declared.message.Wish.the-variants as Wish
 use Rattle.runner.specs.declared.runner.Runner.{Runner}

@@ -24,8 +24,8 @@ use Rattle.exec.specs.Outcome.{isTruncated}
 use Rattle.exec.specs.Refusal.{number}
 use Rattle.runner.specs.declared.answer.Message.the-variants as Message
 use Rattle.runner.specs.declared.answer.Said.the-variants as Said
-use Rattle.runner.specs.declared.message.Choice.{Choice}
-use Rattle.runner.specs.declared.message.Choice.the-variants as Choice
+use Rattle.choice.specs.declared.Choice.{Choice}
+use Rattle.choice.specs.declared.Choice.the-variants as Choice
 use Rattle.runner.specs.declared.runner.Runner.{Runner}
 use Rattle.runner.specs.Calls as Calls
 use Rattle.runner.specs.Calls.{storesDo}

@@ -25,9 +25,9 @@ use Rattle.ring.specs.Ring.{wrap, ringRead, ringFrom, ringWrite}
 use Rattle.ring.specs.Runs.{copied}
 use Rattle.output.specs.Output.{takenIn, sent}
 use Rattle.runner.specs.Calls as Calls
-use Rattle.runner.specs.Choose.{ifElse}
+use Rattle.choice.specs.Order.{ifElse, order}
 use Rattle.runner.specs.Life.{closeRunnerInput, endGrace, giveUp, abandonLaunch, abandonOpenStreams, beginTermination, passGrace, terminate, passTimeout, passSettlement, giveUpUnlessClean, passGiveUp, dropLaunch, dropStreams, passAbandonment, fire, ticked, cancelled, cancelAnswer, cancelNext, noteStarted, noteLaunch, launchedNext, isReady, outcomeOf}
-use Rattle.runner.specs.Message.{sendableOf, order, choose, outputPaid, outputSent, effect, payload}
+use Rattle.runner.specs.Message.{sendableOf, choose, outputPaid, outputSent, effect, payload}
 use Rattle.runner.specs.Range.{fresh}
 use Rattle.runner.specs.Streams.{outputTaken, outputNext, outputStore, outputTook, creditIn, creditAnswer, creditNext}
 use Rattle.calls.specs.Call as Call

@@ -8,9 +8,9 @@ use Rattle.exec.specs.declared.Cause.the-variants as Cause
 use Rattle.exec.specs.declared.LaunchResult.the-variants as LaunchResult
 use Rattle.exec.specs.declared.Stream.the-variants.{Stdout, Stderr}
 use Rattle.exec.specs.Key.{admits}
-use Rattle.runner.specs.Choose.{ifElse}
+use Rattle.choice.specs.Order.{ifElse, order}
 use Rattle.runner.specs.Life.{closeRunnerInput, endGrace, giveUp, abandonLaunch, abandonOpenStreams, beginTermination, passGrace, terminate, passTimeout, passSettlement, giveUpUnlessClean, passGiveUp, dropLaunch, dropStreams, passAbandonment, fire, ticked, cancelled, cancelAnswer, cancelNext, noteStarted, noteLaunch, launchedNext, isReady, outcomeOf}
-use Rattle.runner.specs.Message.{sendableOf, order, choose, outputPaid, outputSent, effect, payload}
+use Rattle.runner.specs.Message.{sendableOf, choose, outputPaid, outputSent, effect, payload}
 use Rattle.runner.specs.Range.{fresh}
 use Rattle.output.specs.Output.{sent}
 use Rattle.calls.specs.Call as Call

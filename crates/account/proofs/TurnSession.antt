@@ -27,9 +27,9 @@ use Rattle.exec.specs.Limits.{cost, bytesWith, bytesWindow, limitsFor}
 use Rattle.ring.specs.Ring.{wrap, ringRead, ringFrom, ringWrite}
 use Rattle.ring.specs.Runs.{copied}
 use Rattle.runner.specs.Calls as Calls
-use Rattle.runner.specs.Choose.{ifElse}
+use Rattle.choice.specs.Order.{ifElse, order}
 use Rattle.runner.specs.Life.{closeRunnerInput, passGrace, passTimeout, passSettlement, passGiveUp, passAbandonment, fire, ticked, noteStarted, noteLaunch, launchedNext, noteExit, noteExitOnce, exitedNext, settledNext, isReady, outcomeOf}
-use Rattle.runner.specs.Message.{sendableOf, order, choose, outputPaid, outputSent, effect, payload}
+use Rattle.runner.specs.Message.{sendableOf, choose, outputPaid, outputSent, effect, payload}
 use Rattle.runner.specs.Range.{fresh}
 use Rattle.runner.specs.Streams.{outputTaken, outputNext, outputStore, creditIn, creditAnswer, creditNext, closedNext}
 use Rattle.octets.specs.Bytes.{be32At, numberAt}

@@ -23,8 +23,8 @@ use Rattle.exec.specs.declared.Refusal.the-variants as Refusal
 use Rattle.input.specs.declared.Input.{Input}
 use Rattle.input.specs.Input.{receiveAnswer, isReceipt, answered, receiveInput, endInput, writtenInput}
 use Rattle.runner.specs.declared.answer.Request.the-variants as Request
-use Rattle.runner.specs.declared.message.Choice.{Choice}
-use Rattle.runner.specs.declared.message.Choice.the-variants as Choice
+use Rattle.choice.specs.declared.Choice.{Choice}
+use Rattle.choice.specs.declared.Choice.the-variants as Choice
 use Rattle.runner.specs.declared.message.Wish.{Wish}
 use Rattle.runner.specs.declared.message.Wish.the-variants as Wish
 use Rattle.runner.specs.declared.runner.Runner.{Runner}

@@ -34,7 +34,7 @@ use Rattle.runner.specs.declared.answer.When.the-variants as When
 use Rattle.runner.specs.declared.runner.Runner.{Runner}
 use Rattle.runner.specs.Calls as Calls
 use Rattle.runner.specs.Calls.{WrittenAfter, pendingAfter}
-use Rattle.runner.specs.Choose.{ifElse}
+use Rattle.choice.specs.Order.{ifElse, order}
 use Rattle.runner.specs.Life as Life
 use Rattle.runner.specs.Message as Message
 use Rattle.runner.specs.Range as Range
@@ -74,7 +74,7 @@ opened l = Calls.«open» own l timers 0 (zeros 16) (zeros 2) .runner
 
 -- and after its first message, Credit: the input's window is open
 granted : Limits → Runner
-unfolding opened Calls.nextMessage Message.choose Message.order ifElse Message.effect
+unfolding opened Calls.nextMessage Message.choose order ifElse Message.effect
 granted l = Calls.nextMessage (opened l) (zeros 16) [] .saying .runner
 
 -- what the peer's message leaves, and its answer

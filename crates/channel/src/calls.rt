@@ -40,6 +40,7 @@ use exec::Refusal;
 use exec::Reply;
 use exec::Stream;
 use exec::Unit;
+use output::Output;
 use runner::answer::Hearing;
 use runner::answer::LimitsAnswer;
 use runner::answer::Message;
@@ -47,7 +48,6 @@ use runner::answer::Noting;
 use runner::answer::Said;
 use runner::answer::Saying;
 use runner::runner::Runner;
-use output::Output;
 
 // What a record read gives: the answer of the call that it made.
 pub enum Answer {

@@ -28,7 +28,7 @@ use Rattle.runner.specs.declared.answer.Hearing.{Hearing}
 use Rattle.runner.specs.declared.answer.Said.{Said}
 use Rattle.runner.specs.declared.answer.Taken.the-variants as Taken
 use Rattle.runner.specs.declared.answer.Taking.{Taking}
-use Rattle.runner.specs.declared.message.Choice.{Choice}
+use Rattle.choice.specs.declared.Choice.{Choice}
 use Rattle.runner.specs.declared.runner.Runner.{Runner}
 use Rattle.runner.specs.declared.streams.Accounting.{Accounting}
 use Rattle.runner.specs.Calls.{«open», hearing, storesDo, credit, accountingOf, inputBy, input, output, pendingAfter, pendingInput, writtenAfter, inputWritten, messageBy, nextMessage}

@@ -9,8 +9,8 @@ use Rattle.credit.specs.declared.sender.Credit.{Credit}
 use Rattle.output.specs.declared.Output.{Output}
 use Rattle.output.specs.Output.{SendAfter, sendAfter, sent}
 use Rattle.output.specs.Outputs.{putOutput}
-use Rattle.runner.specs.declared.message.Choice.{Choice}
-use Rattle.runner.specs.declared.message.Choice.the-variants as Choice
+use Rattle.choice.specs.declared.Choice.{Choice}
+use Rattle.choice.specs.declared.Choice.the-variants as Choice
 use Rattle.runner.specs.declared.runner.Runner.{Runner}
 use Rattle.runner.specs.Message.{messageFlags, effect, outputPaid, outputSent, SentAfter, sentAfter, sentOutput, payload, bufferAfter, sayAfter, say}
 use Rattle.runner.specs.State.{withOutputs, withFlow, outOf, base}

@@ -44,7 +44,7 @@ use Rattle.runner.specs.declared.answer.Truth.{Truth}
 use Rattle.runner.specs.declared.answer.Truth.the-variants as Truth
 use Rattle.runner.specs.declared.answer.When.{When}
 use Rattle.runner.specs.declared.answer.When.the-variants as When
-use Rattle.runner.specs.declared.message.Choice.{Choice}
+use Rattle.choice.specs.declared.Choice.{Choice}
 use Rattle.runner.specs.declared.message.Wish.{Wish}
 use Rattle.runner.specs.declared.message.Wish.the-variants as Wish
 use Rattle.runner.specs.declared.runner.Runner.{Runner}

@@ -1,5 +1,4 @@
 -- The runner: its state, what is met before a call, what each call does, and each call whole.
-pub mod Choose
 pub mod State
 pub mod Life
 pub mod Streams

@@ -23,12 +23,12 @@ use Rattle.runner.specs.declared.answer.Request.the-variants as Request
 use Rattle.runner.specs.declared.answer.Said.{Said}
 use Rattle.runner.specs.declared.answer.Said.the-variants as Said
 use Rattle.runner.specs.declared.answer.Saying.{Saying}
-use Rattle.runner.specs.declared.message.Choice.{Choice}
-use Rattle.runner.specs.declared.message.Choice.the-variants as Choice
+use Rattle.choice.specs.declared.Choice.{Choice}
+use Rattle.choice.specs.declared.Choice.the-variants as Choice
 use Rattle.runner.specs.declared.message.Wish.{Wish}
 use Rattle.runner.specs.declared.message.Wish.the-variants as Wish
 use Rattle.runner.specs.declared.runner.Runner.{Runner}
-use Rattle.runner.specs.Choose.{ifElse}
+use Rattle.choice.specs.Order.{ifElse, order}
 use Rattle.runner.specs.Life.{awaitsLaunch, isReady, outcomeOf}
 use Rattle.runner.specs.RangeLaws.{stopped}
 use Rattle.runner.specs.State.{withLife, withFlags, withInput, withFlow, flagsOf, outOf, at, base, creditAt, putCredit}
@@ -49,23 +49,6 @@ sendableOf r buffer x =
 -- a stream is done, and its end not told
 abbrev pub untold : Runner → Stream → Bool
 untold r x = isDone (outOf x r) && not (outOf x r .ended)
-
--- the order of messages: Credit unless the last message was one; then Started, InputClosed and, unless the launch is still
--- awaited, End, Output by turns; then Credit; then Terminal. Once detached, only Terminal.
--- (x is the stream whose turn it is, n1 and n2 what it and the one that follows can send)
-unfoldable pub order : (finished detached can credited started closed awaits end0 end1 ready : Bool) (x : Stream) (n1 n2 : ℕ) → Choice
-order finished detached can credited started closed awaits end0 end1 ready x n1 n2 =
-    ifElse finished Choice.None
-    (ifElse detached (ifElse ready Choice.Terminal Choice.None)
-    (ifElse (can && not credited) Choice.Credit
-    (ifElse started Choice.Started
-    (ifElse closed Choice.InputClosed
-    (ifElse (not awaits && end0) (Choice.End Stdout)
-    (ifElse (not awaits && end1) (Choice.End Stderr)
-    (ifElse (not awaits && ltb 0 n1) (Choice.Output x n1)
-    (ifElse (not awaits && ltb 0 n2) (Choice.Output (following x) n2)
-    (ifElse can Choice.Credit
-    (ifElse ready Choice.Terminal Choice.None))))))))))
 
 unfoldable pub choose : Runner → (buffer : ℕ) → Choice
 choose r buffer =

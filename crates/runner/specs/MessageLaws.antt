@@ -16,13 +16,13 @@ use Rattle.exec.specs.Stream.{streamAt, pick, picked, following}
 use Rattle.credit.specs.Need.{byteNeed}
 use Rattle.credit.specs.RangeLaws.{both}
 use Rattle.credit.specs.Sender.{sendable}
-use Rattle.runner.specs.declared.message.Choice.{Choice}
-use Rattle.runner.specs.declared.message.Choice.the-variants as Choice
+use Rattle.choice.specs.declared.Choice.{Choice}
+use Rattle.choice.specs.declared.Choice.the-variants as Choice
 use Rattle.runner.specs.declared.runner.Runner.{Runner}
-use Rattle.runner.specs.Choose.{ifElse}
+use Rattle.choice.specs.Order.{ifElse, order}
 use Rattle.input.specs.Input.{canGrant}
 use Rattle.runner.specs.Life.{awaitsLaunch, isReady}
-use Rattle.runner.specs.Message.{sendableOf, untold, order, choose}
+use Rattle.runner.specs.Message.{sendableOf, untold, choose}
 use Rattle.runner.specs.RangeLaws.{Queued, InRange}
 use Rattle.runner.specs.State.{outOf, base, creditAt}
 

@@ -8,7 +8,6 @@ ghost use Rattle.exec.specs.Stream.{index, following};
 ghost use Rattle.runner.specs.Message.{
   sendableOf,
   untold,
-  order,
   choose,
   outputPaid,
   sentAfter,
@@ -31,6 +30,8 @@ use crate::pairs::credit_at;
 use crate::pairs::put_credit;
 use crate::pairs::ring_base;
 use crate::runner::Runner;
+use choice::Choice;
+use choice::order;
 use credit::sender::Credit;
 use exec::MaybeCause;
 use exec::Stream;
@@ -38,78 +39,10 @@ use output::Output;
 use output::outputs::output_in;
 use output::outputs::put_output;
 
-// What the runner says next, by what its state shows.
-pub enum Choice {
-    None,
-    Credit,
-    Started,
-    InputClosed,
-    End(Stream),
-    Output(Stream, u32),
-    Terminal,
-}
-
 // What the runner asks of the adapter next.
 pub enum Wish {
     None,
     Request(Request),
-}
-
-// The order of messages. `x` is the stream whose turn it is, n1 and n2 are what it and the one that follows can send.
-fn order(
-    finished: bool,
-    detached: bool,
-    can: bool,
-    credited: bool,
-    started: bool,
-    closed: bool,
-    awaits: bool,
-    end0: bool,
-    end1: bool,
-    ready: bool,
-    x: Stream,
-    n1: u32,
-    n2: u32,
-) -> Choice
-    ensures { λ r. ⌜ r ≡ order finished detached can credited started closed awaits end0 end1 ready x n1 n2 ⌝ }
-{
-    if finished {
-        return Choice::None;
-    }
-    if detached {
-        if ready {
-            return Choice::Terminal;
-        }
-        return Choice::None;
-    }
-    if can & !credited {
-        return Choice::Credit;
-    }
-    if started {
-        return Choice::Started;
-    }
-    if closed {
-        return Choice::InputClosed;
-    }
-    if !awaits & end0 {
-        return Choice::End(Stream::Stdout);
-    }
-    if !awaits & end1 {
-        return Choice::End(Stream::Stderr);
-    }
-    if !awaits & (0 < n1) {
-        return Choice::Output(x, n1);
-    }
-    if !awaits & (0 < n2) {
-        return Choice::Output(x.following(), n2);
-    }
-    if can {
-        return Choice::Credit;
-    }
-    if ready {
-        return Choice::Terminal;
-    }
-    Choice::None
 }
 
 impl Runner {

@@ -1,9 +1,9 @@
--- `runner::message::order` meets its contract.
-use Rattle.runner.specs.Choose.{ifElse}
-use Rattle.runner.specs.Message.{order}
+-- `choice::order` meets its contract.
+use Rattle.choice.specs.Order.{ifElse}
+use Rattle.choice.specs.Order.{order}
 use borrow.Author.Needs.{needs}
-use Rattle.runner.proofs.message.order.Statement.{statement}
-use Rattle.runner.proofs.message.order.Tie as tie
+use Rattle.choice.proofs.order.Statement.{statement}
+use Rattle.choice.proofs.order.Tie as tie
 
 returns : tie.Need-returns
 unfolding order ifElse

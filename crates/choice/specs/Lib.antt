@@ -1,0 +1,2 @@
+-- Which message comes next.
+pub mod Order
