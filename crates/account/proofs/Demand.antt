@@ -15,7 +15,7 @@ use Rattle.exec.specs.declared.Unit as units
 use Rattle.exec.specs.declared.Unit.the-variants.{Bytes, Frames}
 use Rattle.exec.specs.Limits.{isValid}
 use Rattle.exec.specs.Outcome.{isTruncated}
-use Rattle.credit.specs.Need.{byteNeed, lengthNeedAs, lengthNeed}
+use Rattle.inbox.specs.Need.{byteNeed, lengthNeedAs, lengthNeed}
 use Rattle.input.specs.declared.Input.{Input}
 use Rattle.runner.specs.declared.runner.Runner.{Runner}
 use Rattle.runner.specs.Calls as Calls

@@ -22,9 +22,9 @@ use Rattle.exec.specs.Key.{admits}
 use Rattle.exec.specs.Limits.{inputBytes as inboxSize}
 use Rattle.ring.specs.Ring.{ringWrite}
 use Rattle.ring.specs.RingLaws.{write-length, write-other}
-use Rattle.credit.specs.Need.{byteNeed}
+use Rattle.inbox.specs.Need.{byteNeed}
 use Rattle.output.specs.declared.Output.{Output}
-use Rattle.credit.specs.Inbox.{inboxBase}
+use Rattle.inbox.specs.Inbox.{inboxBase}
 use Rattle.input.specs.Input.{isKept, kept-paid, receiveBytes}
 use Rattle.output.specs.Output.{keeps, keeps-fit, sentOut, endedOut, askedOut, lostOut, closedOut, failedOut, hungUp}
 use Rattle.runner.specs.declared.answer.Request.the-variants as Request

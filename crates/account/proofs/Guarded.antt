@@ -21,7 +21,7 @@ use Rattle.exec.specs.declared.Stream.{Stream}
 use Rattle.exec.specs.Key.{admits}
 use Rattle.exec.specs.Limits.{cost, offChunk, outputPool}
 use Rattle.exec.specs.Refusal.{number}
-use Rattle.credit.specs.Need.{byteNeed}
+use Rattle.inbox.specs.Need.{byteNeed}
 use Rattle.credit.specs.Sender.{grantable}
 use Rattle.ring.specs.RingLaws.{read-length}
 use Rattle.input.specs.Input as Input

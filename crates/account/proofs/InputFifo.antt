@@ -17,10 +17,10 @@ use Rattle.exec.specs.Key.{admits}
 use Rattle.exec.specs.Limits.{inputBytes as inboxSize}
 use Rattle.ring.specs.Ring.{firstRun}
 use Rattle.ring.specs.RingLaws.{write-read, write-other, read-none, pending-front}
-use Rattle.credit.specs.Inbox as Inbox
-use Rattle.credit.specs.Inbox.{inboxBase}
-use Rattle.credit.specs.Range.{inboxFits}
-use Rattle.credit.specs.RangeLaws as Fits
+use Rattle.inbox.specs.Inbox as Inbox
+use Rattle.inbox.specs.Inbox.{inboxBase}
+use Rattle.inbox.specs.Range.{inboxFits}
+use Rattle.inbox.specs.RangeLaws as Fits
 use Rattle.credit.specs.Sender.{creditFits}
 use Rattle.exec.specs.declared.Receipt.the-variants as Receipt
 use Rattle.exec.specs.declared.Received.{Received}

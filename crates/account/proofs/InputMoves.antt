@@ -12,7 +12,7 @@ use Rattle.exec.specs.declared.LaunchResult.{LaunchResult}
 use Rattle.exec.specs.declared.LaunchResult.the-variants as LaunchResult
 use Rattle.exec.specs.declared.MaybeStatus.{MaybeStatus}
 use Rattle.exec.specs.Time.{due}
-use Rattle.credit.specs.Inbox.{newInbox}
+use Rattle.inbox.specs.Inbox.{newInbox}
 use Rattle.input.specs.declared.Input.{Input}
 use Rattle.input.specs.Input.{closeInput}
 use Rattle.runner.specs.declared.runner.Runner.{Runner}

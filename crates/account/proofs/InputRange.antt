@@ -16,7 +16,7 @@ use Rattle.ring.specs.Ring.{wrap, ringRead}
 use Rattle.ring.specs.RingLaws.{wrap-lt, read-length, read-none, write-read}
 use Rattle.ring.specs.Frames.{restOf, sum, Popped, popped}
 use Rattle.ring.specs.FrameLaws.{rest-sum, pop-rest, pop-most, pop-length, push-is-write}
-use Rattle.credit.specs.Inbox.{framesPushed, framesPopped, lengthsPushed, freedBy, lengthsPopped, firstAfter, pushed}
+use Rattle.inbox.specs.Inbox.{framesPushed, framesPopped, lengthsPushed, freedBy, lengthsPopped, firstAfter, pushed}
 use Rattle.input.specs.declared.Input.{Input}
 use Rattle.exec.specs.declared.Receipt.the-variants as Receipt
 use Rattle.exec.specs.declared.Received.{Received}

@@ -6,7 +6,7 @@ use lib.ListN.{length}
 use Rattle.exec.specs.declared.Cause.the-variants as Cause
 use Rattle.exec.specs.Key.{admits}
 use Rattle.exec.specs.Limits.{outputPool}
-use Rattle.credit.specs.Need.{byteNeed}
+use Rattle.inbox.specs.Need.{byteNeed}
 use Rattle.lifecycle.specs.Life.{isRequested}
 use Rattle.choice.specs.declared.Choice.{Choice}
 use Rattle.choice.specs.declared.Choice.the-variants as Choice

@@ -30,11 +30,11 @@ use Rattle.exec.specs.Time.{due}
 use Rattle.ring.specs.Ring.{wrap}
 use Rattle.ring.specs.RingLaws.{wrap-lt, read-none}
 use Rattle.credit.specs.declared.sender.Credit.{Credit}
-use Rattle.credit.specs.Inbox.{inboxHeld}
-use Rattle.credit.specs.Need.{byteNeed, lengthNeedAs, lengthNeed}
-use Rattle.credit.specs.Range.{ringFits, framesFit}
-use Rattle.credit.specs.RangeLaws.{both}
-use Rattle.credit.specs.Receiver.{unitsFit}
+use Rattle.inbox.specs.Inbox.{inboxHeld}
+use Rattle.inbox.specs.Need.{byteNeed, lengthNeedAs, lengthNeed}
+use Rattle.inbox.specs.Range.{ringFits, framesFit}
+use Rattle.inbox.specs.RangeLaws.{both}
+use Rattle.inbox.specs.Receiver.{unitsFit}
 use Rattle.credit.specs.Sender.{newCredit, grantable, grant, spent}
 use Rattle.lifecycle.specs.Life.{isFenced}
 use Rattle.input.specs.declared.Input.{Input}

@@ -14,8 +14,8 @@ use Rattle.exec.specs.declared.Unit.the-variants.{Bytes, Frames}
 use Rattle.exec.specs.Key.{admits}
 use Rattle.exec.specs.Limits.{cost}
 use Rattle.ring.specs.FrameLaws.{pop-most}
-use Rattle.credit.specs.declared.inbox.Inbox.{Inbox}
-use Rattle.credit.specs.Inbox.{newInbox, inboxHeld, pushed, freedBy, framesPopped, popInbox, popFreed}
+use Rattle.inbox.specs.declared.Inbox.{Inbox}
+use Rattle.inbox.specs.Inbox.{newInbox, inboxHeld, pushed, freedBy, framesPopped, popInbox, popFreed}
 use Rattle.exec.specs.declared.Received.{Received}
 use Rattle.exec.specs.declared.Received.the-variants.{Refused}
 use Rattle.exec.specs.declared.Refusal.{Refusal}

@@ -7,7 +7,7 @@ use Prim.Native.Nat.{ℕ, min}
 use Rattle.exec.specs.declared.Limits.{Limits}
 use Rattle.exec.specs.Limits.{inputBytes}
 use Rattle.ring.specs.Ring.{ringRead}
-use Rattle.credit.specs.Inbox.{inboxBase}
+use Rattle.inbox.specs.Inbox.{inboxBase}
 use Rattle.input.specs.declared.Input.{Input}
 use Rattle.calls.specs.Call.{Conf, Done, Call, key, limits, credit, input, endInput, cancel, launched, readAllowance, output, discarded, outputClosed, outputFailed, outputHungUp, pendingInput, inputWritten, inputClosed, exited, settled, dropped, reset, disconnect, tick, deadline, nextRequest, nextMessage, isFinished, isDetached, awaitsSettlement, memoryBound, buffered, highWater, Answer, Ok, Applied, Stale, Late, Refused, Taken, Pending, Value, Time, Truth, Asks, Says, IsKey, AreLimits, Nothing}
 use Rattle.account.specs.Step.{State, next, answer, opened, after, run}

@@ -7,7 +7,7 @@ use Prim.Native.Nat.{ℕ, _+_}
 use lib.ListN.{length}
 use Rattle.exec.specs.declared.Limits.{Limits}
 use Rattle.exec.specs.Limits.{cost}
-use Rattle.credit.specs.Inbox.{inboxHeld}
+use Rattle.inbox.specs.Inbox.{inboxHeld}
 use Rattle.input.specs.declared.Input.{Input}
 use Rattle.runner.specs.declared.runner.Runner.{Runner}
 use Rattle.calls.specs.Call.{Conf, Call, key, limits, credit, input, endInput, cancel, launched, readAllowance, output, discarded, outputClosed, outputFailed, outputHungUp, pendingInput, inputWritten, inputClosed, exited, settled, dropped, reset, disconnect, tick, deadline, nextRequest, nextMessage, isFinished, isDetached, awaitsSettlement, memoryBound, buffered, highWater, Answer, Ok, Applied, Stale, Late, Refused, Taken, Pending, Value, Time, Truth, Asks, Says, IsKey, AreLimits, Nothing}

@@ -7,7 +7,6 @@
 // timeout are given, so that the compiler does not know them.
 // A loop's runner is a copy of the one that `running` hands over, so that its own address is handed to no function: the
 // compiler takes a local apart into its fields only then, and it was measured to matter.
-use credit::receiver::Granted;
 use credit::sender::Credit;
 use exec::Cause;
 use exec::Deadline;
@@ -22,6 +21,7 @@ use exec::Reply;
 use exec::Stream;
 use exec::Timers;
 use exec::Window;
+use inbox::receiver::Granted;
 use runner::answer::Message;
 use runner::answer::Said;
 use runner::answer::Taken;

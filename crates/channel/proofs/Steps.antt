@@ -11,7 +11,7 @@ use Rattle.exec.specs.declared.Limits.{Limits}
 use Rattle.exec.specs.declared.Refusal.the-variants.{NoLimits, StoreShort, StateOutOfRange}
 use Rattle.exec.specs.declared.Reply.{Reply}
 use Rattle.exec.specs.Limits.{isValid, poolOf}
-use Rattle.credit.specs.Need.{byteNeed, lengthNeed}
+use Rattle.inbox.specs.Need.{byteNeed, lengthNeed}
 use Rattle.runner.specs.declared.answer.Hearing.{Hearing}
 use Rattle.runner.specs.declared.answer.LimitsAnswer.{LimitsAnswer}
 use Rattle.runner.specs.declared.answer.Message.{Message}

@@ -25,7 +25,7 @@ use Rattle.exec.specs.Time.{newTimers, withTimeout}
 use Rattle.ring.specs.Frames.{popFrom}
 use Rattle.ring.specs.Ring.{wrap, ringFrom, ringWrite}
 use Rattle.ring.specs.Runs.{copied}
-use Rattle.credit.specs.Inbox.{front}
+use Rattle.inbox.specs.Inbox.{front}
 use Rattle.input.specs.Input as Input
 use Rattle.output.specs.Output.{outputFits}
 use Rattle.runner.specs.declared.answer.Hearing.{Hearing}

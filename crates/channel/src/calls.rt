@@ -140,8 +140,8 @@ pub fn read_record(
     ensures { λ r. ⌜ readAfter r (now (store .exit)) (now (lengths .exit)) ≡ readRecord runner at channel (now (bytes .entry)) (now (store .entry)) (now (lengths .entry)) ⌝ }
 {
     let limits = runner.limits;
-    let enough = (credit::need::byte_need(limits) <= store.len())
-        & (credit::need::length_need(limits) <= lengths.len());
+    let enough = (inbox::need::byte_need(limits) <= store.len())
+        & (inbox::need::length_need(limits) <= lengths.len());
     let reply = admit(runner.limits(), enough);
     read_admitted(reply, runner, at, channel, bytes, store, lengths)
 }
@@ -261,7 +261,7 @@ pub fn write_record(runner: Runner, channel: u32, store: &[u8], buffer: &mut [u8
     ensures { λ r. ⌜ writeAfter r (now (buffer .exit)) ≡ writeRecord runner channel (now (store .entry)) (now (buffer .entry)) ⌝ }
 {
     let limits = runner.limits;
-    let enough = credit::need::byte_need(limits) <= store.len();
+    let enough = inbox::need::byte_need(limits) <= store.len();
     let reply = admit(runner.limits(), enough);
     write_admitted(reply, runner, channel, store, buffer)
 }

@@ -1,8 +1,2 @@
--- What the contracts of `credit` cite, and the laws that callers use.
+-- What the contracts of `credit` cite.
 pub mod Sender
-pub mod Receiver
-pub mod Inbox
-pub mod Range
-pub mod Need
-pub mod RangeLaws
-pub mod Edges

@@ -18,11 +18,11 @@ use Rattle.exec.specs.declared.Refusal.{Refusal}
 use Rattle.exec.specs.declared.Refusal.the-variants as Refusal
 use Rattle.exec.specs.declared.Reply.the-variants as Reply
 use Rattle.exec.specs.Limits.{cost, offChunk, checkChunk}
-use Rattle.credit.specs.declared.inbox.Inbox.{Inbox}
-use Rattle.credit.specs.declared.inbox.Popping.{Popping}
-use Rattle.credit.specs.declared.receiver.Granted.{Granted}
-use Rattle.credit.specs.Inbox.{PushAfter, pushAfter, push, PopAfter, popAfter, pop}
-use Rattle.credit.specs.Receiver.{charge, freed}
+use Rattle.inbox.specs.declared.Inbox.{Inbox}
+use Rattle.inbox.specs.declared.Popping.{Popping}
+use Rattle.inbox.specs.declared.receiver.Granted.{Granted}
+use Rattle.inbox.specs.Inbox.{PushAfter, pushAfter, push, PopAfter, popAfter, pop}
+use Rattle.inbox.specs.Receiver.{charge, freed}
 use Rattle.input.specs.declared.Input.{Input}
 use Rattle.input.specs.Setters.{setInbox, setWindow}
 use Rattle.input.specs.Input.{closeWhenTaken, peerEnds, endInput, endAnswer, inputEnded, Paid, offWindow, receiveAnswer, receiveInput, receiveBytes, receiveLengths, receiveAfter, receive, writtenInput, writtenLengths, writtenAfter, written}

@@ -11,10 +11,10 @@ use Rattle.exec.specs.declared.Received.{Received}
 use Rattle.exec.specs.declared.Received.the-variants.{Receipt, Refused}
 use Rattle.exec.specs.declared.Refusal.the-variants as Refusal
 use Rattle.exec.specs.Limits.{cost, offChunk}
-use Rattle.credit.specs.Inbox.{newInbox, pushed, bytesPushed, lengthsPushed, front, popFreed, popInbox, popLengths}
-use Rattle.credit.specs.Need.{byteNeed, lengthNeed}
-use Rattle.credit.specs.RangeLaws.{InRange}
-use Rattle.credit.specs.Receiver.{newGranted, opened, freed}
+use Rattle.inbox.specs.Inbox.{newInbox, pushed, bytesPushed, lengthsPushed, front, popFreed, popInbox, popLengths}
+use Rattle.inbox.specs.Need.{byteNeed, lengthNeed}
+use Rattle.inbox.specs.RangeLaws.{InRange}
+use Rattle.inbox.specs.Receiver.{newGranted, opened, freed}
 use Rattle.input.specs.declared.Crediting.{Crediting}
 use Rattle.input.specs.declared.Input.{Input}
 use Rattle.input.specs.declared.Receiving.{Receiving}

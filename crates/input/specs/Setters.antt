@@ -1,7 +1,7 @@
 -- An input with one field set: antt has no record update.
 use mathlib.Core.Bool.{Bool}
-use Rattle.credit.specs.declared.inbox.Inbox.{Inbox}
-use Rattle.credit.specs.declared.receiver.Granted.{Granted}
+use Rattle.inbox.specs.declared.Inbox.{Inbox}
+use Rattle.inbox.specs.declared.receiver.Granted.{Granted}
 use Rattle.input.specs.declared.Input.{Input}
 
 abbrev pub setInbox : Inbox → Input → Input

@@ -4,8 +4,8 @@ ghost use mathlib.Core.Bool.{false};
 ghost use Prim.Native.Nat.{_+_, _<_, _^_};
 ghost use lib.ListN.{length};
 ghost use Rattle.exec.specs.Limits.{cost, checkChunk, offChunk};
-ghost use Rattle.credit.specs.Range.{Waiting};
-ghost use Rattle.credit.specs.Receiver.{charge};
+ghost use Rattle.inbox.specs.Range.{Waiting};
+ghost use Rattle.inbox.specs.Receiver.{charge};
 ghost use Rattle.input.specs.Input.{
   newInput,
   inputAccepts,
@@ -25,15 +25,15 @@ ghost use Rattle.input.specs.Input.{
   messageTold,
   closeAsked,
 };
-use credit::inbox::Inbox;
-use credit::receiver::Charging;
-use credit::receiver::Granted;
 use exec::ChunkLength;
 use exec::Limits;
 use exec::Receipt;
 use exec::Received;
 use exec::Refusal;
 use exec::Reply;
+use inbox::Inbox;
+use inbox::receiver::Charging;
+use inbox::receiver::Granted;
 
 pub struct Input {
     // The bytes that the peer sent and the workload has not taken.

@@ -21,7 +21,7 @@ use Rattle.runner.specs.declared.runner.Runner.{Runner}
 use Rattle.runner.specs.Calls.{messageBy, nextMessage, pendingBy, pendingInput}
 use Rattle.runner.specs.Range.{bytesDo, stop}
 use Rattle.ring.specs.Ring.{firstRun}
-use Rattle.credit.specs.Inbox.{front, inboxBase}
+use Rattle.inbox.specs.Inbox.{front, inboxBase}
 use Rattle.exec.specs.Limits.{inputBytes}
 use Rattle.input.specs.Input as Input
 use Rattle.runner.specs.Streams.{OutputAfter, InputAfter, pendingOf}

@@ -7,8 +7,8 @@ use native.Mathlib.Omega.{arith}
 use borrow.Author.Tests.{leb-true}
 use lib.Dec.{leb, ltb}
 use lib.ListN.{length, drop}
-use Rattle.credit.specs.Range.{ringFits}
-use Rattle.credit.specs.RangeLaws.{both, ring-start, ring-below, ring-valid}
+use Rattle.inbox.specs.Range.{ringFits}
+use Rattle.inbox.specs.RangeLaws.{both, ring-start, ring-below, ring-valid}
 use Rattle.ring.specs.Ring.{wrap, ringRead, ringWrite}
 use Rattle.output.specs.declared.Intake.{Intake}
 use Rattle.output.specs.declared.Output.{Output}

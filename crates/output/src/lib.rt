@@ -27,7 +27,7 @@ ghost use Rattle.output.specs.Output.{
   outputFits,
   outputWithin,
 };
-use credit::inbox::ring_fits;
+use inbox::ring_fits;
 
 pub mod outputs;
 

@@ -22,8 +22,8 @@ use Rattle.exec.specs.declared.Limits.{Limits}
 use Rattle.exec.specs.Limits.{cost, inputBytes as inboxBytes}
 use Rattle.credit.specs.declared.sender.Credit.{Credit}
 use Rattle.credit.specs.declared.sender.Granting.{Granting}
-use Rattle.credit.specs.Need.{byteNeed}
-use Rattle.credit.specs.RangeLaws as Inbox
+use Rattle.inbox.specs.Need.{byteNeed}
+use Rattle.inbox.specs.RangeLaws as Inbox
 use Rattle.credit.specs.Sender.{grantable, grant}
 use Rattle.input.specs.declared.Input.{Input}
 use Rattle.input.specs.declared.Receiving.{Receiving}

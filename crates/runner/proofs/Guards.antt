@@ -20,8 +20,8 @@ use Rattle.exec.specs.declared.Timers.{Timers}
 use Rattle.exec.specs.Key.{admits}
 use Rattle.exec.specs.Limits.{isValid, noLimits, outputPool}
 use Rattle.exec.specs.Refusal.{number}
-use Rattle.credit.specs.Need.{byteNeed, lengthNeed}
-use Rattle.credit.specs.RangeLaws.{both}
+use Rattle.inbox.specs.Need.{byteNeed, lengthNeed}
+use Rattle.inbox.specs.RangeLaws.{both}
 use Rattle.input.specs.declared.Input.{Input}
 use Rattle.input.specs.Input as In
 use Rattle.runner.specs.declared.answer.Hearing.{Hearing}

@@ -9,7 +9,7 @@ use Rattle.exec.specs.declared.Deadline.the-variants.{Never}
 use Rattle.exec.specs.declared.Reply.{Reply}
 use Rattle.exec.specs.declared.Reply.the-variants as Reply
 use Rattle.exec.specs.Time.{due}
-use Rattle.credit.specs.RangeLaws.{both}
+use Rattle.inbox.specs.RangeLaws.{both}
 use Rattle.lifecycle.specs.declared.clocks.Clocks.{Clocks}
 use Rattle.lifecycle.specs.declared.life.Life.{Life}
 use Rattle.lifecycle.specs.Clocks.{clocksDue, timeout-waits, grace-waits, give-up-waits, abandon-waits}

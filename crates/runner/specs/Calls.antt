@@ -23,7 +23,7 @@ use Rattle.exec.specs.declared.Timers.{Timers}
 use Rattle.exec.specs.Key.{admits}
 use Rattle.exec.specs.Limits.{outputPool, noLimits}
 use Rattle.exec.specs.Refusal.{number}
-use Rattle.credit.specs.Need.{byteNeed}
+use Rattle.inbox.specs.Need.{byteNeed}
 use Rattle.lifecycle.specs.Life.{isRequested}
 use Rattle.runner.specs.declared.answer.Asked.{Asked}
 use Rattle.runner.specs.declared.answer.Asked.the-variants as Asked

@@ -13,8 +13,8 @@ use Rattle.exec.specs.declared.Unit as Units
 use Rattle.exec.specs.declared.Unit.the-variants.{Bytes, Frames}
 use Rattle.exec.specs.Limits.{cost, poolOf}
 use Rattle.exec.specs.Stream.{streamAt, pick, picked, following}
-use Rattle.credit.specs.Need.{byteNeed}
-use Rattle.credit.specs.RangeLaws.{both}
+use Rattle.inbox.specs.Need.{byteNeed}
+use Rattle.inbox.specs.RangeLaws.{both}
 use Rattle.credit.specs.Sender.{sendable}
 use Rattle.choice.specs.declared.Choice.{Choice}
 use Rattle.choice.specs.declared.Choice.the-variants as Choice

@@ -14,8 +14,8 @@ use Rattle.exec.specs.declared.Reply.the-variants as Reply
 use Rattle.exec.specs.declared.Timers.{Timers}
 use Rattle.exec.specs.Limits.{isValid}
 use Rattle.exec.specs.Time.{timeoutAt}
-use Rattle.credit.specs.Need.{byteNeed, lengthNeed}
-use Rattle.credit.specs.Range.{inboxFits}
+use Rattle.inbox.specs.Need.{byteNeed, lengthNeed}
+use Rattle.inbox.specs.Range.{inboxFits}
 use Rattle.credit.specs.Sender.{newCredit}
 use Rattle.lifecycle.specs.declared.life.Exit.the-variants as Exit
 use Rattle.lifecycle.specs.declared.life.Launch.the-variants as Launch

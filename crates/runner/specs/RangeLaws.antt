@@ -15,8 +15,8 @@ use Rattle.exec.specs.declared.Stream.{Stream}
 use Rattle.exec.specs.declared.Stream.the-variants.{Stdout, Stderr}
 use Rattle.exec.specs.Limits.{isValid}
 use Rattle.exec.specs.Stream.{index, everyStream, every-stream}
-use Rattle.credit.specs.Range.{inboxFits, inboxWithin}
-use Rattle.credit.specs.RangeLaws as Inbox
+use Rattle.inbox.specs.Range.{inboxFits, inboxWithin}
+use Rattle.inbox.specs.RangeLaws as Inbox
 use Rattle.credit.specs.Sender.{creditFits}
 use Rattle.output.specs.declared.Output.{Output}
 use Rattle.output.specs.Output as Queue

@@ -3,7 +3,7 @@ ghost use mathlib.Core.Path.{_≡_};
 ghost use mathlib.Core.Bool.{true};
 ghost use Prim.Native.Nat.{_≤_};
 ghost use lib.ListN.{length};
-ghost use Rattle.credit.specs.Need.{byteNeed};
+ghost use Rattle.inbox.specs.Need.{byteNeed};
 ghost use Rattle.exec.specs.Stream.{index, following};
 ghost use Rattle.runner.specs.Message.{
   sendableOf,

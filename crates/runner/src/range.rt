@@ -2,7 +2,7 @@
 ghost use mathlib.Core.Path.{_≡_};
 ghost use lib.Dec.{leb};
 ghost use lib.ListN.{length};
-ghost use Rattle.credit.specs.Need.{byteNeed, lengthNeed};
+ghost use Rattle.inbox.specs.Need.{byteNeed, lengthNeed};
 ghost use Rattle.runner.specs.Range.{inRange};
 ghost use Rattle.runner.specs.RangeLaws.{unopened, stopped, stopIf, stands, agrees};
 use crate::answer::Count;
@@ -21,14 +21,14 @@ use exec::Reply;
 pub(crate) fn bytes_do(limits: Limits, bytes: usize) -> bool
     ensures { λ r. ⌜ r ≡ leb (byteNeed limits) bytes ⌝ }
 {
-    credit::need::byte_need(limits) <= bytes
+    inbox::need::byte_need(limits) <= bytes
 }
 
 // Whether a length store of so many lengths does.
 pub(crate) fn lengths_do(limits: Limits, lengths: usize) -> bool
     ensures { λ r. ⌜ r ≡ leb (lengthNeed limits) lengths ⌝ }
 {
-    credit::need::length_need(limits) <= lengths
+    inbox::need::length_need(limits) <= lengths
 }
 
 // Which of 10 and 11, of an open that meets one.

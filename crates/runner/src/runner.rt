@@ -644,7 +644,7 @@ impl Runner {
     {
         if self.agrees(true) & self.stands() {
             let limits = self.limits;
-            return Count::Is(credit::need::byte_need(limits));
+            return Count::Is(inbox::need::byte_need(limits));
         }
         self.no_count()
     }

@@ -4,7 +4,7 @@ ghost use mathlib.Core.Bool.{cond, not, _&&_};
 ghost use Prim.Native.Nat.{_≤_, _<_, _^_, max};
 ghost use lib.ListN.{length};
 ghost use Rattle.exec.specs.Key.{admits};
-ghost use Rattle.credit.specs.Need.{byteNeed};
+ghost use Rattle.inbox.specs.Need.{byteNeed};
 ghost use Rattle.input.specs.Input.{isApplied};
 ghost use Rattle.runner.specs.Calls.{credit, accountingOf};
 ghost use Rattle.runner.specs.RangeLaws.{InRange};

@@ -1,6 +1,6 @@
 -- `input::Input::receive_charged` meets its contract.
 use Rattle.input.proofs.Receives.{charge-ok, charge-refused, receive-unpaid}
-use Rattle.credit.specs.declared.receiver.Charging.{Charging}
+use Rattle.inbox.specs.declared.receiver.Charging.{Charging}
 use Rattle.exec.specs.declared.Reply.the-variants as Reply
 use mathlib.Core.Path.{_≡_, sym, ap, _∙_}
 use borrow.Author.Needs.{needs}

@@ -1,5 +1,5 @@
 -- `input::Input::receive_checked` meets its contract.
-use Rattle.credit.specs.Receiver.{charge}
+use Rattle.inbox.specs.Receiver.{charge}
 use Rattle.exec.specs.Limits.{cost}
 use Rattle.input.proofs.Receives.{check-is, check-refused, receive-off}
 use mathlib.Core.Path.{sym, ap, _∙_}

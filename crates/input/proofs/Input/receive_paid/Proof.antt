@@ -1,7 +1,7 @@
 -- `input::Input::receive_paid` meets its contract.
 use lib.ListN.{length}
 use borrow.Author.Tests.{ltb-false}
-use Rattle.credit.specs.RangeLaws.{is-pushable}
+use Rattle.inbox.specs.RangeLaws.{is-pushable}
 use Rattle.input.proofs.Receives.{receive-late, receive-kept, chunk-fits}
 use borrow.Author.Needs.{needs}
 use Rattle.input.proofs.Input.receive_paid.Statement.{statement}

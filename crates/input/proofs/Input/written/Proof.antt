@@ -1,8 +1,8 @@
 -- `input::Input::written` meets its contract.
-use Rattle.credit.specs.Inbox.{PopAfter, pop}
+use Rattle.inbox.specs.Inbox.{PopAfter, pop}
 use mathlib.Core.Path.{ap}
 use native.Mathlib.Omega.{arith}
-use Rattle.credit.specs.RangeLaws.{is-poppable, freed-fits}
+use Rattle.inbox.specs.RangeLaws.{is-poppable, freed-fits}
 use Rattle.input.proofs.Receives.{written-closed, written-open}
 use borrow.Author.Needs.{needs}
 use Rattle.input.proofs.Input.written.Statement.{statement}

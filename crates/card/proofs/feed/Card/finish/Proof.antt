@@ -1,6 +1,6 @@
 use Rattle.card.proofs.Turns.{ready}
 use Rattle.card.specs.Holding.{lent}
-use Rattle.credit.specs.RangeLaws.{both}
+use Rattle.inbox.specs.RangeLaws.{both}
 use borrow.Author.Tests.{leb-true, ltb-true}
 use mathlib.Core.Path.{refl}
 use borrow.Author.Needs.{needs}

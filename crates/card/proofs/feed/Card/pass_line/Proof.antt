@@ -1,7 +1,7 @@
 use Prim.Native.Nat.{_-_}
 use lib.Dec.{leb, ltb}
 use lib.ListN.{length}
-use Rattle.credit.specs.RangeLaws.{both}
+use Rattle.inbox.specs.RangeLaws.{both}
 use borrow.Author.Tests.{leb-true, ltb-true}
 use native.Mathlib.Omega.{arith}
 use mathlib.Core.Path.{refl}

@@ -1,5 +1,5 @@
 -- `runner::runner::Runner::buffered` meets its contract.
-use Rattle.credit.specs.Need.{need-fits}
+use Rattle.inbox.specs.Need.{need-fits}
 use Rattle.runner.specs.RangeLaws.{is-good, goes, stops}
 use Rattle.runner.proofs.Flows.{held-fits}
 use native.Mathlib.Omega.{arith}

@@ -1,6 +1,6 @@
 -- `runner::runner::Runner::input` meets its contract.
 use mathlib.Core.Path.{refl}
-use Rattle.credit.specs.Need.{need-fits}
+use Rattle.inbox.specs.Need.{need-fits}
 use Rattle.runner.specs.RangeLaws.{goes, tested}
 use Rattle.runner.proofs.Flows.{received-own, received-small}
 use Rattle.runner.proofs.Guards.{both-do, stores-good, heard, input-heard, input-unheard}

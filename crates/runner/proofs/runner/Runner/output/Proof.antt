@@ -1,5 +1,5 @@
 -- `runner::runner::Runner::output` meets its contract.
-use Rattle.credit.specs.Need.{need-fits}
+use Rattle.inbox.specs.Need.{need-fits}
 use Rattle.runner.specs.MessageLaws.{area-of}
 use Rattle.runner.specs.RangeLaws.{goes, stops}
 use Rattle.runner.proofs.Flows.{took-is, filled-small}

@@ -1,5 +1,5 @@
 -- `runner::runner::Runner::pending_input` meets its contract.
-use Rattle.credit.specs.RangeLaws.{is-waiting}
+use Rattle.inbox.specs.RangeLaws.{is-waiting}
 use Rattle.runner.specs.RangeLaws.{goes, stops}
 use Rattle.runner.proofs.Guards.{bytes-good, pending-goes, pending-stops}
 use borrow.Author.Needs.{needs}
