@@ -211,7 +211,7 @@ pub fn write(channel: u32, rec: Record, payload: &[u8], buffer: &mut [u8]) -> Wr
     Written::Bytes(whole)
 }
 
-// The same with a payload that stands in the buffer from byte 13 on, where every header ends or has ended. A buffer that ends
+// The same with a payload that stands in the buffer already, from byte 13 on, where the longest header ends. A buffer that ends
 // before the payload does is left as it was.
 pub fn lay(channel: u32, rec: Record, buffer: &mut [u8])
     ensures { λ _. ⌜ now (buffer .exit) ≡ laid channel rec (now (buffer .entry)) ⌝ }
