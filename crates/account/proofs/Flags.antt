@@ -1,18 +1,11 @@
 -- Laws of flags that more than one of these files cites.
 use mathlib.Core.Bool.{Bool, true, false, cond, _&&_, _||_, true≢false, false≢true, or-true}
 use mathlib.Core.Path.{_≡_, refl, sym}
+pub use Rattle.ring.specs.Flags.{and-l, and-r}
 
 pub either : {A : Type 0} (P : A → Type 0) (b : Bool) (x y : A) → P x → P y → P (cond b x y)
 either P true x y p q = p
 either P false x y p q = q
-
-pub and-l : (a b : Bool) → (a && b) ≡ true → a ≡ true
-and-l true b e = refl
-and-l false b e = e
-
-pub and-r : (a b : Bool) → (a && b) ≡ true → b ≡ true
-and-r true b e = e
-and-r false b e = absurd (false≢true e)
 
 pub and-both : (a b : Bool) → a ≡ true → b ≡ true → (a && b) ≡ true
 and-both true b p q = q

@@ -2,3 +2,4 @@
 pub mod Codec
 pub mod CodecLaws
 pub mod RoundTrip
+pub mod Edges

@@ -11,6 +11,7 @@ ghost use Rattle.reading.specs.Meaning.{numberIs, narrowIs, flagIs, unitIs};
 ghost use Rattle.opening.specs.Meaning.{timeoutIs, windowIs, limitsIs, timersIs, openingIs};
 ghost use Rattle.reading.specs.FieldLaws.{commaAt};
 ghost use Rattle.opening.specs.PlaceLaws.{behindOf, Begins};
+use decimal::MaybeNumber;
 use exec::Key;
 use exec::Limits;
 use exec::MaybeDuration;
@@ -22,7 +23,6 @@ use reading::lines::comma;
 use reading::words;
 use reading::words::MaybeFlag;
 use reading::words::MaybeUnit;
-use text::decimal::MaybeNumber;
 
 // What open is given beside the stores.
 pub struct Opening {

@@ -11,8 +11,8 @@ use mir.Syntax.{w32}
 use mir.Val.{SFits}
 use Rattle.ring.specs.Runs.{copied}
 use Rattle.printing.specs.Written.{Wrote, wrote, same-text}
-use Rattle.text.specs.Decimal.{signedOf}
-use Rattle.text.specs.DecimalLaws.{count-most}
+use Rattle.decimal.specs.Decimal.{signedOf}
+use Rattle.decimal.specs.DecimalLaws.{count-most}
 
 pub signed-most : (z : ℤ) → SFits w32 z → length (signedOf z) ≤ 12
 unfolding signedOf

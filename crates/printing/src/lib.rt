@@ -3,8 +3,8 @@ ghost use mathlib.Core.Path.{_≡_};
 ghost use mathlib.Core.List.{[], _∷_, _++_};
 ghost use Prim.Native.Nat.{_+_, _≤_};
 ghost use lib.ListN.{length, take};
-ghost use Rattle.text.specs.Decimal.{digitsOf, signedOf};
-ghost use Rattle.text.specs.Hexadecimal.{hexOf};
+ghost use Rattle.decimal.specs.Decimal.{digitsOf, signedOf};
+ghost use Rattle.hexadecimal.specs.Hexadecimal.{hexOf};
 ghost use Rattle.syntax.specs.Words.{bytes, streamName, causeName};
 ghost use Rattle.syntax.specs.Answers.{
   dash,
@@ -59,21 +59,21 @@ pub fn put_number(n: u64, out: &mut [u8], at: usize) -> usize
     requires { ⌜ at + 20 ≤ length (now out) ⌝ }
     ensures { λ r. ⌜ Wrote 20 (now (out .entry)) (now (out .exit)) at r (digitsOf n) ⌝ }
 {
-    text::decimal::write(n, out, at)
+    decimal::write(n, out, at)
 }
 
 fn put_signed(n: i32, out: &mut [u8], at: usize) -> usize
     requires { ⌜ at + 21 ≤ length (now out) ⌝ }
     ensures { λ r. ⌜ Wrote 12 (now (out .entry)) (now (out .exit)) at r (signedOf n) ⌝ }
 {
-    text::decimal::write_signed(n, out, at)
+    decimal::write_signed(n, out, at)
 }
 
 fn put_hex(bytes: &[u8], out: &mut [u8], at: usize) -> usize
     requires { ⌜ (length (now bytes) ≤ 65536) × (at + 131072 ≤ length (now out)) ⌝ }
     ensures { λ r. ⌜ Wrote 131072 (now (out .entry)) (now (out .exit)) at r (hexOf (now (bytes .entry))) ⌝ }
 {
-    text::hexadecimal::write(bytes, out, at)
+    hexadecimal::write(bytes, out, at)
 }
 
 fn put_flag(b: bool, out: &mut [u8], at: usize) -> usize

@@ -22,13 +22,13 @@ use Rattle.exec.specs.declared.Settlement.{Settlement}
 use Rattle.exec.specs.declared.Status.the-variants as Status
 use Rattle.exec.specs.declared.Stream.{Stream}
 use Rattle.exec.specs.declared.Unit as Units
-use Rattle.text.specs.declared.decimal.MaybeNumber.{MaybeNumber}
-use Rattle.text.specs.declared.decimal.MaybeNumber.the-variants as MaybeNumber
-use Rattle.text.specs.declared.decimal.MaybeSigned.{MaybeSigned}
-use Rattle.text.specs.declared.decimal.MaybeSigned.the-variants as MaybeSigned
-use Rattle.text.specs.declared.hexadecimal.MaybeLength.{MaybeLength}
-use Rattle.text.specs.declared.hexadecimal.MaybeLength.the-variants as MaybeLength
-use Rattle.text.specs.Decimal.{signed}
+use Rattle.decimal.specs.declared.MaybeNumber.{MaybeNumber}
+use Rattle.decimal.specs.declared.MaybeNumber.the-variants as MaybeNumber
+use Rattle.decimal.specs.declared.MaybeSigned.{MaybeSigned}
+use Rattle.decimal.specs.declared.MaybeSigned.the-variants as MaybeSigned
+use Rattle.hexadecimal.specs.declared.MaybeLength.{MaybeLength}
+use Rattle.hexadecimal.specs.declared.MaybeLength.the-variants as MaybeLength
+use Rattle.decimal.specs.Decimal.{signed}
 use Rattle.calls.specs.Call.{Call}
 use Rattle.syntax.specs.Meaning.{callIs}
 use Rattle.reading.specs.declared.words.MaybeFlag.{MaybeFlag}

@@ -10,7 +10,8 @@ use lib.Dec.{eqb}
 use lib.ListN.{length, drop, getD}
 use lib.Seq.{drop-cons, drop-length, take-at}
 use lib.IntN.{ℤ}
-use Rattle.text.specs.Answers.{maybeNumber, maybeSigned, maybeLength, unhexInto}
+use Rattle.decimal.specs.Answers.{maybeNumber, maybeSigned}
+use Rattle.hexadecimal.specs.Answers.{maybeLength, unhexInto}
 use Rattle.syntax.specs.Words.{same}
 use Rattle.reading.specs.Meaning.{numberIs, signedIs, bytesIs}
 

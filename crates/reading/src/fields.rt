@@ -2,29 +2,29 @@
 ghost use mathlib.Core.Path.{_≡_};
 ghost use Prim.Native.Nat.{_≤_, _/_};
 ghost use lib.ListN.{length};
-ghost use Rattle.text.specs.Answers.{AtMost};
-ghost use Rattle.text.specs.Decimal.{signed};
-ghost use Rattle.text.specs.Hexadecimal.{unhex};
+ghost use Rattle.decimal.specs.Answers.{AtMost};
+ghost use Rattle.decimal.specs.Decimal.{signed};
+ghost use Rattle.hexadecimal.specs.Hexadecimal.{unhex};
 ghost use Rattle.syntax.specs.Lines.{u64, u32, messageLength, keyOf, status, launchResult};
 ghost use Rattle.reading.specs.Meaning.{numberIs, narrowIs, signedIs, keyIs, statusIs, launchIs, bytesIs, exitedWith, signaledWith, failureOf, startedOf};
 use crate::words::MaybeFlag;
 use crate::words::flag;
 use crate::words::missing;
+use decimal::MaybeNumber;
+use decimal::MaybeSigned;
 use exec::Key;
 use exec::LaunchFailure;
 use exec::LaunchResult;
 use exec::MaybeStatus;
 use exec::Status;
-use text::decimal::MaybeNumber;
-use text::decimal::MaybeSigned;
-use text::hexadecimal::MaybeLength;
+use hexadecimal::MaybeLength;
 
 // ---- numbers
 
 pub fn wide(field: &[u8]) -> MaybeNumber
     ensures { λ r. ⌜ numberIs r ≡ u64 (now (field .entry)) ⌝ }
 {
-    text::decimal::read(field, 18446744073709551615)
+    decimal::read(field, 18446744073709551615)
 }
 
 pub enum MaybeU32 {
@@ -45,20 +45,20 @@ fn narrowed(n: MaybeNumber) -> MaybeU32
 pub fn narrow(field: &[u8]) -> MaybeU32
     ensures { λ r. ⌜ narrowIs r ≡ u32 (now (field .entry)) ⌝ }
 {
-    narrowed(text::decimal::read(field, 4294967295))
+    narrowed(decimal::read(field, 4294967295))
 }
 
 pub(crate) fn message_length(field: &[u8]) -> MaybeNumber
     ensures { λ r. ⌜ numberIs r ≡ messageLength (now (field .entry)) ⌝ }
     ensures { λ r. ⌜ AtMost 16384 r ⌝ }
 {
-    text::decimal::read(field, 16384)
+    decimal::read(field, 16384)
 }
 
 pub(crate) fn integer(field: &[u8]) -> MaybeSigned
     ensures { λ r. ⌜ signedIs r ≡ signed (now (field .entry)) ⌝ }
 {
-    text::decimal::read_signed(field)
+    decimal::read_signed(field)
 }
 
 // ---- a key: its id and its generation
@@ -179,5 +179,5 @@ pub(crate) fn bytes(field: &[u8], work: &mut [u8]) -> MaybeLength
     requires { ⌜ length (now field) / 2 ≤ length (now work) ⌝ }
     ensures { λ r. ⌜ bytesIs r (now (work .exit)) ≡ unhex (now (field .entry)) ⌝ }
 {
-    text::hexadecimal::read(field, work)
+    hexadecimal::read(field, work)
 }

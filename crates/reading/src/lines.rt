@@ -20,12 +20,12 @@ use crate::words::MaybeStream;
 use crate::words::place2;
 use crate::words::place4;
 use crate::words::place5;
+use decimal::MaybeNumber;
 use exec::MaybeCause;
+use hexadecimal::MaybeLength;
 use syntax::Call;
 use syntax::Question;
 use syntax::Timed;
-use text::decimal::MaybeNumber;
-use text::hexadecimal::MaybeLength;
 
 // The call of a line, if it is one.
 pub enum Line {

@@ -6,3 +6,4 @@ pub mod RingLaws
 pub mod Frames
 pub mod FrameLaws
 pub mod Edges
+pub mod Flags

@@ -13,8 +13,8 @@ use Rattle.exec.specs.declared.MaybeStatus.{MaybeStatus}
 use Rattle.exec.specs.declared.MaybeStatus.the-variants as MaybeStatus
 use Rattle.exec.specs.declared.Outcome.{Outcome}
 use Rattle.exec.specs.declared.Status.the-variants as Status
-use Rattle.text.specs.Decimal.{digitsOf, signedOf}
-use Rattle.text.specs.Hexadecimal.{hexOf}
+use Rattle.decimal.specs.Decimal.{digitsOf, signedOf}
+use Rattle.hexadecimal.specs.Hexadecimal.{hexOf}
 use Rattle.calls.specs.Call as Call
 use Rattle.calls.specs.Call.{Answer, Message, Request}
 use Rattle.syntax.specs.Words.{bytes, streamName, causeName}

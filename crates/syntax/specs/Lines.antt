@@ -11,8 +11,8 @@ use Rattle.exec.specs.declared.MaybeStatus.{MaybeStatus}
 use Rattle.exec.specs.declared.MaybeStatus.the-variants as MaybeStatus
 use Rattle.exec.specs.declared.Status.the-variants as Status
 use Rattle.exec.specs.Key.{newKey}
-use Rattle.text.specs.Decimal.{number, signed}
-use Rattle.text.specs.Hexadecimal.{unhex}
+use Rattle.decimal.specs.Decimal.{number, signed}
+use Rattle.hexadecimal.specs.Hexadecimal.{unhex}
 use Rattle.calls.specs.Call as Call
 use Rattle.calls.specs.Call.{Call}
 use Rattle.syntax.specs.Words.{bytes, same, stream, pool, cause, settlement}

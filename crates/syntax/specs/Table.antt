@@ -15,8 +15,8 @@ use Rattle.exec.specs.declared.Pool.the-variants as Pool
 use Rattle.exec.specs.declared.Status.the-variants as Status
 use Rattle.exec.specs.declared.Stream.the-variants.{Stdout, Stderr}
 use Rattle.exec.specs.Key.{newKey}
-use Rattle.text.specs.Decimal.{number, numberFrom, areDigits, valueFrom, signed, digitsOf, digitsBefore}
-use Rattle.text.specs.Hexadecimal.{unhex, arePairs, areHex, pairs, hexValue, hexOf, hexDigit}
+use Rattle.decimal.specs.Decimal.{number, numberFrom, areDigits, valueFrom, signed, digitsOf, digitsBefore}
+use Rattle.hexadecimal.specs.Hexadecimal.{unhex, arePairs, areHex, pairs, hexValue, hexOf, hexDigit}
 use Rattle.calls.specs.Call as Call
 use Rattle.calls.specs.Call.{Call, Answer}
 use Rattle.syntax.specs.Words.{bytes, same, named}

@@ -1,3 +1,4 @@
+-- `codec::bring` meets its contract: bytes that stand in their place are not moved.
 use mathlib.Core.Path.{_≡_}
 use native.Mathlib.Omega.{arith}
 use Rattle.codec.proofs.Laying.{unmoved}

@@ -1,3 +1,4 @@
+-- `codec::lay_in` meets its contract: the payload is brought to its place, and the header laid before it.
 use native.Mathlib.Omega.{arith}
 use Rattle.codec.proofs.Laying.{start-most, room-kept, laid-by}
 use borrow.Author.Needs.{needs}

@@ -1,4 +1,4 @@
-use Rattle.text.specs.Decimal.{signedOf}
+use Rattle.decimal.specs.Decimal.{signedOf}
 use Rattle.syntax.specs.Words.{bytes}
 use Rattle.printing.specs.Written.{joined}
 use Rattle.printing.proofs.Parts.{handed-on}

@@ -1,7 +1,7 @@
 -- `printing::put_hex` meets its contract: two digits a byte.
 use native.Mathlib.Omega.{arith}
-use Rattle.text.specs.Hexadecimal.{hexOf}
-use Rattle.text.specs.HexadecimalLaws.{hex-length}
+use Rattle.hexadecimal.specs.Hexadecimal.{hexOf}
+use Rattle.hexadecimal.specs.HexadecimalLaws.{hex-length}
 use Rattle.printing.specs.Written.{wrote}
 use borrow.Author.Needs.{needs}
 use Rattle.printing.proofs.put_hex.Statement.{statement}

@@ -1,5 +1,5 @@
 use native.Mathlib.Omega.{arith}
-use Rattle.text.specs.Decimal.{signedOf}
+use Rattle.decimal.specs.Decimal.{signedOf}
 use Rattle.printing.specs.Written.{joined, within}
 use Rattle.printing.proofs.Parts.{handed-on}
 use borrow.Author.Needs.{needs}

@@ -2,8 +2,8 @@
 use Prim.Native.Nat.{_≤_}
 use native.Mathlib.Omega.{arith}
 use lib.ListN.{length}
-use Rattle.text.specs.Decimal.{digitsOf}
-use Rattle.text.specs.DecimalLaws.{count-most}
+use Rattle.decimal.specs.Decimal.{digitsOf}
+use Rattle.decimal.specs.DecimalLaws.{count-most}
 use Rattle.printing.specs.Written.{wrote}
 use borrow.Author.Needs.{needs}
 use Rattle.printing.proofs.put_number.Statement.{statement}

@@ -1,6 +1,6 @@
 use mathlib.Core.List.{_∷_}
 use lib.IntN.{ℤ}
-use Rattle.text.specs.Decimal.{signedOf}
+use Rattle.decimal.specs.Decimal.{signedOf}
 use Rattle.syntax.specs.Words.{bytes}
 use Rattle.printing.proofs.Parts.{handed-on}
 use borrow.Author.Needs.{needs}

@@ -1,4 +1,4 @@
-use Rattle.text.specs.SignedLaws.{number-most}
+use Rattle.decimal.specs.SignedLaws.{number-most}
 use mathlib.Core.Path.{ap, _∙_}
 use Rattle.reading.specs.Meaning.{numberIs}
 use Rattle.reading.specs.WordLaws.{number-is}

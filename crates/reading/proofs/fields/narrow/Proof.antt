@@ -1,5 +1,5 @@
 use mathlib.Core.Path.{ap, _∙_}
-use Rattle.text.specs.SignedLaws.{number-most}
+use Rattle.decimal.specs.SignedLaws.{number-most}
 use Rattle.reading.specs.Meaning.{numberIs}
 use Rattle.reading.specs.WordLaws.{number-is}
 use borrow.Author.Needs.{needs}

@@ -3,7 +3,7 @@ use Rattle.reading.specs.Meaning.{numberIs}
 use mathlib.Core.Path.{subst}
 use Prim.Native.Nat.{_<_, _^_}
 use native.Mathlib.Omega.{arith}
-use Rattle.text.specs.Answers.{AtMost}
+use Rattle.decimal.specs.Answers.{AtMost}
 use borrow.Author.Needs.{needs}
 use Rattle.reading.proofs.fields.narrowed.Statement.{statement}
 use Rattle.reading.proofs.fields.narrowed.Tie as tie

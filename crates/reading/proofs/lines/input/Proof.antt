@@ -1,6 +1,6 @@
 use borrow.Author.Needs.{needs}
 use mathlib.Core.Path.{_∙_, sym, ap}
-use Rattle.text.specs.declared.hexadecimal.MaybeLength.{MaybeLength}
+use Rattle.hexadecimal.specs.declared.MaybeLength.{MaybeLength}
 use Rattle.reading.specs.Meaning.{bytesIs, keyIs}
 use Rattle.reading.proofs.lines.input.Statement.{statement}
 use Rattle.reading.proofs.lines.input.Tie as tie

@@ -1,7 +1,7 @@
 use mathlib.Core.Path.{subst}
 use Prim.Native.Nat.{_<_, _^_}
 use native.Mathlib.Omega.{arith}
-use Rattle.text.specs.Answers.{AtMost}
+use Rattle.decimal.specs.Answers.{AtMost}
 use mathlib.Core.Path.{sym, ap, _∙_}
 use Rattle.reading.specs.Meaning.{numberIs}
 use borrow.Author.Needs.{needs}

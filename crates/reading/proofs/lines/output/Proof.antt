@@ -1,6 +1,6 @@
 use borrow.Author.Needs.{needs}
 use mathlib.Core.Path.{_∙_, sym, ap}
-use Rattle.text.specs.declared.hexadecimal.MaybeLength.{MaybeLength}
+use Rattle.hexadecimal.specs.declared.MaybeLength.{MaybeLength}
 use Rattle.reading.specs.Meaning.{bytesIs, streamIs}
 use Rattle.reading.proofs.lines.output.Statement.{statement}
 use Rattle.reading.proofs.lines.output.Tie as tie
