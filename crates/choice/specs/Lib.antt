@@ -1,2 +1,3 @@
--- Which message comes next.
+-- Which message comes next, and its edges.
 pub mod Order
+pub mod Edges

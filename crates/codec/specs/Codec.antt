@@ -115,5 +115,5 @@ laidRecord channel rec buffer =
     bytesOf channel rec (take (size rec) (drop 13 buffer)) ++ drop (start rec + size rec) buffer
 
 -- where the buffer has room for the payload there
-unfoldable pub laid : (channel : ℕ) → Record → List ℕ → List ℕ
-laid channel rec buffer = cond (leb (13 + size rec) (length buffer)) (laidRecord channel rec buffer) buffer
+unfoldable pub lay : (channel : ℕ) → Record → List ℕ → List ℕ
+lay channel rec buffer = cond (leb (13 + size rec) (length buffer)) (laidRecord channel rec buffer) buffer

@@ -19,7 +19,7 @@ use Rattle.codec.specs.declared.Record.the-variants.{Adjust, Data, Exten
 use Rattle.codec.specs.declared.Written.the-variants as Written
 use Rattle.octets.specs.Bytes.{be32, numberAt}
 use Rattle.octets.specs.BytesLaws.{number-written, number-fits, peel}
-use Rattle.codec.specs.Codec.{header, start, size, Fits, bytesOf, kinded, isTyped, fitting, checked, read, writtenAfter, write, laidRecord, laid}
+use Rattle.codec.specs.Codec.{header, start, size, Fits, bytesOf, kinded, isTyped, fitting, checked, read, writtenAfter, write, laidRecord, lay}
 
 pub header-length : (channel : ℕ) (rec : Record) → length (header channel rec) ≡ start rec
 unfolding header
@@ -219,10 +219,10 @@ module _ (channel : ℕ) (rec : Record) (payload b : List ℕ) where
 
 -- a record is laid where its payload is there
 module _ (channel : ℕ) (rec : Record) (b : List ℕ) where
-  pub laid-roomy : 13 + size rec ≤ length b → laid channel rec b ≡ laidRecord channel rec b
-  unfolding laid
-  laid-roomy h = simp (le-leb (13 + size rec) (length b) h)
+  pub lay-roomy : 13 + size rec ≤ length b → lay channel rec b ≡ laidRecord channel rec b
+  unfolding lay
+  lay-roomy h = simp (le-leb (13 + size rec) (length b) h)
 
-  pub laid-short : length b < 13 + size rec → laid channel rec b ≡ b
-  unfolding laid
-  laid-short h = simp (lt-leb (13 + size rec) (length b) h)
+  pub lay-short : length b < 13 + size rec → lay channel rec b ≡ b
+  unfolding lay
+  lay-short h = simp (lt-leb (13 + size rec) (length b) h)

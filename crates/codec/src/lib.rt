@@ -17,7 +17,7 @@ ghost use Rattle.codec.specs.Codec.{
   writtenAfter,
   write,
   laidRecord,
-  laid,
+  lay,
 };
 use exec::Refusal;
 
@@ -214,7 +214,7 @@ pub fn write(channel: u32, rec: Record, payload: &[u8], buffer: &mut [u8]) -> Wr
 // The same with a payload that stands in the buffer already, from byte 13 on, where the longest header ends. A buffer that ends
 // before the payload does is left as it was.
 pub fn lay(channel: u32, rec: Record, buffer: &mut [u8])
-    ensures { λ _. ⌜ now (buffer .exit) ≡ laid channel rec (now (buffer .entry)) ⌝ }
+    ensures { λ _. ⌜ now (buffer .exit) ≡ lay channel rec (now (buffer .entry)) ⌝ }
 {
     let room = buffer.len();
     if room < 13 {

@@ -1,2 +1,2 @@
-// The credit of an execution's pools (credit.rs of the Rust and the folder beside it).
+// The credit of an execution's output pools (credit/sender.rs of the Rust).
 pub mod sender;

@@ -1,4 +1,4 @@
--- Two texts compared byte by byte, and what is read of a field by the functions of crate text.
+-- Two texts compared byte by byte, and what is read of a field by the functions of crates decimal and hexadecimal.
 use mathlib.Core.Bool.{Bool, true, false, cond, _&&_}
 use mathlib.Core.Path.{_≡_, refl, sym, ap, _∙_}
 use mathlib.Core.List.{List, [], _∷_}

@@ -1,4 +1,5 @@
--- What the contracts of `ring` cite (Runs, Ring, Frames), the laws that callers use (Lent, RingLaws, FrameLaws), and small examples.
+-- What the contracts of `ring` cite (Runs, Ring, Frames), the laws that callers use (Lent, RingLaws, FrameLaws), small
+-- examples, and laws of flags (Flags) for the crates over it.
 pub mod Runs
 pub mod Lent
 pub mod Ring

@@ -1,19 +1,19 @@
 -- `codec::lay` meets its contract: by the tests.
 use mathlib.Core.Path.{sym, _∙_}
 use native.Mathlib.Omega.{arith}
-use Rattle.codec.specs.CodecLaws.{laid-roomy, laid-short}
+use Rattle.codec.specs.CodecLaws.{lay-roomy, lay-short}
 use borrow.Author.Needs.{needs}
 use Rattle.codec.proofs.lay.Statement.{statement}
 use Rattle.codec.proofs.lay.Tie as tie
 
 returns : tie.Need-returns
-returns c = sym (laid-short _ _ _ (omega arith))
+returns c = sym (lay-short _ _ _ (omega arith))
 
 returns-2 : tie.Need-returns-2
-returns-2 c = c .before .before .lay-in .ensures ∙ sym (laid-roomy _ _ _ (omega arith))
+returns-2 c = c .before .before .lay-in .ensures ∙ sym (lay-roomy _ _ _ (omega arith))
 
 returns-3 : tie.Need-returns-3
-returns-3 c = sym (laid-short _ _ _ (omega arith))
+returns-3 c = sym (lay-short _ _ _ (omega arith))
 
 pub lay-spec : {M : Type 1} → statement M
 lay-spec =

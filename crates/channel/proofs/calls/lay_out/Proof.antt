@@ -1,6 +1,6 @@
 -- `calls::lay_out` meets its contract: a record that has room is laid.
 use mathlib.Core.Path.{_∙_}
-use Rattle.codec.specs.CodecLaws.{laid-roomy}
+use Rattle.codec.specs.CodecLaws.{lay-roomy}
 use Rattle.channel.specs.Calls.{sentBuffer}
 use Rattle.channel.specs.CallLaws.{Roomy}
 use borrow.Author.Needs.{needs}
@@ -15,7 +15,7 @@ returns-2 : tie.Need-returns-2
 unfolding sentBuffer Roomy
 returns-2 c =
     let rec = c .before .before .before .before .before .out .given .1 in
-    rw rec (c .before .before .lay .ensures ∙ laid-roomy _ _ _ (rw rec at (c .before .before .before .before .before .before .before .before .pre)))
+    rw rec (c .before .before .lay .ensures ∙ lay-roomy _ _ _ (rw rec at (c .before .before .before .before .before .before .before .before .pre)))
 
 pub lay-out-spec : {M : Type 1} → statement M
 lay-out-spec = tie.close (tie.spec (search needs) (search needs) (search needs) returns (search needs) returns-2)
