@@ -2,7 +2,7 @@
 -- nothing, and then the call that the record makes. A record read makes one of the runner's calls; a record written is a message.
 use mathlib.Core.Bool.{Bool, true, false, cond, _&&_}
 use mathlib.Core.List.{List, _++_}
-use Prim.Native.Nat.{ℕ, _+_}
+use Prim.Native.Nat.{ℕ, _+_, max}
 use lib.Dec.{leb}
 use lib.ListN.{length, take, drop}
 use Rattle.exec.specs.declared.Limits.{Limits}
@@ -10,7 +10,7 @@ use Rattle.exec.specs.declared.Pool.the-variants as Pool
 use Rattle.exec.specs.declared.Received.{Received}
 use Rattle.exec.specs.declared.Received.the-variants as Received
 use Rattle.exec.specs.declared.Refusal.{Refusal}
-use Rattle.exec.specs.declared.Refusal.the-variants.{NotAChannel, NotInbound, BufferShort}
+use Rattle.exec.specs.declared.Refusal.the-variants.{NotAChannel, NotInbound, BufferShort, UntoldStatus}
 use Rattle.exec.specs.declared.Reply.{Reply}
 use Rattle.exec.specs.declared.Reply.the-variants as Reply
 use Rattle.exec.specs.declared.Stream.{Stream}
@@ -27,6 +27,7 @@ use Rattle.runner.specs.declared.answer.Saying.{Saying}
 use Rattle.runner.specs.declared.runner.Runner.{Runner}
 use Rattle.runner.specs.Calls as Calls
 use Rattle.runner.specs.Calls.{storesDo}
+use Rattle.runner.specs.Message.{MessageAfter}
 use Rattle.runner.specs.Range.{bytesDo, stop}
 use Rattle.exec.specs.Stream.{anyStream}
 use Rattle.runner.specs.State.{outOf}
@@ -43,6 +44,7 @@ use Rattle.codec.specs.declared.Parsed.the-variants as Parsed
 use Rattle.codec.specs.declared.Record.{Record}
 use Rattle.codec.specs.declared.Record.the-variants.{Adjust, Data, Extended, Eof, Close}
 use Rattle.codec.specs.Codec.{start, size, read, laidRecord}
+use Rattle.exits.specs.Exit.{isUntold, ending}
 
 -- ---- what is met before a record: 12, 10, 11, 13
 
@@ -126,32 +128,34 @@ outputRecord Stdout n = Data n
 outputRecord Stderr n = Extended n
 
 -- what a message is sent as, where ended says that an End came before: Credit 93, Output 94 or 95, the End that comes second
--- 96, Terminal 97; Started, InputClosed and the first End write nothing
+-- 96, Terminal the 98 of its status, if there is one, and 97; Started, InputClosed and the first End write nothing
 unfoldable pub sentAs : (ended : Bool) → Message → Sending
 sentAs ended (Message.Credit units) = Sending.Record (Adjust units)
 sentAs ended Message.Started = Sending.Nothing
 sentAs ended (Message.Output x n) = Sending.Record (outputRecord x n)
 sentAs ended (Message.End x) = cond ended (Sending.Record Eof) Sending.Nothing
 sentAs ended Message.InputClosed = Sending.Nothing
-sentAs ended (Message.Terminal outcome) = Sending.Record Close
+sentAs ended (Message.Terminal outcome) = Sending.Ending (outcome .status)
 
 -- an End has come
 abbrev pub hasEnded : Runner → Bool
 hasEnded r = anyStream (λ (x : Stream). outOf x r .ended)
 
 -- its length, 0 where nothing is written
-abbrev pub lengthOf : Sending → ℕ
-lengthOf Sending.Nothing = 0
-lengthOf (Sending.Record rec) = start rec + size rec
+abbrev pub lengthOf : (channel : ℕ) → Sending → ℕ
+lengthOf channel Sending.Nothing = 0
+lengthOf channel (Sending.Record rec) = start rec + size rec
+lengthOf channel (Sending.Ending status) = length (ending channel status)
 
 unfoldable pub sentBuffer : (channel : ℕ) → Sending → List ℕ → List ℕ
 sentBuffer channel Sending.Nothing buffer = buffer
 sentBuffer channel (Sending.Record rec) buffer = laidRecord channel rec buffer
+sentBuffer channel (Sending.Ending status) buffer = ending channel status ++ drop (length (ending channel status)) buffer
 
-unfoldable pub wrote : (ended : Bool) → Said → Wrote
-wrote ended Said.None = Wrote.None
-wrote ended (Said.Message m) = Wrote.Message m (lengthOf (sentAs ended m))
-wrote ended (Said.Refused x) = Wrote.Refused x
+unfoldable pub wrote : (channel : ℕ) (ended : Bool) → Said → Wrote
+wrote channel ended Said.None = Wrote.None
+wrote channel ended (Said.Message m) = Wrote.Message m (lengthOf channel (sentAs ended m))
+wrote channel ended (Said.Refused x) = Wrote.Refused x
 
 unfoldable pub wroteBuffer : (channel : ℕ) (ended : Bool) → Said → List ℕ → List ℕ
 wroteBuffer channel ended Said.None buffer = buffer
@@ -164,21 +168,44 @@ partBack chunk buffer part = take 13 buffer ++ (part ++ drop (13 + chunk) buffer
 
 unfoldable pub told : Saying → (ended : Bool) (channel : ℕ) → (buffer : List ℕ) → WriteAfter
 told x ended channel buffer =
-    writeAfter (record { runner = x .runner; wrote = wrote ended (x .said) }) (wroteBuffer channel ended (x .said) buffer)
+    writeAfter (record { runner = x .runner; wrote = wrote channel ended (x .said) }) (wroteBuffer channel ended (x .said) buffer)
 
--- a message is asked for in that part, and told
-unfoldable pub sent : Runner → (channel : ℕ) → (store buffer : List ℕ) → WriteAfter
-sent r channel store buffer =
-    told (Calls.nextMessage r store (take (r .limits .chunk) (drop 13 buffer)) .saying) (hasEnded r) channel
-    (partBack (r .limits .chunk) buffer (Calls.nextMessage r store (take (r .limits .chunk) (drop 13 buffer)) .buffer))
+-- a message is asked for in that part
+unfoldable pub asked : Runner → (store buffer : List ℕ) → MessageAfter
+asked r store buffer = Calls.nextMessage r store (take (r .limits .chunk) (drop 13 buffer))
+
+abbrev pub isLeftMessage : Message → Bool
+isLeftMessage (Message.Credit units) = false
+isLeftMessage Message.Started = false
+isLeftMessage (Message.Output x n) = false
+isLeftMessage (Message.End x) = false
+isLeftMessage Message.InputClosed = false
+isLeftMessage (Message.Terminal outcome) = isUntold (outcome .status)
+
+-- a Terminal whose status no request tells is left with the runner
+unfoldable pub isLeft : Said → Bool
+isLeft Said.None = false
+isLeft (Said.Message m) = isLeftMessage m
+isLeft (Said.Refused x) = false
 
 abbrev pub unwritten : Refusal → Runner → Writing
 unwritten x r = record { runner = r; wrote = Wrote.Refused x }
 
+-- 40, and nothing changes; else the message is taken and told
+unfoldable pub sent : Runner → (channel : ℕ) → (store buffer : List ℕ) → WriteAfter
+sent r channel store buffer =
+    cond (isLeft (asked r store buffer .saying .said))
+    (writeAfter (unwritten UntoldStatus r) buffer)
+    (told (asked r store buffer .saying) (hasEnded r) channel (partBack (r .limits .chunk) buffer (asked r store buffer .buffer)))
+
+-- what a buffer must have, whatever the message: the longest Output and the longest Terminal fit it
+abbrev pub room : Limits → ℕ
+room l = max (l .chunk + 13) 43
+
 -- 25, before a message is taken
 unfoldable pub roomyWrite : Runner → (channel : ℕ) → (store buffer : List ℕ) → WriteAfter
 roomyWrite r channel store buffer =
-    cond (leb (13 + r .limits .chunk) (length buffer))
+    cond (leb (room (r .limits)) (length buffer))
     (sent r channel store buffer)
     (writeAfter (unwritten BufferShort r) buffer)
 

@@ -80,6 +80,8 @@ pub struct Writing {
 pub enum Sending {
     Nothing,
     Record(Record),
+    // The end of the channel, with how the workload ended.
+    Ending(MaybeStatus),
 }
 
 // ---- what is met before a record: 12, 10, 11, 13

@@ -114,6 +114,9 @@ unfoldable pub laidRecord : (channel : ℕ) → Record → List ℕ → List ℕ
 laidRecord channel rec buffer =
     bytesOf channel rec (take (size rec) (drop 13 buffer)) ++ drop (start rec + size rec) buffer
 
--- where the buffer has room for the payload there
-unfoldable pub lay : (channel : ℕ) → Record → List ℕ → List ℕ
-lay channel rec buffer = cond (leb (13 + size rec) (length buffer)) (laidRecord channel rec buffer) buffer
+-- 25 where the buffer has no room for the payload there
+unfoldable pub lay : (channel : ℕ) → Record → List ℕ → WrittenAfter
+lay channel rec buffer =
+    cond (leb (13 + size rec) (length buffer))
+    (writtenAfter (Written.Bytes (start rec + size rec)) (laidRecord channel rec buffer))
+    (writtenAfter (Written.Refused BufferShort) buffer)

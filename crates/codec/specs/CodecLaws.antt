@@ -219,10 +219,10 @@ module _ (channel : ℕ) (rec : Record) (payload b : List ℕ) where
 
 -- a record is laid where its payload is there
 module _ (channel : ℕ) (rec : Record) (b : List ℕ) where
-  pub lay-roomy : 13 + size rec ≤ length b → lay channel rec b ≡ laidRecord channel rec b
+  pub lay-roomy : 13 + size rec ≤ length b → lay channel rec b ≡ writtenAfter (Written.Bytes (start rec + size rec)) (laidRecord channel rec b)
   unfolding lay
   lay-roomy h = simp (le-leb (13 + size rec) (length b) h)
 
-  pub lay-short : length b < 13 + size rec → lay channel rec b ≡ b
+  pub lay-short : length b < 13 + size rec → lay channel rec b ≡ writtenAfter (Written.Refused BufferShort) b
   unfolding lay
   lay-short h = simp (lt-leb (13 + size rec) (length b) h)

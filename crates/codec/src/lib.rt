@@ -211,18 +211,19 @@ pub fn write(channel: u32, rec: Record, payload: &[u8], buffer: &mut [u8]) -> Wr
     Written::Bytes(whole)
 }
 
-// The same with a payload that stands in the buffer already, from byte 13 on, where the longest header ends. A buffer that ends
-// before the payload does is left as it was.
-pub fn lay(channel: u32, rec: Record, buffer: &mut [u8])
-    ensures { λ _. ⌜ now (buffer .exit) ≡ lay channel rec (now (buffer .entry)) ⌝ }
+// The same with a payload that stands in the buffer already, from byte 13 on, where the longest header ends.
+pub fn lay(channel: u32, rec: Record, buffer: &mut [u8]) -> Written
+    ensures { λ r. ⌜ writtenAfter r (now (buffer .exit)) ≡ lay channel rec (now (buffer .entry)) ⌝ }
 {
     let room = buffer.len();
     if room < 13 {
-        return;
+        return Written::Refused(Refusal::BufferShort);
     }
-    if rec.size() <= room - 13 {
-        lay_in(channel, rec, buffer);
+    if room - 13 < rec.size() {
+        return Written::Refused(Refusal::BufferShort);
     }
+    lay_in(channel, rec, buffer);
+    Written::Bytes(rec.whole())
 }
 
 fn lay_in(channel: u32, rec: Record, buffer: &mut [u8])

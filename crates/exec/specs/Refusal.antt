@@ -1,4 +1,4 @@
--- The numbers of 01's table 'Stops'.
+-- The numbers of 01's table 'Stops', and of 02's requests.
 use Prim.Native.Nat.{ℕ}
 use mathlib.Core.Path.{_≡_, refl}
 use mathlib.Core.Bool.{Bool, true, false, cond}
@@ -8,7 +8,7 @@ use mathlib.Core.Option.{Option, none, some}
 use lib.Dec.{eqb}
 use borrow.Author.Tests.{eqb-true}
 use Rattle.exec.specs.declared.Refusal.{Refusal}
-use Rattle.exec.specs.declared.Refusal.the-variants.{Key, Pool, Credit, Chunk, Window, Ended, NoLimits, StoreShort, StateOutOfRange, NotAChannel, BadLength, UnknownKind, OtherChannel, BadType, NotInbound, BufferShort, BadLine, TimeBack}
+use Rattle.exec.specs.declared.Refusal.the-variants.{Key, Pool, Credit, Chunk, Window, Ended, NoLimits, StoreShort, StateOutOfRange, NotAChannel, BadLength, UnknownKind, OtherChannel, BadType, NotInbound, BufferShort, BadLine, TimeBack, UntoldStatus, BadRequest}
 
 abbrev pub number : Refusal → ℕ
 number Key = 1
@@ -29,12 +29,14 @@ number NotInbound = 24
 number BufferShort = 25
 number BadLine = 30
 number TimeBack = 31
+number UntoldStatus = 40
+number BadRequest = 41
 
 -- every refusal, in the order of the table
 abbrev pub stops : List Refusal
 stops =
     Key ∷ Pool ∷ Credit ∷ Chunk ∷ Window ∷ Ended ∷ NoLimits ∷ StoreShort ∷ StateOutOfRange ∷ NotAChannel ∷ BadLength ∷ UnknownKind
-    ∷ OtherChannel ∷ BadType ∷ NotInbound ∷ BufferShort ∷ BadLine ∷ TimeBack ∷ []
+    ∷ OtherChannel ∷ BadType ∷ NotInbound ∷ BufferShort ∷ BadLine ∷ TimeBack ∷ UntoldStatus ∷ BadRequest ∷ []
 
 unfoldable pub find : ℕ → List Refusal → Option Refusal
 find n [] = none
@@ -64,6 +66,8 @@ refusal-number NotInbound = refl
 refusal-number BufferShort = refl
 refusal-number BadLine = refl
 refusal-number TimeBack = refl
+refusal-number UntoldStatus = refl
+refusal-number BadRequest = refl
 
 -- a refusal that was found, at the head of a list or behind it, has the number
 found : (b : Bool) (n : ℕ) (x y : Refusal) (rest : Option Refusal) → eqb (number y) n ≡ b → (rest ≡ some x → number x ≡ n)

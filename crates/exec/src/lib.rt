@@ -523,7 +523,7 @@ pub enum Reply {
     Refused(Refusal),
 }
 
-// Why a call is refused: the Rust's Violation, then what the stores, the state, the records and the card add. A refused call
+// Why a call is refused: the Rust's Violation, then what the stores, the state, the records, the card and the exit requests add. A refused call
 // changes nothing.
 pub enum Refusal {
     Key,
@@ -544,6 +544,8 @@ pub enum Refusal {
     BufferShort,
     BadLine,
     TimeBack,
+    UntoldStatus,
+    BadRequest,
 }
 
 impl Refusal {
@@ -570,6 +572,8 @@ impl Refusal {
             Refusal::BufferShort => 25,
             Refusal::BadLine => 30,
             Refusal::TimeBack => 31,
+            Refusal::UntoldStatus => 40,
+            Refusal::BadRequest => 41,
         }
     }
 }

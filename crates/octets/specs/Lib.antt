@@ -1,3 +1,4 @@
--- Numbers in bytes.
+-- Numbers in bytes, and bytes as text.
 pub mod Bytes
 pub mod BytesLaws
+pub mod Text

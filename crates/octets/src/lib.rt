@@ -1,10 +1,11 @@
-// Numbers in bytes: a u32 read and written as four of them, the most significant first, and bytes moved within a buffer.
+// Numbers in bytes: a u32 read and written as four of them, the most significant first; bytes moved within a buffer, and compared.
 ghost use mathlib.Core.Path.{_≡_};
 ghost use mathlib.Core.List.{[], _∷_};
 ghost use Prim.Native.Nat.{_+_, _≤_, _<_, _^_};
 ghost use lib.ListN.{length};
 ghost use Rattle.ring.specs.Runs.{copied};
 ghost use Rattle.octets.specs.Bytes.{be32, be32At, numberAt};
+ghost use Rattle.octets.specs.Text.{same};
 
 fn wide(x: u8) -> u32
     ensures { λ r. ⌜ (r ≡ x) × (r < 256) ⌝ }
@@ -59,4 +60,22 @@ pub fn slide(buffer: &mut [u8], at: usize, from: usize, n: usize)
         buffer[at + j] = buffer[from + j];
         j += 1;
     }
+}
+
+// Whether two texts have the same bytes.
+pub fn same(a: &[u8], b: &[u8]) -> bool
+    ensures { λ r. ⌜ r ≡ same (now (a .entry)) (now (b .entry)) ⌝ }
+{
+    let n = b.len();
+    if a.len() != n {
+        return false;
+    }
+    let mut i: usize = 0;
+    while i < n {
+        if a[i] != b[i] {
+            return false;
+        }
+        i += 1;
+    }
+    true
 }

@@ -137,7 +137,7 @@ fn is_open(line: &[u8]) -> bool
 {
     let e = comma(line);
     let n = count(line);
-    (n == 13) & words::is(&line[0..e], b"open")
+    (n == 13) & octets::same(&line[0..e], b"open")
 }
 
 fn number_at(line: &[u8], k: usize) -> MaybeNumber

@@ -1,7 +1,7 @@
 // The words of the card, read: a field is a word where it has the word's bytes and no others.
 ghost use mathlib.Core.Path.{_≡_};
 ghost use mathlib.Core.List.{[], _∷_};
-ghost use Rattle.syntax.specs.Words.{same, stream, pool, cause, settlement, unit};
+ghost use Rattle.syntax.specs.Words.{stream, pool, cause, settlement, unit};
 ghost use Rattle.syntax.specs.Lines.{missing, digit};
 ghost use Rattle.reading.specs.Meaning.{streamIs, poolIs, causeIs, settlementIs, unitIs, flagIs};
 ghost use Rattle.reading.specs.Naming.{placeAmong};
@@ -37,34 +37,16 @@ pub enum MaybeFlag {
     Some(bool),
 }
 
-// Whether the field is the word.
-pub fn is(field: &[u8], word: &[u8]) -> bool
-    ensures { λ r. ⌜ r ≡ same (now (field .entry)) (now (word .entry)) ⌝ }
-{
-    let n = word.len();
-    if field.len() != n {
-        return false;
-    }
-    let mut i: usize = 0;
-    while i < n {
-        if field[i] != word[i] {
-            return false;
-        }
-        i += 1;
-    }
-    true
-}
-
 // ---- the place of a field among names: the first that it is; how many they are where it is none. (Each name is an argument of
 // its own: so the compiler knows its bytes, and a name of another length costs one comparison.)
 
 pub(crate) fn place2(field: &[u8], a: &[u8], b: &[u8]) -> usize
     ensures { λ r. ⌜ r ≡ placeAmong (now (field .entry)) (now (a .entry) ∷ now (b .entry) ∷ []) ⌝ }
 {
-    if is(field, a) {
+    if octets::same(field, a) {
         return 0;
     }
-    if is(field, b) {
+    if octets::same(field, b) {
         return 1;
     }
     2
@@ -73,16 +55,16 @@ pub(crate) fn place2(field: &[u8], a: &[u8], b: &[u8]) -> usize
 pub(crate) fn place4(field: &[u8], a: &[u8], b: &[u8], c: &[u8], d: &[u8]) -> usize
     ensures { λ r. ⌜ r ≡ placeAmong (now (field .entry)) (now (a .entry) ∷ now (b .entry) ∷ now (c .entry) ∷ now (d .entry) ∷ []) ⌝ }
 {
-    if is(field, a) {
+    if octets::same(field, a) {
         return 0;
     }
-    if is(field, b) {
+    if octets::same(field, b) {
         return 1;
     }
-    if is(field, c) {
+    if octets::same(field, c) {
         return 2;
     }
-    if is(field, d) {
+    if octets::same(field, d) {
         return 3;
     }
     4
@@ -91,19 +73,19 @@ pub(crate) fn place4(field: &[u8], a: &[u8], b: &[u8], c: &[u8], d: &[u8]) -> us
 pub(crate) fn place5(field: &[u8], a: &[u8], b: &[u8], c: &[u8], d: &[u8], e: &[u8]) -> usize
     ensures { λ r. ⌜ r ≡ placeAmong (now (field .entry)) (now (a .entry) ∷ now (b .entry) ∷ now (c .entry) ∷ now (d .entry) ∷ now (e .entry) ∷ []) ⌝ }
 {
-    if is(field, a) {
+    if octets::same(field, a) {
         return 0;
     }
-    if is(field, b) {
+    if octets::same(field, b) {
         return 1;
     }
-    if is(field, c) {
+    if octets::same(field, c) {
         return 2;
     }
-    if is(field, d) {
+    if octets::same(field, d) {
         return 3;
     }
-    if is(field, e) {
+    if octets::same(field, e) {
         return 4;
     }
     5
@@ -181,7 +163,7 @@ pub fn unit(field: &[u8]) -> MaybeUnit
 pub fn missing(field: &[u8]) -> bool
     ensures { λ r. ⌜ r ≡ missing (now (field .entry)) ⌝ }
 {
-    is(field, b"-")
+    octets::same(field, b"-")
 }
 
 // 0 or 1.

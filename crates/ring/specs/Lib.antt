@@ -1,5 +1,5 @@
 -- What the contracts of `ring` cite (Runs, Ring, Frames), the laws that callers use (Lent, RingLaws, FrameLaws), small
--- examples, and laws of flags (Flags) for the crates over it.
+-- examples, and laws of flags (Flags) and of signs (Signed) for the crates over it.
 pub mod Runs
 pub mod Lent
 pub mod Ring
@@ -8,3 +8,4 @@ pub mod Frames
 pub mod FrameLaws
 pub mod Edges
 pub mod Flags
+pub mod Signed

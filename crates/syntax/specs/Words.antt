@@ -1,12 +1,8 @@
 -- The words of the card: every name stands here once, and is read and written by it.
-use mathlib.Core.Bool.{Bool, true, false, cond, _&&_}
+use mathlib.Core.Bool.{cond}
 use mathlib.Core.List.{List, [], _∷_}
 use mathlib.Core.Option.{Option, none, some}
-use Prim.Native.Char.{code}
 use Prim.Native.Nat.{ℕ}
-use Prim.Native.String as Text
-use Prim.Native.String.{String}
-use lib.Dec.{eqb}
 use Rattle.exec.specs.declared.Cause.{Cause}
 use Rattle.exec.specs.declared.Cause.the-variants as Cause
 use Rattle.exec.specs.declared.Pool.{Pool}
@@ -17,18 +13,7 @@ use Rattle.exec.specs.declared.Stream.{Stream}
 use Rattle.exec.specs.declared.Stream.the-variants as Stream
 use Rattle.exec.specs.declared.Unit as Units
 use Rattle.exec.specs.declared.Unit.the-variants as Unit
-
--- the bytes of a text
-unfoldable pub bytes : String → List ℕ
-bytes Text.[] = []
-bytes (Text._∷_ c s) = code c ∷ bytes s
-
--- two texts are the same
-unfoldable pub same : List ℕ → List ℕ → Bool
-same [] [] = true
-same [] (c ∷ t) = false
-same (b ∷ s) [] = false
-same (b ∷ s) (c ∷ t) = eqb b c && same s t
+unfoldable pub use Rattle.octets.specs.Text.{bytes, same}
 
 -- ---- names, and what is named: the first of a list whose name a field is
 

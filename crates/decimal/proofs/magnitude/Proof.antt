@@ -3,7 +3,7 @@ use mathlib.Core.Path.{sym, ap, _∙_}
 use native.Mathlib.Omega.{arith}
 use native.Mathlib.Numerals.{add-one}
 use lib.IntN.{natAbs}
-use Rattle.decimal.proofs.Bits.{below, above}
+use Rattle.ring.specs.Signed.{below, above}
 use borrow.Author.Needs.{needs}
 use Rattle.decimal.proofs.magnitude.Statement.{statement}
 use Rattle.decimal.proofs.magnitude.Tie as tie

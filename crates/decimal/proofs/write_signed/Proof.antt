@@ -9,7 +9,7 @@ use mir.Syntax.{w32}
 use mir.ValLaws.{toZ-ofZ}
 use Rattle.ring.specs.Runs.{copied}
 use Rattle.decimal.specs.SignedLaws.{written-minus, end-minus, plain}
-use Rattle.decimal.proofs.Bits.{below, above}
+use Rattle.ring.specs.Signed.{below, above}
 use borrow.Author.Needs.{needs}
 use Rattle.decimal.proofs.write_signed.Statement.{statement}
 use Rattle.decimal.proofs.write_signed.Tie as tie

@@ -10,4 +10,4 @@ unfolding isOpen bytes
 is-open-spec =
     tie.close
     (tie.spec (search needs) (search needs) (search needs) (search needs) (search needs) (search needs) (search needs)
-    (λ c. simp (c .is .ensures, c .before .before .before .count .ensures, first-part (c .before .before .before .before .before .before .args .line .now) _ (c .before .before .before .before .comma .ensures .0))))
+    (λ c. simp (c .same .ensures, c .before .before .before .count .ensures, first-part (c .before .before .before .before .before .before .args .line .now) _ (c .before .before .before .before .comma .ensures .0))))

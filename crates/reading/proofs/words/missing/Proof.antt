@@ -6,4 +6,4 @@ use Rattle.reading.proofs.words.missing.Tie as tie
 pub missing-spec : {M : Type 1} → statement M
 unfolding bytes
 missing-spec =
-    tie.close (tie.spec (search needs) (search needs) (λ c. simp (c .is .ensures)))
+    tie.close (tie.spec (search needs) (search needs) (λ c. simp (c .same .ensures)))

@@ -10,13 +10,13 @@ place2-spec =
     tie.close
     (tie.spec
     (search needs)
-    (λ c. simp (sym (c .before .is .ensures) ∙ c .if1 .taken))
+    (λ c. simp (sym (c .before .same .ensures) ∙ c .if1 .taken))
     (search needs)
     (λ c. simp (
-      sym (c .before .is2 .ensures) ∙ c .if2 .taken,
-      sym (c .before .before .before .is .ensures) ∙ c .before .before .if1 .left,
+      sym (c .before .same2 .ensures) ∙ c .if2 .taken,
+      sym (c .before .before .before .same .ensures) ∙ c .before .before .if1 .left,
     ))
     (λ c. simp (
-      sym (c .before .is2 .ensures) ∙ c .if2 .left,
-      sym (c .before .before .before .is .ensures) ∙ c .before .before .if1 .left,
+      sym (c .before .same2 .ensures) ∙ c .if2 .left,
+      sym (c .before .before .before .same .ensures) ∙ c .before .before .if1 .left,
     )))

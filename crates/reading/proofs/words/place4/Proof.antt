@@ -10,28 +10,28 @@ place4-spec =
     tie.close
     (tie.spec
     (search needs)
-    (λ c. simp (sym (c .before .is .ensures) ∙ c .if1 .taken))
+    (λ c. simp (sym (c .before .same .ensures) ∙ c .if1 .taken))
     (search needs)
     (λ c. simp (
-      sym (c .before .is2 .ensures) ∙ c .if2 .taken,
-      sym (c .before .before .before .is .ensures) ∙ c .before .before .if1 .left,
+      sym (c .before .same2 .ensures) ∙ c .if2 .taken,
+      sym (c .before .before .before .same .ensures) ∙ c .before .before .if1 .left,
     ))
     (search needs)
     (λ c. simp (
-      sym (c .before .is3 .ensures) ∙ c .if3 .taken,
-      sym (c .before .before .before .is2 .ensures) ∙ c .before .before .if2 .left,
-      sym (c .before .before .before .before .before .is .ensures) ∙ c .before .before .before .before .if1 .left,
+      sym (c .before .same3 .ensures) ∙ c .if3 .taken,
+      sym (c .before .before .before .same2 .ensures) ∙ c .before .before .if2 .left,
+      sym (c .before .before .before .before .before .same .ensures) ∙ c .before .before .before .before .if1 .left,
     ))
     (search needs)
     (λ c. simp (
-      sym (c .before .is4 .ensures) ∙ c .if4 .taken,
-      sym (c .before .before .before .is3 .ensures) ∙ c .before .before .if3 .left,
-      sym (c .before .before .before .before .before .is2 .ensures) ∙ c .before .before .before .before .if2 .left,
-      sym (c .before .before .before .before .before .before .before .is .ensures) ∙ c .before .before .before .before .before .before .if1 .left,
+      sym (c .before .same4 .ensures) ∙ c .if4 .taken,
+      sym (c .before .before .before .same3 .ensures) ∙ c .before .before .if3 .left,
+      sym (c .before .before .before .before .before .same2 .ensures) ∙ c .before .before .before .before .if2 .left,
+      sym (c .before .before .before .before .before .before .before .same .ensures) ∙ c .before .before .before .before .before .before .if1 .left,
     ))
     (λ c. simp (
-      sym (c .before .is4 .ensures) ∙ c .if4 .left,
-      sym (c .before .before .before .is3 .ensures) ∙ c .before .before .if3 .left,
-      sym (c .before .before .before .before .before .is2 .ensures) ∙ c .before .before .before .before .if2 .left,
-      sym (c .before .before .before .before .before .before .before .is .ensures) ∙ c .before .before .before .before .before .before .if1 .left,
+      sym (c .before .same4 .ensures) ∙ c .if4 .left,
+      sym (c .before .before .before .same3 .ensures) ∙ c .before .before .if3 .left,
+      sym (c .before .before .before .before .before .same2 .ensures) ∙ c .before .before .before .before .if2 .left,
+      sym (c .before .before .before .before .before .before .before .same .ensures) ∙ c .before .before .before .before .before .before .if1 .left,
     )))
