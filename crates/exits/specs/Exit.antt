@@ -1,5 +1,5 @@
 -- How a program ended, on the wire: RFC 4254, 6.10, exit-status or exit-signal, and CLOSE behind it.
-use mathlib.Core.Bool.{Bool, true, false, cond, _&&_, _||_}
+use mathlib.Core.Bool.{Bool, true, false, cond, not, _&&_, _||_}
 use mathlib.Core.List.{List, [], _∷_, _++_}
 use Prim.Native.Nat.{ℕ, _-_, _^_}
 use lib.Dec.{eqb, leb, ltb}
@@ -32,7 +32,7 @@ head channel name = 98 ∷ be32 channel ++ string name ++ 0 ∷ []
 
 -- behind it a signal's name, a false byte (no core was dumped), no error message and no language
 abbrev pub named : (channel : ℕ) → Signal → List ℕ
-named channel x = head channel (bytes "exit-signal") ++ string (nameOf x) ++ 0 ∷ string [] ++ string []
+named channel x = head channel (bytes "exit-signal") ++ string (nameOf x) ++ (0 ∷ string [] ++ string [])
 
 -- or the code
 unfoldable pub request : (channel : ℕ) → Status → List ℕ
@@ -55,7 +55,7 @@ requestOf channel (MaybeStatus.Some status) = request channel status
 
 unfoldable pub isUntold : MaybeStatus → Bool
 isUntold MaybeStatus.None = false
-isUntold (MaybeStatus.Some status) = cond (isTold status) false true
+isUntold (MaybeStatus.Some status) = not (isTold status)
 
 -- the request, and CLOSE directly behind it
 unfoldable pub ending : (channel : ℕ) → MaybeStatus → List ℕ

@@ -11,6 +11,7 @@ ghost use Rattle.octets.specs.Text.{bytes, same};
 ghost use Rattle.ring.specs.Runs.{copied};
 ghost use Rattle.codec.specs.Codec.{writtenAfter};
 ghost use Rattle.exits.specs.Signals.{nameOf, signalNamed};
+ghost use Rattle.exits.specs.SignalLaws.{Fit};
 ghost use Rattle.exits.specs.Exit.{
   string,
   head,
@@ -27,7 +28,9 @@ ghost use Rattle.exits.specs.Exit.{
   isMine,
   read,
 };
+
 pub mod signals;
+
 use codec::Record;
 use codec::Written;
 use exec::MaybeStatus;
@@ -103,7 +106,7 @@ fn put_code(buffer: &mut [u8], channel: u32, code: u32)
 
 // The head, the length of the signal's name, and the name.
 fn put_name(buffer: &mut [u8], channel: u32, signal: Signal)
-    requires { ⌜ (signal .length ≤ 4) × (29 ≤ length (now buffer)) ⌝ }
+    requires { ⌜ Fit signal × (29 ≤ length (now buffer)) ⌝ }
     ensures { λ _. ⌜ now (buffer .exit) ≡ (head channel (bytes "exit-signal") ++ string (nameOf signal)) ++ drop (25 + signal .length) (now (buffer .entry)) ⌝ }
 {
     let n = signal.length;
@@ -124,7 +127,7 @@ fn put_nothing(buffer: &mut [u8], at: usize)
 }
 
 fn put_signal(buffer: &mut [u8], channel: u32, signal: Signal)
-    requires { ⌜ (signal .length ≤ 4) × (38 ≤ length (now buffer)) ⌝ }
+    requires { ⌜ Fit signal × (38 ≤ length (now buffer)) ⌝ }
     ensures { λ _. ⌜ now (buffer .exit) ≡ named channel signal ++ drop (34 + signal .length) (now (buffer .entry)) ⌝ }
 {
     put_name(buffer, channel, signal);

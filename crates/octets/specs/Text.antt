@@ -11,6 +11,7 @@ use lib.Dec.{eqb}
 use lib.ListN.{length, drop, getD}
 use lib.Seq.{drop-cons, drop-length}
 use borrow.Author.Tests.{eq-eqb, eqb-true}
+use Rattle.ring.specs.Flags.{and-l, and-r}
 
 -- the bytes of a text
 unfoldable pub bytes : String → List ℕ
@@ -55,17 +56,12 @@ unfolding same
 same-refl [] = refl
 same-refl (b ∷ s) = rw (eq-eqb b b refl) (same-refl s)
 
-both : (a b : Bool) → a && b ≡ true → (a ≡ true) × (b ≡ true)
-both true b h = (refl, h)
-both false b h = absurd (false≢true h)
-
 pub same-is : (s t : List ℕ) → same s t ≡ true → s ≡ t
 unfolding same
 same-is [] [] h = refl
 same-is [] (c ∷ t) h = absurd (false≢true h)
 same-is (b ∷ s) [] h = absurd (false≢true h)
 same-is (b ∷ s) (c ∷ t) h =
-    let q = both (eqb b c) (same s t) h in
-    let e : b ≡ c = eqb-true b c (q .0) in
-    let f : s ≡ t = same-is s t (q .1) in
+    let e : b ≡ c = eqb-true b c (and-l (eqb b c) (same s t) h) in
+    let f : s ≡ t = same-is s t (and-r (eqb b c) (same s t) h) in
     cc
