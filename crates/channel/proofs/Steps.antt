@@ -8,7 +8,7 @@ use lib.Dec.{leb}
 use lib.ListN.{length, take, drop, length-append, length-take, length-drop, take-append-drop}
 use lib.Seq.{drop-drop}
 use Rattle.exec.specs.declared.Limits.{Limits}
-use Rattle.exec.specs.declared.Refusal.the-variants.{NoLimits, StoreShort, StateOutOfRange}
+use Rattle.exec.specs.declared.Refusal.the-variants.{NoLimits, StoreShort, StateOutOfRange, UntoldStatus}
 use Rattle.exec.specs.declared.Reply.{Reply}
 use Rattle.exec.specs.Limits.{isValid, poolOf}
 use Rattle.inbox.specs.Need.{byteNeed, lengthNeed}
@@ -35,8 +35,8 @@ use Rattle.codec.specs.Codec.{size}
 use Rattle.exec.specs.declared.Stream.{Stream}
 use Rattle.exec.specs.declared.Stream.the-variants.{Stdout, Stderr}
 use Rattle.exec.specs.declared.Reply.the-variants as Reply
-use Rattle.channel.specs.Calls.{outputRecord, onChannel, admitted, readAfter, heard, made, admittedRead, readRecord, writeAfter, hasEnded, sentAs, partBack, told, sent, admittedWrite, writeRecord}
-use Rattle.channel.specs.CallLaws.{admittedLimits, admittedBy, rest, Narrow, Roomy, RoomyFor, Sayable}
+use Rattle.channel.specs.Calls.{outputRecord, onChannel, admitted, readAfter, heard, made, admittedRead, readRecord, writeAfter, hasEnded, sentAs, partBack, told, asked, isLeft, unwritten, sent, room, admittedWrite, writeRecord}
+use Rattle.channel.specs.CallLaws.{admittedLimits, admittedBy, rest, Narrow, Roomy, RoomyFor, Sayable, left-kept}
 
 -- ---- what is met before a record
 
@@ -103,34 +103,34 @@ roomy-sent ended (Message.Output x n) room h = output x
 roomy-sent true (Message.End x) room h = omega arith
 roomy-sent false (Message.End x) room h = tt
 roomy-sent ended Message.InputClosed room h = tt
-roomy-sent ended (Message.Terminal outcome) room h = omega arith
+roomy-sent ended (Message.Terminal outcome) room h = h
 
--- what next_message says in the buffer's part fits the record
-module _ (r : Runner) (store buffer : List ℕ) (narrow : r .limits .chunk < 2 ^ 32) (room : 13 + r .limits .chunk ≤ length buffer) where
-  said-within : (k : ℕ) (c : Choice) → k ≤ r .limits .chunk → c ≡ choose r k → Sayable (saidFor c r) (length buffer)
-  unfolding Sayable Narrow RoomyFor saidFor sendableOf
-  said-within k Choice.None h e = tt
-  said-within k Choice.Credit h e = (tt, omega arith)
-  said-within k Choice.Started h e = (tt, tt)
-  said-within k Choice.InputClosed h e = (tt, tt)
-  said-within k (Choice.End x) h e = (tt, omega arith)
-  said-within k (Choice.Output x n) h e =
+-- what next_message says in the buffer's part fits the record, unless it is left
+module _ (r : Runner) (store buffer : List ℕ) (narrow : r .limits .chunk < 2 ^ 32) (roomy : room (r .limits) ≤ length buffer) where
+  said-within : (k : ℕ) (c : Choice) → k ≤ r .limits .chunk → c ≡ choose r k → isLeft (saidFor c r) ≡ false → Sayable (saidFor c r) (length buffer)
+  unfolding Sayable Narrow RoomyFor saidFor sendableOf isLeft
+  said-within k Choice.None h e l = tt
+  said-within k Choice.Credit h e l = (tt, omega arith)
+  said-within k Choice.Started h e l = (tt, tt)
+  said-within k Choice.InputClosed h e l = (tt, tt)
+  said-within k (Choice.End x) h e l = (tt, omega arith)
+  said-within k (Choice.Output x n) h e l =
       let m = min (min (outOf x r .queued) (r .limits .chunk)) k in
-      let l = least (r .limits .output .unit) (creditAt (poolOf (r .limits) x) (r .credits) .available) m in
+      let q = least (r .limits .output .unit) (creditAt (poolOf (r .limits) x) (r .credits) .available) m in
       let b = chosen r k x n e .bytes in
-      (omega (arith, b, l), omega (arith, b, l))
-  said-within k Choice.Terminal h e = (tt, omega arith)
+      (omega (arith, b, q), omega (arith, b, q))
+  said-within k Choice.Terminal h e l = (tt, (omega arith, l))
 
-  pub said-fits : Sayable (Calls.nextMessage r store (take (r .limits .chunk) (drop 13 buffer)) .saying .said) (length buffer)
-  unfolding Calls.nextMessage Sayable
+  pub said-fits : isLeft (asked r store buffer .saying .said) ≡ false → Sayable (asked r store buffer .saying .said) (length buffer)
+  unfolding asked Calls.nextMessage Sayable
   said-fits = at (stop r (bytesDo (r .limits) store))
     where
-      k : ℕ
-      k = length (take (r .limits .chunk) (drop 13 buffer))
+      part : List ℕ
+      part = take (r .limits .chunk) (drop 13 buffer)
 
-      at : (x : Reply) → Sayable (messageBy x r store (take (r .limits .chunk) (drop 13 buffer)) .saying .said) (length buffer)
-      at Reply.Ok = said-within k (choose r k) (simp (length-take, length-drop) (omega arith)) refl
-      at (Reply.Refused x) = tt
+      at : (x : Reply) → isLeft (messageBy x r store part .saying .said) ≡ false → Sayable (messageBy x r store part .saying .said) (length buffer)
+      at Reply.Ok l = said-within (length part) (choose r (length part)) (simp (length-take, length-drop) (omega arith)) refl l
+      at (Reply.Refused x) l = tt
 
 -- a part that comes back as long as it was lent leaves the buffer's length
 part-kept : (b part : List ℕ) (k : ℕ) → length part ≡ length (take k (drop 13 b)) → length (take 13 b ++ (part ++ drop k (drop 13 b))) ≡ length b
@@ -142,21 +142,37 @@ part-kept b part k h =
     ∙ sym (length-append (take 13 b) (drop 13 b))
     ∙ ap length (take-append-drop 13 b)
 
-pub told-fits : (r : Runner) (store b : List ℕ) (k : ℕ) (x : Saying) (part : List ℕ) → r .limits .chunk < 2 ^ 32 → 13 + r .limits .chunk ≤ length b
-    → k ≡ r .limits .chunk → messageAfter x part ≡ Calls.nextMessage r store (take k (drop 13 b)) → length part ≡ length (take k (drop 13 b))
-    → Sayable (x .said) (length (take 13 b ++ (part ++ drop k (drop 13 b))))
-told-fits r store b k x part narrow room e m kept =
-    let m₁ : messageAfter x part ≡ Calls.nextMessage r store (take (r .limits .chunk) (drop 13 b)) = rw e at m in
-    rw (part-kept b part k kept, ap (λ (y : MessageAfter). y .saying .said) m₁) (said-fits r store b narrow room)
+-- what next_message said in that part
+module _ (r : Runner) (channel : ℕ) (store b : List ℕ) (k : ℕ) (x : Saying) (part : List ℕ) (chunk : k ≡ r .limits .chunk)
+    (said : messageAfter x part ≡ Calls.nextMessage r store (take k (drop 13 b))) where
+  as-asked : messageAfter x part ≡ asked r store b
+  unfolding asked
+  as-asked = rw chunk at said
 
--- the buffer with its part as next_message left it, and what is told of the message
-pub sent-told : (r : Runner) (channel : ℕ) (store b : List ℕ) (k : ℕ) (x : Saying) (part : List ℕ) (ended : Bool) (w : Writing) (after : List ℕ)
-    → k ≡ r .limits .chunk → ended ≡ hasEnded r → messageAfter x part ≡ Calls.nextMessage r store (take k (drop 13 b))
-    → writeAfter w after ≡ told x ended channel (take 13 b ++ (part ++ drop k (drop 13 b))) → writeAfter w after ≡ sent r channel store b
-unfolding sent
-sent-told r channel store b k x part ended w after e₁ e₂ m t =
-    let m₁ : messageAfter x part ≡ Calls.nextMessage r store (take (r .limits .chunk) (drop 13 b)) = rw e₁ at m in
-    let t₁ : writeAfter w after ≡ told x (hasEnded r) channel (take 13 b ++ (part ++ drop (r .limits .chunk) (drop 13 b))) = rw (e₁, e₂) at t in
-    t₁
-    ∙ ap (λ (y : List ℕ). told x (hasEnded r) channel (take 13 b ++ (part ++ y))) (drop-drop (r .limits .chunk) 13 b)
-    ∙ ap (λ (y : MessageAfter). told (y .saying) (hasEnded r) channel (partBack (r .limits .chunk) b (y .buffer))) m₁
+  left-as : (left : Bool) → isLeft (x .said) ≡ left → isLeft (asked r store b .saying .said) ≡ left
+  left-as left e = sym (ap (λ (y : MessageAfter). isLeft (y .saying .said)) as-asked) ∙ e
+
+  -- the buffer with its part as next_message left it
+  part-as : take 13 b ++ (part ++ drop k (drop 13 b)) ≡ partBack (r .limits .chunk) b (asked r store b .buffer)
+  part-as =
+      ap (λ (n : ℕ). take 13 b ++ (part ++ drop n (drop 13 b))) chunk
+      ∙ ap (λ (y : List ℕ). take 13 b ++ (part ++ y)) (drop-drop (r .limits .chunk) 13 b)
+      ∙ ap (λ (y : MessageAfter). partBack (r .limits .chunk) b (y .buffer)) as-asked
+
+  pub told-fits : r .limits .chunk < 2 ^ 32 → room (r .limits) ≤ length b → length part ≡ length (take k (drop 13 b)) → isLeft (x .said) ≡ false
+      → Sayable (x .said) (length (take 13 b ++ (part ++ drop k (drop 13 b))))
+  told-fits narrow roomy kept e =
+      rw (part-kept b part k kept, ap (λ (y : MessageAfter). y .saying .said) as-asked) (said-fits r store b narrow roomy (left-as false e))
+
+  -- a message that is left, and one that is told
+  pub sent-left : isLeft (x .said) ≡ true → writeAfter (unwritten UntoldStatus r) (take 13 b ++ (part ++ drop k (drop 13 b))) ≡ sent r channel store b
+  unfolding sent
+  sent-left e = rw (left-as true e, part-as) (ap (writeAfter (unwritten UntoldStatus r)) (left-kept r store b (left-as true e)))
+
+  pub sent-told : (ended : Bool) (w : Writing) (after : List ℕ) → ended ≡ hasEnded r → isLeft (x .said) ≡ false
+      → writeAfter w after ≡ told x ended channel (take 13 b ++ (part ++ drop k (drop 13 b))) → writeAfter w after ≡ sent r channel store b
+  unfolding sent
+  sent-told ended w after h e t =
+      rw (left-as false e)
+      (rw (h, part-as) at t
+      ∙ ap (λ (y : MessageAfter). told (y .saying) (hasEnded r) channel (partBack (r .limits .chunk) b (asked r store b .buffer))) as-asked)

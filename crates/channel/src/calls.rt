@@ -23,16 +23,21 @@ ghost use Rattle.channel.specs.Calls.{
   wrote,
   wroteBuffer,
   told,
+  isLeftMessage,
+  isLeft,
   sent,
+  room,
   roomyWrite,
   admittedWrite,
   writeRecord,
 };
-ghost use Rattle.channel.specs.CallLaws.{admittedLimits, admittedBy, Whole, Narrow, Sayable, Roomy};
+ghost use Rattle.channel.specs.CallLaws.{admittedLimits, admittedBy, Whole, Narrow, Sayable, Roomy, count};
 ghost use Rattle.codec.specs.Codec.{start};
 use codec::Parsed;
 use codec::Record;
+use codec::Written;
 use exec::Limits;
+use exec::MaybeStatus;
 use exec::Pool;
 use exec::Receipt;
 use exec::Received;
@@ -64,7 +69,8 @@ pub struct Reading {
 }
 
 // The next record, if a message waits: the message, and how many bytes of the buffer its record has. A message that is not
-// told on a channel has none.
+// told on a channel has none. Of a Terminal they are two records: the last 5 bytes are CLOSE, and what stands before them is
+// the request that tells how the workload ended, if its status is known.
 pub enum Wrote {
     None,
     Message(Message, usize),
@@ -257,8 +263,8 @@ fn noted_as(reply: Reply) -> Answer
 
 // ---- a record written
 
-// Takes the next message, and leaves its record for the channel at the buffer's start. A buffer below chunk + 13 bytes is
-// refused before a message is taken.
+// Takes the next message, and leaves its record for the channel at the buffer's start. A buffer below chunk + 13 bytes, or
+// below 43, is refused before a message is taken; so is a Terminal whose status no request tells, which next_message still gives.
 pub fn write_record(runner: Runner, channel: u32, store: &[u8], buffer: &mut [u8]) -> Writing
     ensures { λ r. ⌜ writeAfter r (now (buffer .exit)) ≡ writeRecord runner channel (now (store .entry)) (now (buffer .entry)) ⌝ }
 {
@@ -290,8 +296,7 @@ fn write_in(runner: Runner, channel: u32, store: &[u8], buffer: &mut [u8]) -> Wr
     ensures { λ r. ⌜ writeAfter r (now (buffer .exit)) ≡ roomyWrite runner channel (now (store .entry)) (now (buffer .entry)) ⌝ }
 {
     let limits = runner.limits;
-    let chunk = limits.chunk as usize;
-    if 13 + chunk <= buffer.len() {
+    if room(limits) <= buffer.len() {
         return send(runner, channel, store, buffer);
     }
     Writing {
@@ -300,16 +305,61 @@ fn write_in(runner: Runner, channel: u32, store: &[u8], buffer: &mut [u8]) -> Wr
     }
 }
 
-// The message is asked for in the buffer's part from byte 13, exactly chunk long, so that either header fits before it.
+// How many bytes a buffer must have: the longest Output and the longest Terminal fit it.
+fn room(limits: Limits) -> usize
+    ensures { λ r. ⌜ r ≡ room limits ⌝ }
+{
+    let chunk = limits.chunk as usize;
+    if chunk + 13 < 43 {
+        return 43;
+    }
+    chunk + 13
+}
+
+// The message is asked for in the buffer's part from byte 13, exactly chunk long, so that either header fits before it. Where
+// it is left, the runner is handed back as it was given.
 fn send(runner: Runner, channel: u32, store: &[u8], buffer: &mut [u8]) -> Writing
-    requires { ⌜ 13 + runner .limits .chunk ≤ length (now buffer) ⌝ }
+    requires { ⌜ room (runner .limits) ≤ length (now buffer) ⌝ }
     ensures { λ r. ⌜ writeAfter r (now (buffer .exit)) ≡ sent runner channel (now (store .entry)) (now (buffer .entry)) ⌝ }
 {
     let limits = runner.limits;
     let ended = has_ended(runner);
     let end = 13 + limits.chunk as usize;
     let saying = runner.next_message(store, &mut buffer[13..end]);
+    let said = saying.said;
+    if is_left(said) {
+        return Writing {
+            runner,
+            wrote: Wrote::Refused(Refusal::UntoldStatus),
+        };
+    }
     tell(saying, ended, channel, buffer)
+}
+
+fn is_left(said: Said) -> bool
+    ensures { λ r. ⌜ r ≡ isLeft said ⌝ }
+{
+    match said {
+        Said::None => false,
+        Said::Message(message) => is_left_message(message),
+        Said::Refused(_) => false,
+    }
+}
+
+fn is_left_message(message: Message) -> bool
+    ensures { λ r. ⌜ r ≡ isLeftMessage message ⌝ }
+{
+    match message {
+        Message::Credit(_) => false,
+        Message::Started => false,
+        Message::Output(_, _) => false,
+        Message::End(_) => false,
+        Message::InputClosed => false,
+        Message::Terminal(outcome) => {
+            let status = outcome.status;
+            exits::is_untold(status)
+        }
+    }
 }
 
 // Whether an End has come.
@@ -333,14 +383,14 @@ fn tell(saying: Saying, ended: bool, channel: u32, buffer: &mut [u8]) -> Writing
 
 fn tell_said(said: Said, ended: bool, channel: u32, buffer: &mut [u8]) -> Wrote
     requires { ⌜ Sayable said (length (now buffer)) ⌝ }
-    ensures { λ r. ⌜ (r ≡ wrote ended said) × (now (buffer .exit) ≡ wroteBuffer channel ended said (now (buffer .entry))) ⌝ }
+    ensures { λ r. ⌜ (r ≡ wrote channel ended said) × (now (buffer .exit) ≡ wroteBuffer channel ended said (now (buffer .entry))) ⌝ }
 {
     match said {
         Said::None => Wrote::None,
         Said::Message(message) => {
             let out = sent_as(ended, message);
-            lay_out(out, channel, buffer);
-            Wrote::Message(message, out.length())
+            let n = lay_out(out, channel, buffer);
+            Wrote::Message(message, n)
         }
         Said::Refused(refusal) => Wrote::Refused(refusal),
     }
@@ -365,7 +415,10 @@ fn sent_as(ended: bool, message: Message) -> Sending
             Sending::Nothing // the other stream goes on
         }
         Message::InputClosed => Sending::Nothing,
-        Message::Terminal(_) => Sending::Record(Record::Close),
+        Message::Terminal(outcome) => {
+            let status = outcome.status;
+            Sending::Ending(status)
+        }
     }
 }
 
@@ -378,24 +431,23 @@ fn output_record(stream: Stream, n: u32) -> Record
     }
 }
 
-impl Sending {
-    // How many bytes of the buffer it has.
-    fn length(self) -> usize
-        ensures { λ r. ⌜ r ≡ lengthOf self ⌝ }
-    {
-        match self {
-            Sending::Nothing => 0,
-            Sending::Record(rec) => rec.whole(),
-        }
+// Lays what is sent at the buffer's start, and returns how many bytes of it that has.
+fn lay_out(out: Sending, channel: u32, buffer: &mut [u8]) -> usize
+    requires { ⌜ Roomy out (length (now buffer)) ⌝ }
+    ensures { λ r. ⌜ (r ≡ lengthOf channel out) × (now (buffer .exit) ≡ sentBuffer channel out (now (buffer .entry))) ⌝ }
+{
+    match out {
+        Sending::Nothing => 0,
+        Sending::Record(rec) => count(codec::lay(channel, rec, buffer)),
+        Sending::Ending(status) => count(exits::close(channel, status, buffer)),
     }
 }
 
-fn lay_out(out: Sending, channel: u32, buffer: &mut [u8])
-    requires { ⌜ Roomy out (length (now buffer)) ⌝ }
-    ensures { λ _. ⌜ now (buffer .exit) ≡ sentBuffer channel out (now (buffer .entry)) ⌝ }
+fn count(written: Written) -> usize
+    ensures { λ r. ⌜ r ≡ count written ⌝ }
 {
-    match out {
-        Sending::Nothing => {}
-        Sending::Record(rec) => codec::lay(channel, rec, buffer),
+    match written {
+        Written::Bytes(n) => n,
+        Written::Refused(_) => 0,
     }
 }

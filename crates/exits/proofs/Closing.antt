@@ -10,18 +10,14 @@ use Rattle.exec.specs.declared.MaybeStatus.{MaybeStatus}
 use Rattle.codec.specs.declared.Record.the-variants.{Close}
 use Rattle.codec.specs.declared.Written.{Written}
 use Rattle.codec.specs.declared.Written.the-variants as Written
-use Rattle.codec.specs.Codec.{bytesOf, header, WrittenAfter, writtenAfter, write}
+use Rattle.codec.specs.Codec.{bytesOf, WrittenAfter, writtenAfter, write}
 use Rattle.exits.specs.Exit.{requestOf, ending, closed}
+use Rattle.exits.specs.ExitLaws.{ending-length}
 
 close-written : (channel : ℕ) (t : List ℕ) → 5 ≤ length t
     → write channel Close [] t ≡ writtenAfter (Written.Bytes 5) (bytesOf channel Close [] ++ drop 5 t)
 unfolding write
 close-written channel t h = simp (le-leb 5 (length t) h)
-
--- the end of a channel has 5 bytes more than the request
-ending-length : (channel : ℕ) (status : MaybeStatus) → length (requestOf channel status) + 5 ≡ length (ending channel status)
-unfolding ending bytesOf header
-ending-length channel status = sym (length-append (requestOf channel status) (bytesOf channel Close []))
 
 pub close-laid : (channel : ℕ) (status : MaybeStatus) (d b : List ℕ) (n : ℕ) (w : Written) (p : List ℕ) → 43 ≤ length d
     → (n ≡ length (requestOf channel status)) × (n ≤ 38) → b ≡ requestOf channel status ++ drop (length (requestOf channel status)) d

@@ -1,3 +1,4 @@
+-- `channel::calls::sent_as` meets its contract: one way a message.
 use Prim.Native.Nat.{_^_, _<_}
 use native.Mathlib.Omega.{arith}
 use Rattle.channel.specs.CallLaws.{narrow}
@@ -54,9 +55,7 @@ returns-6 c =
 
 returns-7 : tie.Need-returns-7
 unfolding sentAs
-returns-7 c =
-    simp
-    (c .enum-told4 .given .1)
+returns-7 c = simp (c .before .message3 .given .1)
 
 pub sent-as-spec : {M : Type 1} → statement M
 sent-as-spec =

@@ -1,3 +1,4 @@
+-- `channel::calls::tell_said` meets its contract.
 use Rattle.channel.specs.Calls.{wrote, wroteBuffer}
 use Rattle.channel.specs.CallLaws.{Sayable}
 use Rattle.channel.proofs.Steps.{roomy-sent}
@@ -20,8 +21,8 @@ returns c = (simp (c .enum-told .given .1), simp (c .enum-told .given .1))
 returns-2 : tie.Need-returns-2
 unfolding wrote wroteBuffer
 returns-2 c = (
-  simp (c .before .before .before .before .before .before .before .said .given .1, c .length .ensures, c .before .before .before .before .before .sent-as .ensures),
-  simp (c .before .before .before .before .before .before .before .said .given .1, c .before .before .before .lay-out .ensures, c .before .before .before .before .before .sent-as .ensures),
+  simp (c .before .before .before .before .before .before .said .given .1, c .before .before .lay-out .ensures .0, c .before .before .before .before .sent-as .ensures),
+  simp (c .before .before .before .before .before .before .said .given .1, c .before .before .lay-out .ensures .1, c .before .before .before .before .sent-as .ensures),
 )
 
 returns-3 : tie.Need-returns-3
@@ -29,16 +30,4 @@ unfolding wrote wroteBuffer
 returns-3 c = (simp (c .before .said2 .given .1), simp (c .before .said2 .given .1))
 
 pub tell-said-spec : {M : Type 1} → statement M
-tell-said-spec =
-    tie.close
-    (tie.spec
-    (search needs)
-    (search needs)
-    sent-as-requires
-    lay-out-requires
-    (search needs)
-    (search needs)
-    returns
-    (search needs)
-    returns-2
-    returns-3)
+tell-said-spec = tie.close (tie.spec (search needs) (search needs) sent-as-requires lay-out-requires (search needs) returns (search needs) returns-2 returns-3)
