@@ -47,8 +47,9 @@ use Rattle.account.proofs.Plain.{next, answer, afterAll, run, begun}
 use Rattle.account.proofs.Stages.{launchedIf}
 use Rattle.account.proofs.Sides.{on-out, one-per}
 use Rattle.account.proofs.Keeps.{All, add-keeps}
-use Rattle.account.proofs.Finish.{Ends, ends, ends-fin, ends-answer, no-more, fin-stays, finished-none, chosen-ready}
-use Rattle.account.proofs.Lists.{Course, running, over, open-course, plainOf, ready-delivered}
+use Rattle.account.proofs.Finish.{Ends, ends, ends-fin, ends-answer, no-more, fin-stays, finished-none}
+use Rattle.account.proofs.Lists.{Course, running, over, open-course, plainOf}
+use Rattle.account.proofs.Still.{chosen-ready, ready-delivered}
 use Rattle.account.proofs.Range.{lent}
 use Rattle.account.proofs.Demand.{opens-by, same-run, same-answer, same-account as plain-account}
 use Rattle.account.proofs.Records.{same-dones, calls-append, good-open, same-account, at-terminal, whole}
