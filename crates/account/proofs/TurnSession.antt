@@ -2,11 +2,11 @@
 -- that reports both streams untruncated. So what `Turn` asks can be met, and what it says is not empty. The first is of calls; its
 -- runner and stores are those of the session of 01's card. The second is of a channel: credit comes in a record read, and every
 -- message goes out in a record written.
-use mathlib.Core.Bool.{true, false}
+use mathlib.Core.Bool.{true, false, true≢false}
 use mathlib.Core.Path.{_≡_, refl, sym, ap, _∙_}
 use mathlib.Core.List.{List, [], _∷_, _++_, map}
 use mathlib.Core.Option.{some}
-use Prim.Native.Nat.{ℕ, _≤_}
+use Prim.Native.Nat.{ℕ, zero, suc, _≤_}
 use native.Mathlib.Omega.{arith}
 use borrow.Author.Tests.{le-leb}
 use lib.IntN.{pos}
@@ -34,18 +34,20 @@ use Rattle.runner.specs.Range.{fresh}
 use Rattle.runner.specs.Streams.{outputTaken, outputNext, outputStore, creditIn, creditAnswer, creditNext, closedNext}
 use Rattle.octets.specs.Bytes.{be32At, numberAt}
 use Rattle.codec.specs.Codec.{kinded, fitting, checked, read}
+use Rattle.exits.specs.Exit.{isTold, isUntold}
 use Rattle.account.specs.Account.{Tally, timeoutR, giveUpA, abandonA, tickA, exitR, exitA, adds, add, start, tallyOf}
 use Rattle.calls.specs.Call as Call
 use Rattle.calls.specs.Call.{Conf, Call, Answer}
-use Rattle.account.specs.Claim.{Opens, isTerminal}
-use Rattle.account.specs.Records.{Entry, EntryDone, call, readRecord, writeRecord, nextEntry, answerEntry, afterEntries, runEntries, callOf, made, callsOf, donesOf}
+use Rattle.account.specs.Claim.{Opens, isTerminal, anyTerminal}
+use Rattle.account.specs.Records.{Entry, EntryDone, call, readRecord, writeRecord, nextEntry, answerEntry, afterEntries, runEntries, callOf, made}
 use Rattle.account.specs.Step as Step
 use Rattle.account.specs.Step.{State}
 use Rattle.account.specs.TurnClaim.{Has, closing, answerAfter, carried, takenIn, sentIn}
+use Rattle.account.proofs.Flags.{or-false-l, or-false-r}
 use Rattle.account.proofs.Plain.{said, next, answer, begun, afterAll, run}
 use Rattle.account.proofs.Lists.{plainOf}
 use Rattle.account.proofs.Demand.{same-run, same-answer, same-account as plain-account}
-use Rattle.account.proofs.Records.{does, same-dones, made-answer, good-open, good-at, to-calls, same-account}
+use Rattle.account.proofs.Records.{Does, Good, does, made-so, made-answer, good-open, good-entry, good-at, same-account}
 use Rattle.account.proofs.Session.{conf, message, answersOf, open-ok, named-four}
 use Rattle.account.proofs.Told.{tallied, taken-told}
 use Rattle.account.proofs.Turn.{turn}
@@ -143,9 +145,13 @@ channel = record {
   timers = record { timeout = MaybeDuration.None; grace = 10; settlement = 5 };
 }
 
--- a record into chunk + 13 bytes, for channel 1
+-- a record into 43 bytes, for channel 1
+abbrev zeros : ℕ → List ℕ
+zeros zero = []
+zeros (suc n) = 0 ∷ zeros n
+
 abbrev pub written : Entry
-written = writeRecord 1 (0 ∷ 0 ∷ 0 ∷ 0 ∷ 0 ∷ 0 ∷ 0 ∷ 0 ∷ 0 ∷ 0 ∷ 0 ∷ 0 ∷ 0 ∷ 0 ∷ 0 ∷ 0 ∷ 0 ∷ [])
+written = writeRecord 1 (zeros 43)
 
 -- WINDOW_ADJUST of 8 bytes, for channel 1
 abbrev pub adjust : Entry
@@ -216,23 +222,31 @@ channel-calls = Call.launched LaunchResult.Started
     ∷ next-one
     ∷ []
 
-written-makes : made channel written ≡ some next-one
-unfolding made
-written-makes = refl
+-- made unless a Terminal is left
+abbrev AllAsk : Conf → List Entry → List Call → Type 0
+AllAsk conf [] [] = Unit
+AllAsk conf [] (c ∷ cs) = ⊥
+AllAsk conf (e ∷ es) [] = ⊥
+AllAsk conf (e ∷ es) (c ∷ cs) = (made conf e Call.Ok ≡ some c) × AllAsk conf es cs
 
-records-make : callsOf channel records ≡ channel-calls
+written-asks : made channel written Call.Ok ≡ some next-one
+unfolding made
+written-asks = refl
+
+records-ask : AllAsk channel records channel-calls
 unfolding made callOf read kinded checked fitting numberAt be32At
-records-make = refl
+records-ask = (refl, (refl, (refl, (refl, (refl, (refl, (refl, (refl, (refl, (refl, (refl, (refl, (refl, (refl, (refl, (refl, (refl, tt)))))))))))))))))
 
 abbrev ChannelComes : (bytes lengths : List ℕ) → Type 0
 ChannelComes bytes lengths =
     (answersOf (run (begun channel 0 bytes lengths) channel-calls) ≡ answered)
     × (answer (afterAll (begun channel 0 bytes lengths) channel-calls) next-one ≡ Call.Says (Call.Terminal complete))
+    × (anyTerminal (run (begun channel 0 bytes lengths) channel-calls) ≡ false)
 
 -- only the first eight bytes of the store are written
 channel-computed : (a0 a1 a2 a3 a4 a5 a6 a7 : ℕ) (rest lengths : List ℕ) → ChannelComes (a0 ∷ a1 ∷ a2 ∷ a3 ∷ a4 ∷ a5 ∷ a6 ∷ a7 ∷ rest) lengths
 unfolding next answer said admits cost wrap ringRead ringFrom ringWrite copied ifElse closeRunnerInput passGrace passTimeout passSettlement passGiveUp passAbandonment fire ticked noteStarted noteLaunch launchedNext noteExit noteExitOnce exitedNext settledNext isReady outcomeOf sendableOf order choose outputPaid outputSent effect payload fresh outputTaken outputNext outputStore creditIn creditAnswer creditNext closedNext
-channel-computed a0 a1 a2 a3 a4 a5 a6 a7 rest lengths = (refl, refl)
+channel-computed a0 a1 a2 a3 a4 a5 a6 a7 rest lengths = (refl, refl, refl)
 
 named-eight : (P : List ℕ → Type 0) → ((a0 a1 a2 a3 a4 a5 a6 a7 : ℕ) (rest : List ℕ) → P (a0 ∷ a1 ∷ a2 ∷ a3 ∷ a4 ∷ a5 ∷ a6 ∷ a7 ∷ rest))
     → (bytes : List ℕ) → 16 ≤ length bytes → P bytes
@@ -262,32 +276,53 @@ by-answers : (x : Stream) (ds : List EntryDone) → sentIn x ds ≡ carriedAll x
 by-answers x [] = refl
 by-answers x (d ∷ ds) = ap (λ (b : List ℕ). carried x (d .answer) ++ b) (by-answers x ds)
 
--- each of them makes a call, so none of the answers is left out
-each-makes : (s : State) → answersIn (runEntries s records) ≡ answersOf (donesOf channel (runEntries s records))
-unfolding made callOf read kinded checked fitting numberAt be32At
-each-makes s = refl
+-- where no Terminal comes, entries are answered as the calls that they ask for, and leave what those leave
+pub all-made : (conf : Conf) (es : List Entry) (cs : List Call) (s : State) → Good conf s → AllAsk conf es cs → anyTerminal (Step.run s cs) ≡ false
+    → (answersIn (runEntries s es) ≡ answersOf (Step.run s cs)) × (afterEntries s es ≡ Step.after s cs)
+unfolding Does
+all-made conf [] [] s g k h = (refl, refl)
+all-made conf [] (c ∷ cs) s g k h = absurd k
+all-made conf (e ∷ es) [] s g k h = absurd k
+all-made conf (e ∷ es) (c ∷ cs) s g k h =
+    let first = or-false-l (isTerminal (Step.answer s c)) (anyTerminal (Step.run (Step.next s c) cs)) h in
+    let rest = or-false-r (isTerminal (Step.answer s c)) (anyTerminal (Step.run (Step.next s c) cs)) h in
+    let m = made-so conf e c s g (k .0) (λ o d. absurd (true≢false (sym (ap isTerminal d) ∙ first))) in
+    let d : Does e (some c) s (nextEntry s e) (answerEntry s e) = rw m at (does conf e s g) in
+    let p = all-made conf es cs (nextEntry s e) (good-entry conf e s g) (k .1) (rw (d .0) rest) in (
+      rw (d .1, p .0, d .0) refl,
+      p .1 ∙ ap (λ (t : State). Step.after t cs) (d .0),
+    )
 
 module _ (bytes lengths : List ℕ) (h : 16 ≤ length bytes) where
   pub channel-opens : Opens channel 0 bytes lengths
   unfolding Calls.«open» bytesWith
   channel-opens = rw (le-leb 16 (length bytes) h, le-leb 0 (length lengths) (omega arith)) refl
 
+  abbrev begins : State
+  begins = Step.opened channel 0 bytes lengths
+
+  records-made : (answersIn (runEntries begins records) ≡ answersOf (Step.run begins channel-calls)) × (afterEntries begins records ≡ Step.after begins channel-calls)
+  records-made =
+      all-made channel records channel-calls begins (good-open channel 0 bytes lengths channel-opens) records-ask
+      (ap anyTerminal (same-run channel 0 bytes lengths channel-opens channel-calls) ∙ channel-plain bytes lengths h .2)
+
   -- the calls and records are answered so
-  pub channel-answers : answersIn (runEntries (Step.opened channel 0 bytes lengths) records) ≡ answered
-  channel-answers =
-      each-makes (Step.opened channel 0 bytes lengths)
-      ∙ ap answersOf (same-dones channel records (Step.opened channel 0 bytes lengths) (good-open channel 0 bytes lengths channel-opens)
-      ∙ ap (Step.run (Step.opened channel 0 bytes lengths)) records-make ∙ same-run channel 0 bytes lengths channel-opens channel-calls)
-      ∙ channel-plain bytes lengths h .0
+  pub channel-answers : answersIn (runEntries begins records) ≡ answered
+  channel-answers = records-made .0 ∙ ap answersOf (same-run channel 0 bytes lengths channel-opens channel-calls) ∙ channel-plain bytes lengths h .0
 
   -- then Terminal goes out, and reports both streams untruncated
   pub channel-terminal : answerAfter channel 0 bytes lengths records written ≡ Call.Says (Call.Terminal complete)
+  unfolding isUntold isTold
   channel-terminal =
-      let s : State = afterEntries (Step.opened channel 0 bytes lengths) records in
-      made-answer (made channel written) next-one s (nextEntry s written) (answerEntry s written) written-makes (does channel written s (good-at channel 0 bytes lengths channel-opens records))
-      ∙ ap (λ (t : State). Step.answer t next-one) (to-calls channel 0 bytes lengths channel-opens records ∙ ap (Step.after (Step.opened channel 0 bytes lengths)) records-make)
-      ∙ same-answer channel 0 bytes lengths channel-opens channel-calls next-one
-      ∙ channel-plain bytes lengths h .1
+      let s : State = afterEntries begins records in
+      let g = good-at channel 0 bytes lengths channel-opens records in
+      let says : Step.answer s next-one ≡ Call.Says (Call.Terminal complete) =
+      ap (λ (t : State). Step.answer t next-one) (records-made .1) ∙ same-answer channel 0 bytes lengths channel-opens channel-calls next-one ∙ channel-plain bytes lengths h .1 in
+      let status : (o : Outcome) → Step.answer s next-one ≡ Call.Says (Call.Terminal o) → isUntold (o .status) ≡ false =
+      λ o e. let same : o ≡ complete = cc in ap (λ (o : Outcome). isUntold (o .status)) same in
+      made-answer written (made channel written (answerEntry s written)) next-one s (nextEntry s written) (answerEntry s written)
+      (made-so channel written next-one s g written-asks status) (does channel written s g)
+      ∙ says
 
   -- these bytes were sent of each stream, in the records that carry them
   pub channel-sent : (sentIn Stdout (runEntries (Step.opened channel 0 bytes lengths) records) ≡ 97 ∷ 98 ∷ 99 ∷ 100 ∷ 101 ∷ [])
