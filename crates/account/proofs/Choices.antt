@@ -1,7 +1,6 @@
 -- What a choice of message may be.
 use mathlib.Core.Bool.{Bool, true, false}
 use Prim.Native.Nat.{ℕ, _≤_}
-use Rattle.exec.specs.declared.Stream.{Stream}
 use Rattle.choice.specs.declared.Choice.{Choice}
 use Rattle.choice.specs.declared.Choice.the-variants as Choice
 use Rattle.runner.specs.declared.runner.Runner.{Runner}

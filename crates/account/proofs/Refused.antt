@@ -2,11 +2,10 @@
 -- and cancel refuse, and only these answer Stale; of the records' own refusals `Records` tells.
 use mathlib.Core.Bool.{Bool, true, false, cond, not, _&&_, _||_, false≢true}
 use mathlib.Core.Path.{_≡_, refl, sym, ap, _∙_, subst}
-use mathlib.Core.List.{List, [], _∷_}
+use mathlib.Core.List.{List, []}
 use mathlib.Core.Option.{Option, none, some}
-use Prim.Native.Nat.{ℕ, _+_}
-use native.Mathlib.Omega.{arith}
-use lib.Dec.{leb, ltb, eqb}
+use Prim.Native.Nat.{ℕ}
+use lib.Dec.{ltb, eqb}
 use lib.ListN.{length, take, drop}
 use Rattle.exec.specs.declared.Admission.{Admission}
 use Rattle.exec.specs.declared.Admission.the-variants as Admission
@@ -25,7 +24,7 @@ use Rattle.exec.specs.declared.Refusal.the-variants as Refusal
 use Rattle.exec.specs.declared.Reply.{Reply}
 use Rattle.exec.specs.declared.Reply.the-variants as Reply
 use Rattle.exec.specs.Key.{admits}
-use Rattle.exec.specs.Limits.{cost, isValid, offChunk, outputPool}
+use Rattle.exec.specs.Limits.{isValid, outputPool}
 use Rattle.exec.specs.Refusal.{number}
 use Rattle.credit.specs.declared.sender.Credit.{Credit}
 use Rattle.credit.specs.Sender.{grantable, grant}

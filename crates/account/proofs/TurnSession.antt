@@ -1,8 +1,8 @@
 -- Two sessions in which the turn is taken, computed from the definitions: no cancel, rows over the end of the ring, and a Terminal
 -- that reports both streams untruncated. So what `Turn` asks can be met, and what it says is not empty. The first is of calls; its
 -- runner and stores are those of the session of 01's card. The second is of a channel: credit comes in a record read, and every
--- message goes out in a record written.
-use mathlib.Core.Bool.{true, false, true≢false}
+-- message goes out in a record written, Terminal's with its status.
+use mathlib.Core.Bool.{Bool, true, false, true≢false, false≢true}
 use mathlib.Core.Path.{_≡_, refl, sym, ap, _∙_}
 use mathlib.Core.List.{List, [], _∷_, _++_, map}
 use mathlib.Core.Option.{some}
@@ -10,7 +10,7 @@ use Prim.Native.Nat.{ℕ, zero, suc, _≤_}
 use native.Mathlib.Omega.{arith}
 use borrow.Author.Tests.{le-leb}
 use lib.IntN.{pos}
-use lib.ListN.{length}
+use lib.ListN.{length, take}
 use Rattle.exec.specs.declared.LaunchResult.the-variants as LaunchResult
 use Rattle.exec.specs.declared.MaybeCause.the-variants as MaybeCause
 use Rattle.exec.specs.declared.MaybeDuration.the-variants as MaybeDuration
@@ -18,6 +18,7 @@ use Rattle.exec.specs.declared.MaybeLaunchFailure.the-variants as MaybeLaunchFa
 use Rattle.exec.specs.declared.MaybeStatus.the-variants as MaybeStatus
 use Rattle.exec.specs.declared.Outcome.{Outcome}
 use Rattle.exec.specs.declared.Pool.the-variants as Pool
+use Rattle.exec.specs.declared.Reply.the-variants as Reply
 use Rattle.exec.specs.declared.Settlement.the-variants as Settlement
 use Rattle.exec.specs.declared.Status.the-variants as Status
 use Rattle.exec.specs.declared.Stream.{Stream}
@@ -26,15 +27,21 @@ use Rattle.exec.specs.Key.{admits}
 use Rattle.exec.specs.Limits.{cost, bytesWith, bytesWindow, limitsFor}
 use Rattle.ring.specs.Ring.{wrap, ringRead, ringFrom, ringWrite}
 use Rattle.ring.specs.Runs.{copied}
+use Rattle.runner.specs.declared.answer.Message.the-variants as Message
 use Rattle.runner.specs.Calls as Calls
+use Rattle.choice.specs.declared.Choice.the-variants as Choice
 use Rattle.choice.specs.Order.{ifElse, order}
 use Rattle.runner.specs.Life.{closeRunnerInput, passGrace, passTimeout, passSettlement, passGiveUp, passAbandonment, fire, ticked, noteStarted, noteLaunch, launchedNext, noteExit, noteExitOnce, exitedNext, settledNext, isReady, outcomeOf}
-use Rattle.runner.specs.Message.{sendableOf, choose, outputPaid, outputSent, effect, payload}
-use Rattle.runner.specs.Range.{fresh}
+use Rattle.runner.specs.Message.{sendableOf, choose, outputPaid, outputSent, effect, payload, saidFor, bufferAfter}
+use Rattle.runner.specs.Range.{bytesDo, stop, fresh}
 use Rattle.runner.specs.Streams.{outputTaken, outputNext, outputStore, creditIn, creditAnswer, creditNext, closedNext}
 use Rattle.octets.specs.Bytes.{be32At, numberAt}
-use Rattle.codec.specs.Codec.{kinded, fitting, checked, read}
-use Rattle.exits.specs.Exit.{isTold, isUntold}
+use Rattle.octets.specs.Text as Text
+use Rattle.codec.specs.Codec.{header, bytesOf, kinded, fitting, checked, read}
+use Rattle.channel.specs.declared.calls.Wrote.the-variants as Wrote
+use Rattle.channel.specs.Calls as Channel
+use Rattle.channel.specs.Calls.{WriteAfter, asked, told, wrote, wroteBuffer, sentAs, sentBuffer}
+use Rattle.exits.specs.Exit.{isTold, isUntold, request, ending}
 use Rattle.account.specs.Account.{Tally, timeoutR, giveUpA, abandonA, tickA, exitR, exitA, adds, add, start, tallyOf}
 use Rattle.calls.specs.Call as Call
 use Rattle.calls.specs.Call.{Conf, Call, Answer}
@@ -44,10 +51,13 @@ use Rattle.account.specs.Step as Step
 use Rattle.account.specs.Step.{State}
 use Rattle.account.specs.TurnClaim.{Has, closing, answerAfter, carried, takenIn, sentIn}
 use Rattle.account.proofs.Flags.{or-false-l, or-false-r}
+use Rattle.account.proofs.Still.{still}
+use Rattle.account.proofs.Plain as Plain
 use Rattle.account.proofs.Plain.{said, next, answer, begun, afterAll, run}
+use Rattle.account.proofs.Finish.{Ends, ends, ends-answer}
 use Rattle.account.proofs.Lists.{plainOf}
-use Rattle.account.proofs.Demand.{same-run, same-answer, same-account as plain-account}
-use Rattle.account.proofs.Records.{Does, Good, does, made-so, made-answer, good-open, good-entry, good-at, same-account}
+use Rattle.account.proofs.Demand.{goes, answer-same, same-run, same-answer, same-account as plain-account}
+use Rattle.account.proofs.Records.{Does, Writes, elsewhere, short, left, taken, writes, answers, Good, does, made-so, made-answer, good-open, good-entry, good-at, same-account}
 use Rattle.account.proofs.Session.{conf, message, answersOf, open-ok, named-four}
 use Rattle.account.proofs.Told.{tallied, taken-told}
 use Rattle.account.proofs.Turn.{turn}
@@ -145,11 +155,11 @@ channel = record {
   timers = record { timeout = MaybeDuration.None; grace = 10; settlement = 5 };
 }
 
--- a record into 43 bytes, for channel 1
-abbrev zeros : ℕ → List ℕ
+abbrev pub zeros : ℕ → List ℕ
 zeros zero = []
 zeros (suc n) = 0 ∷ zeros n
 
+-- a record into 43 bytes, for channel 1
 abbrev pub written : Entry
 written = writeRecord 1 (zeros 43)
 
@@ -293,6 +303,24 @@ all-made conf (e ∷ es) (c ∷ cs) s g k h =
       p .1 ∙ ap (λ (t : State). Step.after t cs) (d .0),
     )
 
+-- a 98, exit-status with the code 0, and CLOSE: 30 of the buffer's bytes, and those behind are as they were
+abbrev pub closing-bytes : List ℕ
+closing-bytes =
+    98 ∷ 0 ∷ 0 ∷ 0 ∷ 1 ∷ 0 ∷ 0 ∷ 0 ∷ 11 ∷ 101 ∷ 120 ∷ 105 ∷ 116 ∷ 45 ∷ 115 ∷ 116 ∷ 97 ∷ 116 ∷ 117 ∷ 115 ∷ 0 ∷ 0 ∷ 0 ∷ 0 ∷ 0
+    ∷ 97 ∷ 0 ∷ 0 ∷ 0 ∷ 1 ∷ zeros 13
+
+abbrev pub Closes : WriteAfter → Type 0
+Closes w = (w .writing .wrote ≡ Wrote.Message (Message.Terminal complete) 30) × (w .buffer ≡ closing-bytes)
+
+closing-by : (s : State) (met : Bool) (w : WriteAfter) → Writes s 1 (zeros 43) met w → isTerminal (answers w) ≡ true → stop (s .runner) (bytesDo (s .runner .limits) (s .bytes)) ≡ Reply.Ok
+    → ((n : ℕ) → choose (s .runner) n ≡ Choice.Terminal) → outcomeOf (s .runner) ≡ complete → s .runner .limits .chunk ≡ 4
+    → Closes w
+unfolding asked told wrote wroteBuffer sentAs sentBuffer ending request Text.bytes bytesOf header Calls.nextMessage saidFor bufferAfter
+closing-by s met w elsewhere e g c o k = absurd (false≢true e)
+closing-by s met w short e g c o k = absurd (false≢true e)
+closing-by s met w (left u) e g c o k = absurd (false≢true e)
+closing-by s met w (taken h) e g c o k = rw (g, c (length (take (s .runner .limits .chunk) (zeros 30))), o, k) (refl, refl)
+
 module _ (bytes lengths : List ℕ) (h : 16 ≤ length bytes) where
   pub channel-opens : Opens channel 0 bytes lengths
   unfolding Calls.«open» bytesWith
@@ -310,19 +338,34 @@ module _ (bytes lengths : List ℕ) (h : 16 ≤ length bytes) where
   pub channel-answers : answersIn (runEntries begins records) ≡ answered
   channel-answers = records-made .0 ∙ ap answersOf (same-run channel 0 bytes lengths channel-opens channel-calls) ∙ channel-plain bytes lengths h .0
 
-  -- then Terminal goes out, and reports both streams untruncated
+  says-last : Step.answer (afterEntries begins records) next-one ≡ Call.Says (Call.Terminal complete)
+  says-last =
+      ap (λ (t : State). Step.answer t next-one) (records-made .1) ∙ same-answer channel 0 bytes lengths channel-opens channel-calls next-one
+      ∙ channel-plain bytes lengths h .1
+
+  -- then Terminal goes out, and reports both streams untruncated,
   pub channel-terminal : answerAfter channel 0 bytes lengths records written ≡ Call.Says (Call.Terminal complete)
   unfolding isUntold isTold
   channel-terminal =
       let s : State = afterEntries begins records in
       let g = good-at channel 0 bytes lengths channel-opens records in
-      let says : Step.answer s next-one ≡ Call.Says (Call.Terminal complete) =
-      ap (λ (t : State). Step.answer t next-one) (records-made .1) ∙ same-answer channel 0 bytes lengths channel-opens channel-calls next-one ∙ channel-plain bytes lengths h .1 in
       let status : (o : Outcome) → Step.answer s next-one ≡ Call.Says (Call.Terminal o) → isUntold (o .status) ≡ false =
-      λ o e. let same : o ≡ complete = cc in ap (λ (o : Outcome). isUntold (o .status)) same in
+      λ o e. let same : o ≡ complete = cc says-last in ap (λ (o : Outcome). isUntold (o .status)) same in
       made-answer written (made channel written (answerEntry s written)) next-one s (nextEntry s written) (answerEntry s written)
       (made-so channel written next-one s g written-asks status) (does channel written s g)
-      ∙ says
+      ∙ says-last
+
+  -- in a record that tells its status
+  pub channel-closes : Closes (Channel.writeRecord (afterEntries begins records .runner) 1 (afterEntries begins records .bytes) (zeros 43))
+  unfolding Plain.enough answerEntry
+  channel-closes =
+      let s : State = afterEntries begins records in
+      let f = good-at channel 0 bytes lengths channel-opens records in
+      let g : stop (s .runner) (bytesDo (s .runner .limits) (s .bytes)) ≡ Reply.Ok = goes s next-one (f .fine) in
+      let says : answer s next-one ≡ Call.Says (Call.Terminal complete) = sym (answer-same s next-one (f .fine)) ∙ says-last in
+      let d : Ends s next-one = ends next-one s (ap isTerminal says) in
+      let outcome : outcomeOf (s .runner) ≡ complete = cc (ends-answer s next-one d) in
+      closing-by s _ _ (writes s 1 (zeros 43) g) (ap isTerminal channel-terminal) g (λ n. still (s .runner) _ n (d .chosen)) outcome (ap (λ (c : Conf). c .limits .chunk) (f .same))
 
   -- these bytes were sent of each stream, in the records that carry them
   pub channel-sent : (sentIn Stdout (runEntries (Step.opened channel 0 bytes lengths) records) ≡ 97 ∷ 98 ∷ 99 ∷ 100 ∷ 101 ∷ [])
