@@ -177,16 +177,17 @@ choice-told (Choice.Output x n) r store part buffer channel k ended h l =
     output-told x channel n k ended buffer (payload r x n store ++ drop n part) h (simp length-append (omega (arith, l x n refl)))
 choice-told Choice.Terminal r store part buffer channel k ended h l = refl
 
--- and is not refused by 40
-choice-taken : (m : Choice) (r : Runner) (channel : ℕ) (ended : Bool) (b : List ℕ) → isUntaken (wroteAs (wrote channel ended (saidFor m r)) b) ≡ false
+-- and is no refusal
+choice-as : (C : Answer → Type 0) → C Call.Nothing → ((x : Call.Message) → C (Call.Says x))
+    → (m : Choice) (r : Runner) (channel : ℕ) (ended : Bool) (b : List ℕ) → C (wroteAs (wrote channel ended (saidFor m r)) b)
 unfolding saidFor wrote
-choice-taken Choice.None r channel ended b = refl
-choice-taken Choice.Credit r channel ended b = refl
-choice-taken Choice.Started r channel ended b = refl
-choice-taken Choice.InputClosed r channel ended b = refl
-choice-taken (Choice.End x) r channel ended b = refl
-choice-taken (Choice.Output x n) r channel ended b = refl
-choice-taken Choice.Terminal r channel ended b = refl
+choice-as C n h Choice.None r channel ended b = n
+choice-as C n h Choice.Credit r channel ended b = h _
+choice-as C n h Choice.Started r channel ended b = h _
+choice-as C n h Choice.InputClosed r channel ended b = h _
+choice-as C n h (Choice.End x) r channel ended b = h _
+choice-as C n h (Choice.Output x k) r channel ended b = h _
+choice-as C n h Choice.Terminal r channel ended b = h _
 
 -- what is left is Terminal
 choice-left : (m : Choice) (r : Runner) → isLeft (saidFor m r) ≡ true → (m ≡ Choice.Terminal) × (isUntold (outcomeOf r .status) ≡ true)
@@ -210,7 +211,7 @@ pub data Writes (s : State) (channel : ℕ) (buffer : List ℕ) : Bool → Write
   elsewhere : Writes s channel buffer false (writeAfter (unwritten NotAChannel (s .runner)) buffer)
   short : Writes s channel buffer false (writeAfter (unwritten BufferShort (s .runner)) buffer)
   left : isLeft (asked (s .runner) (s .bytes) buffer .saying .said) ≡ true → Writes s channel buffer true (writeAfter (unwritten UntoldStatus (s .runner)) buffer)
-  taken : 13 ≤ length buffer → Writes s channel buffer true (tells s channel buffer)
+  taken : isLeft (asked (s .runner) (s .bytes) buffer .saying .said) ≡ false → 13 ≤ length buffer → Writes s channel buffer true (tells s channel buffer)
 
 write-by : (channels roomy isleft : Bool) (s : State) (channel : ℕ) (buffer : List ℕ) → leb (room (s .runner .limits)) (length buffer) ≡ roomy
     → isLeft (asked (s .runner) (s .bytes) buffer .saying .said) ≡ isleft
@@ -219,7 +220,7 @@ unfolding admittedWrite roomyWrite sent
 write-by false roomy isleft s channel buffer e u = elsewhere
 write-by true false isleft s channel buffer e u = rw e short
 write-by true true true s channel buffer e u = rw (e, u) (left u)
-write-by true true false s channel buffer e u = rw (e, u) (taken (omega (arith, leb-true (room (s .runner .limits)) (length buffer) e)))
+write-by true true false s channel buffer e u = rw (e, u) (taken u (omega (arith, leb-true (room (s .runner .limits)) (length buffer) e)))
 
 pub writes : (s : State) (channel : ℕ) (buffer : List ℕ) → stop (s .runner) (bytesDo (s .runner .limits) (s .bytes)) ≡ Reply.Ok
     → Writes s channel buffer (isChannel (s .runner .limits) && leb (room (s .runner .limits)) (length buffer)) (Channel.writeRecord (s .runner) channel (s .bytes) buffer)
@@ -235,9 +236,12 @@ module _ (s : State) (channel : ℕ) (buffer : List ℕ) (g : stop (s .runner) (
   abbrev part : List ℕ
   part = take (s .runner .limits .chunk) (drop 13 buffer)
 
-  told-taken : isUntaken (answers (tells s channel buffer)) ≡ false
+  pub told-as : (C : Answer → Type 0) → C Call.Nothing → ((x : Call.Message) → C (Call.Says x)) → C (answers (tells s channel buffer))
   unfolding told asked Calls.nextMessage
-  told-taken = rw g (choice-taken (choose (s .runner) (length part)) (s .runner) channel (hasEnded (s .runner)) _)
+  told-as C n h = rw g (choice-as C n h (choose (s .runner) (length part)) (s .runner) channel (hasEnded (s .runner)) _)
+
+  told-taken : isUntaken (answers (tells s channel buffer)) ≡ false
+  told-taken = told-as (λ (a : Answer). isUntaken a ≡ false) refl (λ x. refl)
 
   told-does : 13 ≤ length buffer → Does (writeRecord channel buffer) (some (Call.nextMessage part)) s (Step.onRunner (tells s channel buffer .writing .runner) s) (answers (tells s channel buffer))
   unfolding Does told asked Step.next Step.answer Calls.nextMessage
@@ -252,7 +256,7 @@ module _ (s : State) (channel : ℕ) (buffer : List ℕ) (g : stop (s .runner) (
   written-does met w elsewhere = record { kept = refl; refusal = 13; answered = refl; own = refl }
   written-does met w short = record { kept = refl; refusal = 25; answered = refl; own = refl }
   written-does met w (left u) = record { kept = refl; refusal = 40; answered = refl; own = refl }
-  written-does met w (taken h) = rw told-taken (told-does h)
+  written-does met w (taken u h) = rw told-taken (told-does h)
 
   -- where it is left, Terminal is chosen, for this buffer and so for any
   left-chosen : (met : Bool) (w : WriteAfter) → Writes s channel buffer met w → isUntaken (answers w) ≡ true
@@ -261,7 +265,7 @@ module _ (s : State) (channel : ℕ) (buffer : List ℕ) (g : stop (s .runner) (
   left-chosen met w elsewhere e = absurd (false≢true e)
   left-chosen met w short e = absurd (false≢true e)
   left-chosen met w (left u) e = choice-left (choose (s .runner) (length part)) (s .runner) (rw g at u)
-  left-chosen met w (taken h) e = absurd (false≢true (sym told-taken ∙ e))
+  left-chosen met w (taken u h) e = absurd (false≢true (sym told-taken ∙ e))
 
 -- ---- an entry does what its call does, of a runner in range with its stores
 
@@ -322,33 +326,24 @@ left-untold s channel buffer f e part =
       p .1,
     )
 
--- so what is no such Terminal is taken
-pub taken-so : (s : State) (channel : ℕ) (buffer part : List ℕ) → Fine s
-    → ((o : Outcome) → Step.answer s (Call.nextMessage part) ≡ Call.Says (Call.Terminal o) → isUntold (o .status) ≡ false)
-    → isUntaken (answerEntry s (writeRecord channel buffer)) ≡ false
-taken-so s channel buffer part f h = at (isUntaken (answerEntry s (writeRecord channel buffer))) refl
-  where
-    at : (b : Bool) → isUntaken (answerEntry s (writeRecord channel buffer)) ≡ b → b ≡ false
-    at false e = refl
-    at true e = let p = left-untold s channel buffer f e part in absurd (false≢true (sym (h (p .0) (p .1)) ∙ p .2))
-
--- what an entry makes where it is not refused by 40, it makes unless its answer would be such a Terminal
-pub made-so : (conf : Conf) (e : Entry) (c : Call) (s : State) → Good conf s → made conf e Call.Ok ≡ some c
-    → ((o : Outcome) → Step.answer s c ≡ Call.Says (Call.Terminal o) → isUntold (o .status) ≡ false) → made conf e (answerEntry s e) ≡ some c
+-- so where no Terminal is next, an entry makes what it makes where it is not refused by 40
+pub made-so : (conf : Conf) (e : Entry) (c : Call) (s : State) → Good conf s → made conf e Call.Ok ≡ some c → isTerminal (Step.answer s c) ≡ false
+    → made conf e (answerEntry s e) ≡ some c
 unfolding made
 made-so conf (call x) c s g k h = k
 made-so conf (readRecord now channel b) c s g k h = k
-made-so conf (writeRecord channel buffer) c s g k h = at (isChannel (conf .limits) && roomy conf buffer) k
+made-so conf (writeRecord channel buffer) c s g k h = at (isChannel (conf .limits) && roomy conf buffer) (isUntaken (answerEntry s (writeRecord channel buffer))) refl k
   where
     part : List ℕ
     part = take (conf .limits .chunk) (drop 13 buffer)
 
-    at : (b : Bool) → cond b (some (Call.nextMessage part)) none ≡ some c
-        → cond b (cond (isUntaken (answerEntry s (writeRecord channel buffer))) none (some (Call.nextMessage part))) none ≡ some c
-    at false k = k
-    at true k =
+    at : (b u : Bool) → isUntaken (answerEntry s (writeRecord channel buffer)) ≡ u → cond b (some (Call.nextMessage part)) none ≡ some c
+        → cond b (cond u none (some (Call.nextMessage part))) none ≡ some c
+    at false u e k = k
+    at true false e k = k
+    at true true e k =
         let q : Call.nextMessage part ≡ c = cc in
-        rw (taken-so s channel buffer part (g .fine) (λ o e. h o (ap (Step.answer s) (sym q) ∙ e))) k
+        absurd (false≢true (sym h ∙ ap (λ (x : Call). isTerminal (Step.answer s x)) (sym q) ∙ ap isTerminal (left-untold s channel buffer (g .fine) e part .1)))
 
 -- ---- a list of entries is the list of its calls
 
@@ -419,11 +414,6 @@ unfolding Does
 terminal-made x none s after a d h = absurd (false≢true (sym (ap isTerminal (d .answered)) ∙ h))
 terminal-made x (some c) s after a d h = (c, d .0, d .1, refl)
 
--- and an entry that makes a call is answered as it
-pub made-answer : (x : Entry) (m : Option Call) (c : Call) (s after : State) (a : Answer) → m ≡ some c → Does x m s after a → a ≡ Step.answer s c
-unfolding Does
-made-answer x m c s after a e d = let q : Does x (some c) s after a = rw e at d in q .1
-
 unmade-as : (x : Entry) (m : Option Call) (s after : State) (a : Answer) → m ≡ none → Does x m s after a → (after ≡ s) × ((n : ℕ) × (a ≡ Call.Refused n))
 unfolding Does
 unmade-as x m s after a e d = let u : Unmade x s after a = rw e at d in (u .kept, (u .refusal, u .answered))
@@ -470,7 +460,7 @@ module _ (conf : Conf) (now : ℕ) (bytes lengths : List ℕ) (op : Opens conf n
   abbrev pub calls : List Entry → List Call
   calls es = callsOf conf (runEntries (Step.opened conf now bytes lengths) es)
 
-  pub to-calls : (es : List Entry) → afterEntries (Step.opened conf now bytes lengths) es ≡ Step.after (Step.opened conf now bytes lengths) (calls es)
+  to-calls : (es : List Entry) → afterEntries (Step.opened conf now bytes lengths) es ≡ Step.after (Step.opened conf now bytes lengths) (calls es)
   to-calls es = same-after conf es (Step.opened conf now bytes lengths) good-open
 
   -- THE LIST WITH RECORDS HAS THE ACCOUNT OF THE LIST OF ITS CALLS

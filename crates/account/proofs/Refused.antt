@@ -6,7 +6,7 @@ use mathlib.Core.List.{List, []}
 use mathlib.Core.Option.{Option, none, some}
 use Prim.Native.Nat.{ℕ}
 use lib.Dec.{ltb, eqb}
-use lib.ListN.{length, take, drop}
+use lib.ListN.{length}
 use Rattle.exec.specs.declared.Admission.{Admission}
 use Rattle.exec.specs.declared.Admission.the-variants as Admission
 use Rattle.exec.specs.declared.Cause.{Cause}
@@ -39,23 +39,23 @@ use Rattle.runner.specs.declared.runner.Runner.{Runner}
 use Rattle.runner.specs.Calls as Calls
 use Rattle.runner.specs.Calls.{askedFor, storesDo}
 use Rattle.runner.specs.Life.{isLate, ticked, cancelAnswer, cancelNext}
-use Rattle.runner.specs.Message.{choose, saidFor, wish}
+use Rattle.runner.specs.Message.{choose, wish}
 use Rattle.runner.specs.Range.{inRange, bytesDo, stop}
 use Rattle.runner.specs.State.{creditAt, putCredit, withFlow, withInput}
 use Rattle.runner.specs.Streams as Streams
 use Rattle.channel.specs.Calls as Channel
-use Rattle.channel.specs.Calls.{WriteAfter, admitted, admittedRead, admittedWrite, asked, told, wrote, hasEnded}
+use Rattle.channel.specs.Calls.{WriteAfter, admitted, admittedRead, admittedWrite}
 use Rattle.calls.specs.Call as Call
 use Rattle.calls.specs.Call.{Call, Answer, isRefused}
 use Rattle.account.specs.Step as Step
 use Rattle.account.specs.Step.{State, onRunner, receivedAs, asks, waits}
-use Rattle.account.specs.Records.{Entry, call, readRecord, writeRecord, nextEntry, wroteAs, answerEntry}
+use Rattle.account.specs.Records.{Entry, call, readRecord, writeRecord, nextEntry, answerEntry}
 use Rattle.account.specs.Refused.{among, ofCalls, ofEntry, Refusals}
 use Rattle.account.proofs.Plain as Plain
 use Rattle.account.proofs.Plain.{said}
 use Rattle.account.proofs.Flags.{either, or-right}
 use Rattle.account.proofs.Guarded.{next-is, answer-is}
-use Rattle.account.proofs.Records.{Does, Writes, elsewhere, short, left, taken, tells, writes, answers, read-does, write-does}
+use Rattle.account.proofs.Records.{Does, Writes, elsewhere, short, left, taken, tells, writes, told-as, answers, read-does, write-does}
 
 -- ---- what is to be shown of a call that leaves the state t and has the answer a
 
@@ -398,17 +398,6 @@ stale-entry s e =
 
 -- ---- the buffers
 
--- what is said behind the guard is no refusal
-said-told : (P : ℕ → Type 0) (channel : ℕ) (ended : Bool) (m : Choice) (r : Runner) (buffer : List ℕ) → IfRefused Unit P (wroteAs (wrote channel ended (saidFor m r)) buffer)
-unfolding saidFor wrote
-said-told P channel ended Choice.None r buffer = tt
-said-told P channel ended Choice.Credit r buffer = tt
-said-told P channel ended Choice.Started r buffer = tt
-said-told P channel ended Choice.InputClosed r buffer = tt
-said-told P channel ended (Choice.End x) r buffer = tt
-said-told P channel ended (Choice.Output x n) r buffer = tt
-said-told P channel ended Choice.Terminal r buffer = tt
-
 message-buffer : (met : Reply) (s : State) (buffer : List ℕ) → stop (s .runner) (bytesDo (s .runner .limits) (s .bytes)) ≡ met
     → IfRefused Unit (λ n. Calls.nextMessage (s .runner) (s .bytes) buffer .buffer ≡ buffer) (Step.answer s (Call.nextMessage buffer))
 unfolding Calls.nextMessage Plain.enough Plain.answer
@@ -419,17 +408,12 @@ message-buffer (Reply.Refused x) s buffer g = rw (stopped s (Call.nextMessage bu
 abbrev BufferSafe : WriteAfter → List ℕ → Type 0
 BufferSafe w buffer = IfRefused Unit (λ n. w .buffer ≡ buffer) (answers w)
 
-told-buffer : (s : State) (channel : ℕ) (buffer : List ℕ) → stop (s .runner) (bytesDo (s .runner .limits) (s .bytes)) ≡ Reply.Ok → BufferSafe (tells s channel buffer) buffer
-unfolding told asked Calls.nextMessage
-told-buffer s channel buffer g =
-    rw g (said-told _ channel (hasEnded (s .runner)) (choose (s .runner) (length (take (s .runner .limits .chunk) (drop 13 buffer)))) (s .runner) _)
-
 write-buffer : (s : State) (channel : ℕ) (buffer : List ℕ) → stop (s .runner) (bytesDo (s .runner .limits) (s .bytes)) ≡ Reply.Ok
     → (met : Bool) (w : WriteAfter) → Writes s channel buffer met w → BufferSafe w buffer
 write-buffer s channel buffer g met w elsewhere = refl
 write-buffer s channel buffer g met w short = refl
 write-buffer s channel buffer g met w (left u) = refl
-write-buffer s channel buffer g met w (taken h) = told-buffer s channel buffer g
+write-buffer s channel buffer g met w (taken u h) = told-as s channel buffer g (IfRefused Unit (λ n. tells s channel buffer .buffer ≡ buffer)) tt (λ x. tt)
 
 record-buffer : (met : Reply) (s : State) (channel : ℕ) (buffer : List ℕ) → stop (s .runner) (bytesDo (s .runner .limits) (s .bytes)) ≡ met
     → BufferSafe (Channel.writeRecord (s .runner) channel (s .bytes) buffer) buffer

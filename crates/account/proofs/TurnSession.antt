@@ -2,7 +2,7 @@
 -- that reports both streams untruncated. So what `Turn` asks can be met, and what it says is not empty. The first is of calls; its
 -- runner and stores are those of the session of 01's card. The second is of a channel: credit comes in a record read, and every
 -- message goes out in a record written, Terminal's with its status.
-use mathlib.Core.Bool.{Bool, true, false, true≢false, false≢true}
+use mathlib.Core.Bool.{Bool, true, false, _&&_, false≢true}
 use mathlib.Core.Path.{_≡_, refl, sym, ap, _∙_}
 use mathlib.Core.List.{List, [], _∷_, _++_, map}
 use mathlib.Core.Option.{some}
@@ -10,11 +10,12 @@ use Prim.Native.Nat.{ℕ, zero, suc, _≤_}
 use native.Mathlib.Omega.{arith}
 use borrow.Author.Tests.{le-leb}
 use lib.IntN.{pos}
-use lib.ListN.{length, take}
+use lib.ListN.{length, take, drop}
 use Rattle.exec.specs.declared.LaunchResult.the-variants as LaunchResult
 use Rattle.exec.specs.declared.MaybeCause.the-variants as MaybeCause
 use Rattle.exec.specs.declared.MaybeDuration.the-variants as MaybeDuration
 use Rattle.exec.specs.declared.MaybeLaunchFailure.the-variants as MaybeLaunchFailure
+use Rattle.exec.specs.declared.MaybeStatus.{MaybeStatus}
 use Rattle.exec.specs.declared.MaybeStatus.the-variants as MaybeStatus
 use Rattle.exec.specs.declared.Outcome.{Outcome}
 use Rattle.exec.specs.declared.Pool.the-variants as Pool
@@ -38,15 +39,16 @@ use Rattle.runner.specs.Streams.{outputTaken, outputNext, outputStore, creditIn
 use Rattle.octets.specs.Bytes.{be32At, numberAt}
 use Rattle.octets.specs.Text as Text
 use Rattle.codec.specs.Codec.{header, bytesOf, kinded, fitting, checked, read}
+use Rattle.channel.specs.declared.calls.Wrote.{Wrote}
 use Rattle.channel.specs.declared.calls.Wrote.the-variants as Wrote
 use Rattle.channel.specs.Calls as Channel
-use Rattle.channel.specs.Calls.{WriteAfter, asked, told, wrote, wroteBuffer, sentAs, sentBuffer}
+use Rattle.channel.specs.Calls.{WriteAfter, isChannel, asked, isLeft, told, wrote, wroteBuffer, sentAs, sentBuffer}
 use Rattle.exits.specs.Exit.{isTold, isUntold, request, ending}
 use Rattle.account.specs.Account.{Tally, timeoutR, giveUpA, abandonA, tickA, exitR, exitA, adds, add, start, tallyOf}
 use Rattle.calls.specs.Call as Call
 use Rattle.calls.specs.Call.{Conf, Call, Answer}
 use Rattle.account.specs.Claim.{Opens, isTerminal, anyTerminal}
-use Rattle.account.specs.Records.{Entry, EntryDone, call, readRecord, writeRecord, nextEntry, answerEntry, afterEntries, runEntries, callOf, made}
+use Rattle.account.specs.Records.{Entry, EntryDone, call, readRecord, writeRecord, nextEntry, wroteAs, answerEntry, afterEntries, runEntries, callOf, roomy, made}
 use Rattle.account.specs.Step as Step
 use Rattle.account.specs.Step.{State}
 use Rattle.account.specs.TurnClaim.{Has, closing, answerAfter, carried, takenIn, sentIn}
@@ -57,10 +59,14 @@ use Rattle.account.proofs.Plain.{said, next, answer, begun, afterAll, r
 use Rattle.account.proofs.Finish.{Ends, ends, ends-answer}
 use Rattle.account.proofs.Lists.{plainOf}
 use Rattle.account.proofs.Demand.{goes, answer-same, same-run, same-answer, same-account as plain-account}
-use Rattle.account.proofs.Records.{Does, Writes, elsewhere, short, left, taken, writes, answers, Good, does, made-so, made-answer, good-open, good-entry, good-at, same-account}
+use Rattle.account.proofs.Records.{Does, Writes, elsewhere, short, left, taken, writes, answers, Good, does, made-so, good-open, good-entry, good-at, same-account}
 use Rattle.account.proofs.Session.{conf, message, answersOf, open-ok, named-four}
 use Rattle.account.proofs.Told.{tallied, taken-told}
 use Rattle.account.proofs.Turn.{turn}
+
+-- exited with 0
+abbrev pub zero-status : MaybeStatus
+zero-status = MaybeStatus.Some (Status.Exited (pos 0))
 
 -- seven bytes of stdout through a ring of four; then the program closes both streams and exits
 abbrev pub calls : List Call
@@ -75,7 +81,7 @@ calls = Call.launched LaunchResult.Started
     ∷ message
     ∷ Call.outputClosed Stdout
     ∷ Call.outputClosed Stderr
-    ∷ Call.exited 20 (MaybeStatus.Some (Status.Exited (pos 0)))
+    ∷ Call.exited 20 zero-status
     ∷ Call.settled Settlement.Settled
     ∷ message
     ∷ message
@@ -85,16 +91,19 @@ calls = Call.launched LaunchResult.Started
 abbrev pub entries : List Entry
 entries = map call calls
 
--- exited with 0, and nothing truncated
-abbrev pub complete : Outcome
-complete = record {
-  status = MaybeStatus.Some (Status.Exited (pos 0));
+-- nothing truncated
+abbrev pub whole-with : MaybeStatus → Outcome
+whole-with status = record {
+  status = status;
   cause = MaybeCause.None;
   «launch_failure» = MaybeLaunchFailure.None;
   «stdout_truncated» = false;
   «stderr_truncated» = false;
   reusable = true;
 }
+
+abbrev pub complete : Outcome
+complete = whole-with zero-status
 
 -- the bytes taken are those sent
 abbrev pub rows : Tally
@@ -167,8 +176,8 @@ written = writeRecord 1 (zeros 43)
 abbrev pub adjust : Entry
 adjust = readRecord 0 1 (93 ∷ 0 ∷ 0 ∷ 0 ∷ 1 ∷ 0 ∷ 0 ∷ 0 ∷ 8 ∷ [])
 
-abbrev pub records : List Entry
-records = call (Call.launched LaunchResult.Started)
+abbrev pub records : MaybeStatus → List Entry
+records status = call (Call.launched LaunchResult.Started)
     ∷ adjust
     ∷ call (Call.output Stdout (97 ∷ 98 ∷ 99 ∷ []))
     ∷ call (Call.output Stderr (120 ∷ 121 ∷ []))
@@ -180,7 +189,7 @@ records = call (Call.launched LaunchResult.Started)
     ∷ written
     ∷ call (Call.outputClosed Stdout)
     ∷ call (Call.outputClosed Stderr)
-    ∷ call (Call.exited 20 (MaybeStatus.Some (Status.Exited (pos 0))))
+    ∷ call (Call.exited 20 status)
     ∷ call (Call.settled Settlement.Settled)
     ∷ written
     ∷ written
@@ -212,8 +221,8 @@ answered = Call.Ok
 abbrev next-one : Call
 next-one = Call.nextMessage (0 ∷ 0 ∷ 0 ∷ 0 ∷ [])
 
-abbrev channel-calls : List Call
-channel-calls = Call.launched LaunchResult.Started
+abbrev channel-calls : MaybeStatus → List Call
+channel-calls status = Call.launched LaunchResult.Started
     ∷ Call.credit (record { id = 7; generation = 2 }) Pool.Output 8
     ∷ Call.output Stdout (97 ∷ 98 ∷ 99 ∷ [])
     ∷ Call.output Stderr (120 ∷ 121 ∷ [])
@@ -225,7 +234,7 @@ channel-calls = Call.launched LaunchResult.Started
     ∷ next-one
     ∷ Call.outputClosed Stdout
     ∷ Call.outputClosed Stderr
-    ∷ Call.exited 20 (MaybeStatus.Some (Status.Exited (pos 0)))
+    ∷ Call.exited 20 status
     ∷ Call.settled Settlement.Settled
     ∷ next-one
     ∷ next-one
@@ -239,24 +248,20 @@ AllAsk conf [] (c ∷ cs) = ⊥
 AllAsk conf (e ∷ es) [] = ⊥
 AllAsk conf (e ∷ es) (c ∷ cs) = (made conf e Call.Ok ≡ some c) × AllAsk conf es cs
 
-written-asks : made channel written Call.Ok ≡ some next-one
-unfolding made
-written-asks = refl
-
-records-ask : AllAsk channel records channel-calls
+records-ask : (status : MaybeStatus) → AllAsk channel (records status) (channel-calls status)
 unfolding made callOf read kinded checked fitting numberAt be32At
-records-ask = (refl, (refl, (refl, (refl, (refl, (refl, (refl, (refl, (refl, (refl, (refl, (refl, (refl, (refl, (refl, (refl, (refl, tt)))))))))))))))))
+records-ask status = (refl, (refl, (refl, (refl, (refl, (refl, (refl, (refl, (refl, (refl, (refl, (refl, (refl, (refl, (refl, (refl, (refl, tt)))))))))))))))))
 
-abbrev ChannelComes : (bytes lengths : List ℕ) → Type 0
-ChannelComes bytes lengths =
-    (answersOf (run (begun channel 0 bytes lengths) channel-calls) ≡ answered)
-    × (answer (afterAll (begun channel 0 bytes lengths) channel-calls) next-one ≡ Call.Says (Call.Terminal complete))
-    × (anyTerminal (run (begun channel 0 bytes lengths) channel-calls) ≡ false)
+abbrev ChannelComes : MaybeStatus → (bytes lengths : List ℕ) → Type 0
+ChannelComes status bytes lengths =
+    (answersOf (run (begun channel 0 bytes lengths) (channel-calls status)) ≡ answered)
+    × (answer (afterAll (begun channel 0 bytes lengths) (channel-calls status)) next-one ≡ Call.Says (Call.Terminal (whole-with status)))
+    × (anyTerminal (run (begun channel 0 bytes lengths) (channel-calls status)) ≡ false)
 
 -- only the first eight bytes of the store are written
-channel-computed : (a0 a1 a2 a3 a4 a5 a6 a7 : ℕ) (rest lengths : List ℕ) → ChannelComes (a0 ∷ a1 ∷ a2 ∷ a3 ∷ a4 ∷ a5 ∷ a6 ∷ a7 ∷ rest) lengths
+channel-computed : (status : MaybeStatus) (a0 a1 a2 a3 a4 a5 a6 a7 : ℕ) (rest lengths : List ℕ) → ChannelComes status (a0 ∷ a1 ∷ a2 ∷ a3 ∷ a4 ∷ a5 ∷ a6 ∷ a7 ∷ rest) lengths
 unfolding next answer said admits cost wrap ringRead ringFrom ringWrite copied ifElse closeRunnerInput passGrace passTimeout passSettlement passGiveUp passAbandonment fire ticked noteStarted noteLaunch launchedNext noteExit noteExitOnce exitedNext settledNext isReady outcomeOf sendableOf order choose outputPaid outputSent effect payload fresh outputTaken outputNext outputStore creditIn creditAnswer creditNext closedNext
-channel-computed a0 a1 a2 a3 a4 a5 a6 a7 rest lengths = (refl, refl, refl)
+channel-computed status a0 a1 a2 a3 a4 a5 a6 a7 rest lengths = (refl, refl, refl)
 
 named-eight : (P : List ℕ → Type 0) → ((a0 a1 a2 a3 a4 a5 a6 a7 : ℕ) (rest : List ℕ) → P (a0 ∷ a1 ∷ a2 ∷ a3 ∷ a4 ∷ a5 ∷ a6 ∷ a7 ∷ rest))
     → (bytes : List ℕ) → 16 ≤ length bytes → P bytes
@@ -270,9 +275,9 @@ named-eight P p (a0 ∷ a1 ∷ a2 ∷ a3 ∷ a4 ∷ a5 ∷ []) h = absurd (omega
 named-eight P p (a0 ∷ a1 ∷ a2 ∷ a3 ∷ a4 ∷ a5 ∷ a6 ∷ []) h = absurd (omega arith)
 named-eight P p (a0 ∷ a1 ∷ a2 ∷ a3 ∷ a4 ∷ a5 ∷ a6 ∷ a7 ∷ rest) h = p a0 a1 a2 a3 a4 a5 a6 a7 rest
 
-channel-plain : (bytes lengths : List ℕ) → 16 ≤ length bytes → ChannelComes bytes lengths
-channel-plain bytes lengths h =
-    named-eight (λ (b : List ℕ). ChannelComes b lengths) (λ a0 a1 a2 a3 a4 a5 a6 a7 rest. channel-computed a0 a1 a2 a3 a4 a5 a6 a7 rest lengths) bytes h
+channel-plain : (status : MaybeStatus) (bytes lengths : List ℕ) → 16 ≤ length bytes → ChannelComes status bytes lengths
+channel-plain status bytes lengths h =
+    named-eight (λ (b : List ℕ). ChannelComes status b lengths) (λ a0 a1 a2 a3 a4 a5 a6 a7 rest. channel-computed status a0 a1 a2 a3 a4 a5 a6 a7 rest lengths) bytes h
 
 -- the answers of a list of what was done, and the bytes that they carry
 abbrev pub answersIn : List EntryDone → List Answer
@@ -296,32 +301,34 @@ all-made conf (e ∷ es) [] s g k h = absurd k
 all-made conf (e ∷ es) (c ∷ cs) s g k h =
     let first = or-false-l (isTerminal (Step.answer s c)) (anyTerminal (Step.run (Step.next s c) cs)) h in
     let rest = or-false-r (isTerminal (Step.answer s c)) (anyTerminal (Step.run (Step.next s c) cs)) h in
-    let m = made-so conf e c s g (k .0) (λ o d. absurd (true≢false (sym (ap isTerminal d) ∙ first))) in
+    let m = made-so conf e c s g (k .0) first in
     let d : Does e (some c) s (nextEntry s e) (answerEntry s e) = rw m at (does conf e s g) in
     let p = all-made conf es cs (nextEntry s e) (good-entry conf e s g) (k .1) (rw (d .0) rest) in (
       rw (d .1, p .0, d .0) refl,
       p .1 ∙ ap (λ (t : State). Step.after t cs) (d .0),
     )
 
--- a 98, exit-status with the code 0, and CLOSE: 30 of the buffer's bytes, and those behind are as they were
-abbrev pub closing-bytes : List ℕ
-closing-bytes =
-    98 ∷ 0 ∷ 0 ∷ 0 ∷ 1 ∷ 0 ∷ 0 ∷ 0 ∷ 11 ∷ 101 ∷ 120 ∷ 105 ∷ 116 ∷ 45 ∷ 115 ∷ 116 ∷ 97 ∷ 116 ∷ 117 ∷ 115 ∷ 0 ∷ 0 ∷ 0 ∷ 0 ∷ 0
-    ∷ 97 ∷ 0 ∷ 0 ∷ 0 ∷ 1 ∷ zeros 13
+-- what becomes of Terminal: a status that is told goes out at the buffer's front, one that no request tells is left
+abbrev pub Closes : (untold : Bool) → MaybeStatus → WriteAfter → Type 0
+Closes true status w = answers w ≡ Call.Refused 40
+Closes false status w =
+    (w .writing .wrote ≡ Wrote.Message (Message.Terminal (whole-with status)) (length (ending 1 status)))
+    × (w .buffer ≡ ending 1 status ++ drop (length (ending 1 status)) (zeros 43))
 
-abbrev pub Closes : WriteAfter → Type 0
-Closes w = (w .writing .wrote ≡ Wrote.Message (Message.Terminal complete) 30) × (w .buffer ≡ closing-bytes)
+closes-by : (s : State) (status : MaybeStatus) (b met : Bool) (w : WriteAfter) → Writes s 1 (zeros 43) met w → met ≡ true → isUntold status ≡ b
+    → stop (s .runner) (bytesDo (s .runner .limits) (s .bytes)) ≡ Reply.Ok → ((n : ℕ) → choose (s .runner) n ≡ Choice.Terminal)
+    → outcomeOf (s .runner) ≡ whole-with status → s .runner .limits .chunk ≡ 4 → Closes b status w
+unfolding asked told wrote wroteBuffer sentAs sentBuffer isLeft Calls.nextMessage saidFor bufferAfter
+closes-by s status b met w elsewhere m u g c o k = absurd (false≢true m)
+closes-by s status b met w short m u g c o k = absurd (false≢true m)
+closes-by s status true met w (left v) m u g c o k = refl
+closes-by s status false met w (left v) m u g c o k =
+    let z : isUntold status ≡ true = rw (g, c (length (take (s .runner .limits .chunk) (zeros 30))), o) at v in absurd (false≢true (sym u ∙ z))
+closes-by s status true met w (taken v h) m u g c o k =
+    let z : isUntold status ≡ false = rw (g, c (length (take (s .runner .limits .chunk) (zeros 30))), o) at v in absurd (false≢true (sym z ∙ u))
+closes-by s status false met w (taken v h) m u g c o k = rw (g, c (length (take (s .runner .limits .chunk) (zeros 30))), o, k) (refl, refl)
 
-closing-by : (s : State) (met : Bool) (w : WriteAfter) → Writes s 1 (zeros 43) met w → isTerminal (answers w) ≡ true → stop (s .runner) (bytesDo (s .runner .limits) (s .bytes)) ≡ Reply.Ok
-    → ((n : ℕ) → choose (s .runner) n ≡ Choice.Terminal) → outcomeOf (s .runner) ≡ complete → s .runner .limits .chunk ≡ 4
-    → Closes w
-unfolding asked told wrote wroteBuffer sentAs sentBuffer ending request Text.bytes bytesOf header Calls.nextMessage saidFor bufferAfter
-closing-by s met w elsewhere e g c o k = absurd (false≢true e)
-closing-by s met w short e g c o k = absurd (false≢true e)
-closing-by s met w (left u) e g c o k = absurd (false≢true e)
-closing-by s met w (taken h) e g c o k = rw (g, c (length (take (s .runner .limits .chunk) (zeros 30))), o, k) (refl, refl)
-
-module _ (bytes lengths : List ℕ) (h : 16 ≤ length bytes) where
+module _ (status : MaybeStatus) (bytes lengths : List ℕ) (h : 16 ≤ length bytes) where
   pub channel-opens : Opens channel 0 bytes lengths
   unfolding Calls.«open» bytesWith
   channel-opens = rw (le-leb 16 (length bytes) h, le-leb 0 (length lengths) (omega arith)) refl
@@ -329,57 +336,64 @@ module _ (bytes lengths : List ℕ) (h : 16 ≤ length bytes) where
   abbrev begins : State
   begins = Step.opened channel 0 bytes lengths
 
-  records-made : (answersIn (runEntries begins records) ≡ answersOf (Step.run begins channel-calls)) × (afterEntries begins records ≡ Step.after begins channel-calls)
+  abbrev calls-run : Step.run begins (channel-calls status) ≡ run (begun channel 0 bytes lengths) (channel-calls status)
+  calls-run = same-run channel 0 bytes lengths channel-opens (channel-calls status)
+
+  records-made : (answersIn (runEntries begins (records status)) ≡ answersOf (Step.run begins (channel-calls status))) × (afterEntries begins (records status) ≡ Step.after begins (channel-calls status))
   records-made =
-      all-made channel records channel-calls begins (good-open channel 0 bytes lengths channel-opens) records-ask
-      (ap anyTerminal (same-run channel 0 bytes lengths channel-opens channel-calls) ∙ channel-plain bytes lengths h .2)
+      all-made channel (records status) (channel-calls status) begins (good-open channel 0 bytes lengths channel-opens) (records-ask status)
+      (ap anyTerminal calls-run ∙ channel-plain status bytes lengths h .2)
 
   -- the calls and records are answered so
-  pub channel-answers : answersIn (runEntries begins records) ≡ answered
-  channel-answers = records-made .0 ∙ ap answersOf (same-run channel 0 bytes lengths channel-opens channel-calls) ∙ channel-plain bytes lengths h .0
+  pub channel-answers : answersIn (runEntries begins (records status)) ≡ answered
+  channel-answers = records-made .0 ∙ ap answersOf calls-run ∙ channel-plain status bytes lengths h .0
 
-  says-last : Step.answer (afterEntries begins records) next-one ≡ Call.Says (Call.Terminal complete)
-  says-last =
-      ap (λ (t : State). Step.answer t next-one) (records-made .1) ∙ same-answer channel 0 bytes lengths channel-opens channel-calls next-one
-      ∙ channel-plain bytes lengths h .1
+  abbrev pub last : WriteAfter
+  last = Channel.writeRecord (afterEntries begins (records status) .runner) 1 (afterEntries begins (records status) .bytes) (zeros 43)
 
-  -- then Terminal goes out, and reports both streams untruncated,
-  pub channel-terminal : answerAfter channel 0 bytes lengths records written ≡ Call.Says (Call.Terminal complete)
-  unfolding isUntold isTold
-  channel-terminal =
-      let s : State = afterEntries begins records in
-      let g = good-at channel 0 bytes lengths channel-opens records in
-      let status : (o : Outcome) → Step.answer s next-one ≡ Call.Says (Call.Terminal o) → isUntold (o .status) ≡ false =
-      λ o e. let same : o ≡ complete = cc says-last in ap (λ (o : Outcome). isUntold (o .status)) same in
-      made-answer written (made channel written (answerEntry s written)) next-one s (nextEntry s written) (answerEntry s written)
-      (made-so channel written next-one s g written-asks status) (does channel written s g)
-      ∙ says-last
-
-  -- in a record that tells its status
-  pub channel-closes : Closes (Channel.writeRecord (afterEntries begins records .runner) 1 (afterEntries begins records .bytes) (zeros 43))
-  unfolding Plain.enough answerEntry
-  channel-closes =
-      let s : State = afterEntries begins records in
-      let f = good-at channel 0 bytes lengths channel-opens records in
+  -- then Terminal is written, or left
+  pub channel-closes : (b : Bool) → isUntold status ≡ b → Closes b status last
+  unfolding Plain.enough
+  channel-closes b u =
+      let s : State = afterEntries begins (records status) in
+      let f = good-at channel 0 bytes lengths channel-opens (records status) in
       let g : stop (s .runner) (bytesDo (s .runner .limits) (s .bytes)) ≡ Reply.Ok = goes s next-one (f .fine) in
-      let says : answer s next-one ≡ Call.Says (Call.Terminal complete) = sym (answer-same s next-one (f .fine)) ∙ says-last in
+      let says : answer s next-one ≡ Call.Says (Call.Terminal (whole-with status)) =
+      sym (answer-same s next-one (f .fine)) ∙ ap (λ (t : State). Step.answer t next-one) (records-made .1)
+      ∙ same-answer channel 0 bytes lengths channel-opens (channel-calls status) next-one ∙ channel-plain status bytes lengths h .1 in
       let d : Ends s next-one = ends next-one s (ap isTerminal says) in
-      let outcome : outcomeOf (s .runner) ≡ complete = cc (ends-answer s next-one d) in
-      closing-by s _ _ (writes s 1 (zeros 43) g) (ap isTerminal channel-terminal) g (λ n. still (s .runner) _ n (d .chosen)) outcome (ap (λ (c : Conf). c .limits .chunk) (f .same))
+      let outcome : outcomeOf (s .runner) ≡ whole-with status = cc (ends-answer s next-one d) in
+      closes-by s status b _ _ (writes s 1 (zeros 43) g) (ap (λ (c : Conf). isChannel (c .limits) && roomy c (zeros 43)) (f .same)) u g
+      (λ n. still (s .runner) _ n (d .chosen)) outcome (ap (λ (c : Conf). c .limits .chunk) (f .same))
+
+  pub channel-left : isUntold status ≡ true → answerAfter channel 0 bytes lengths (records status) written ≡ Call.Refused 40
+  unfolding answerEntry
+  channel-left u = channel-closes true u
+
+  -- it reports both streams untruncated
+  pub channel-terminal : isUntold status ≡ false → answerAfter channel 0 bytes lengths (records status) written ≡ Call.Says (Call.Terminal (whole-with status))
+  unfolding answerEntry
+  channel-terminal u = ap (λ (x : Wrote). wroteAs x (last .buffer)) (channel-closes false u .0)
 
   -- these bytes were sent of each stream, in the records that carry them
-  pub channel-sent : (sentIn Stdout (runEntries (Step.opened channel 0 bytes lengths) records) ≡ 97 ∷ 98 ∷ 99 ∷ 100 ∷ 101 ∷ [])
-      × (sentIn Stderr (runEntries (Step.opened channel 0 bytes lengths) records) ≡ 120 ∷ 121 ∷ [])
+  pub channel-sent : (sentIn Stdout (runEntries begins (records status)) ≡ 97 ∷ 98 ∷ 99 ∷ 100 ∷ 101 ∷ []) × (sentIn Stderr (runEntries begins (records status)) ≡ 120 ∷ 121 ∷ [])
   channel-sent = (
-    by-answers Stdout (runEntries (Step.opened channel 0 bytes lengths) records) ∙ ap (carriedAll Stdout) channel-answers,
-    by-answers Stderr (runEntries (Step.opened channel 0 bytes lengths) records) ∙ ap (carriedAll Stderr) channel-answers,
+    by-answers Stdout (runEntries begins (records status)) ∙ ap (carriedAll Stdout) channel-answers,
+    by-answers Stderr (runEntries begins (records status)) ∙ ap (carriedAll Stderr) channel-answers,
   )
 
   -- and the turn speaks of them: they are all that was taken
-  pub channel-taken : (takenIn Stdout (runEntries (Step.opened channel 0 bytes lengths) records) ≡ 97 ∷ 98 ∷ 99 ∷ 100 ∷ 101 ∷ [])
-      × (takenIn Stderr (runEntries (Step.opened channel 0 bytes lengths) records) ≡ 120 ∷ 121 ∷ [])
-  channel-taken =
-      let t = turn channel 0 bytes lengths channel-opens .rows records written complete in (
-        sym (t Stdout channel-terminal refl) ∙ channel-sent .0,
-        sym (t Stderr channel-terminal refl) ∙ channel-sent .1,
+  pub channel-taken : isUntold status ≡ false
+      → (takenIn Stdout (runEntries begins (records status)) ≡ 97 ∷ 98 ∷ 99 ∷ 100 ∷ 101 ∷ []) × (takenIn Stderr (runEntries begins (records status)) ≡ 120 ∷ 121 ∷ [])
+  channel-taken u =
+      let t = turn channel 0 bytes lengths channel-opens .rows (records status) written (whole-with status) in (
+        sym (t Stdout (channel-terminal u) refl) ∙ channel-sent .0,
+        sym (t Stderr (channel-terminal u) refl) ∙ channel-sent .1,
       )
+
+-- of a program that exited with 0 a 98, exit-status, and CLOSE: 30 bytes, and those behind are as they were
+pub zero-closes : (ending 1 zero-status ++ drop (length (ending 1 zero-status)) (zeros 43)
+    ≡ 98 ∷ 0 ∷ 0 ∷ 0 ∷ 1 ∷ 0 ∷ 0 ∷ 0 ∷ 11 ∷ 101 ∷ 120 ∷ 105 ∷ 116 ∷ 45 ∷ 115 ∷ 116 ∷ 97 ∷ 116 ∷ 117 ∷ 115 ∷ 0 ∷ 0 ∷ 0 ∷ 0 ∷ 0 ∷ 97 ∷ 0 ∷ 0 ∷ 0 ∷ 1 ∷ zeros 13)
+    × (length (ending 1 zero-status) ≡ 30) × (isUntold zero-status ≡ false)
+unfolding ending request Text.bytes bytesOf header isUntold isTold
+zero-closes = (refl, refl, refl)
