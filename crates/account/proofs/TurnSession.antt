@@ -1,7 +1,7 @@
 -- Two sessions in which the turn is taken, computed from the definitions: no cancel, rows over the end of the ring, and a Terminal
 -- that reports both streams untruncated. So what `Turn` asks can be met, and what it says is not empty. The first is of calls; its
 -- runner and stores are those of the session of 01's card. The second is of a channel: credit comes in a record read, and every
--- message goes out in a record written, Terminal's with its status.
+-- message goes out in a record written; the program's status is any, and where no request tells it Terminal is left.
 use mathlib.Core.Bool.{Bool, true, false, _&&_, false≢true}
 use mathlib.Core.Path.{_≡_, refl, sym, ap, _∙_}
 use mathlib.Core.List.{List, [], _∷_, _++_, map}
@@ -9,7 +9,7 @@ use mathlib.Core.Option.{some}
 use Prim.Native.Nat.{ℕ, zero, suc, _≤_}
 use native.Mathlib.Omega.{arith}
 use borrow.Author.Tests.{le-leb}
-use lib.IntN.{pos}
+use lib.IntN.{pos, negsuc}
 use lib.ListN.{length, take, drop}
 use Rattle.exec.specs.declared.LaunchResult.the-variants as LaunchResult
 use Rattle.exec.specs.declared.MaybeCause.the-variants as MaybeCause
@@ -397,3 +397,8 @@ pub zero-closes : (ending 1 zero-status ++ drop (length (ending 1 zero-status)) 
     × (length (ending 1 zero-status) ≡ 30) × (isUntold zero-status ≡ false)
 unfolding ending request Text.bytes bytesOf header isUntold isTold
 zero-closes = (refl, refl, refl)
+
+-- and no request tells a code of −1
+pub negative-left : isUntold (MaybeStatus.Some (Status.Exited (negsuc 0))) ≡ true
+unfolding isUntold isTold
+negative-left = refl
