@@ -1,17 +1,14 @@
 -- What a choice of message may be.
 use mathlib.Core.Bool.{Bool, true, false}
-use Prim.Native.Nat.{ℕ, _≤_, min}
-use native.Mathlib.Omega.{arith}
-use Rattle.exec.specs.declared.Stream.{Stream}
+use Prim.Native.Nat.{ℕ, _≤_}
 use Rattle.choice.specs.declared.Choice.{Choice}
 use Rattle.choice.specs.declared.Choice.the-variants as Choice
 use Rattle.runner.specs.declared.runner.Runner.{Runner}
 use Rattle.choice.specs.Order.{ifElse, order}
-use Rattle.exec.specs.Limits.{poolOf}
 use Rattle.exec.specs.Stream.{streamAt, following}
-use Rattle.runner.specs.State.{outOf, creditAt}
-use Rattle.runner.specs.Message.{sendableOf, choose}
-use Rattle.runner.specs.MessageLaws.{least}
+use Rattle.runner.specs.State.{outOf}
+use Rattle.runner.specs.Message.{choose}
+use Rattle.account.proofs.Still.{sendable-count}
 
 -- no message carries more than the queue holds
 abbrev pub Sound : Runner → Choice → Type 0
@@ -30,10 +27,6 @@ sent-if : (s : Runner) (b : Bool) (x y : Choice) → Sent s x → Sent s y → S
 unfolding ifElse
 sent-if s true x y p q = p
 sent-if s false x y p q = q
-
-sendable-count : (s : Runner) (n : ℕ) (x : Stream) → sendableOf s n x ≤ outOf x s .queued
-unfolding sendableOf
-sendable-count s n x = let l = least (s .limits .output .unit) (creditAt (poolOf (s .limits) x) (s .credits) .available) (min (min (outOf x s .queued) (s .limits .chunk)) n) in omega arith
 
 pub choose-sent : (s : Runner) (n : ℕ) → Sent s (choose s n)
 unfolding choose order

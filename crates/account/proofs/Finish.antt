@@ -23,7 +23,7 @@ use Rattle.choice.specs.Order.{ifElse, order}
 use Rattle.exec.specs.Key.{admits}
 use Rattle.exec.specs.Limits.{outputPool}
 use Rattle.runner.specs.Calls.{askedFor}
-use Rattle.runner.specs.Life.{awaitsLaunch, closeRunnerInput, noteStarted, noteLaunch, launchedNext, settledNext, isReady, cancelAnswer, outcomeOf}
+use Rattle.runner.specs.Life.{awaitsLaunch, closeRunnerInput, noteStarted, noteLaunch, launchedNext, settledNext, cancelAnswer, outcomeOf}
 use Rattle.runner.specs.Streams.{outputNext, discardedNext, closedNext, failedNext, hungUpNext, creditAnswer, creditNext, inputAnswer, inputNext, endAnswer, endNext, writtenNext}
 use Rattle.runner.specs.Message.{choose, outputPaid, outputSent, effect, wish, handed, wishEffect}
 use Rattle.calls.specs.Call as Call
@@ -242,46 +242,6 @@ no-more c s f = go c (kind c s)
 pub silent : (ds : List Call) (s : State) → s .runner .flags .finished ≡ true → Silent (run s ds)
 silent [] s f = tt
 silent (d ∷ ds) s f = (no-more d s f, silent ds (next s d) (fin-stays d s f))
-
--- ---- Terminal is chosen only when ready
-
-abbrev isTerminalChoice : Choice → Bool
-isTerminalChoice Choice.None = false
-isTerminalChoice Choice.Credit = false
-isTerminalChoice Choice.Started = false
-isTerminalChoice Choice.InputClosed = false
-isTerminalChoice (Choice.End x) = false
-isTerminalChoice (Choice.Output x n) = false
-isTerminalChoice Choice.Terminal = true
-
-peel : (b : Bool) (x y : Choice) → ifElse b x y ≡ Choice.Terminal → (x ≡ Choice.Terminal → ⊥) → y ≡ Choice.Terminal
-unfolding ifElse
-peel true x y e n = absurd (n e)
-peel false x y e n = e
-
-final : (b : Bool) → ifElse b Choice.Terminal Choice.None ≡ Choice.Terminal → b ≡ true
-unfolding ifElse
-final true e = refl
-final false e = let z : false ≡ true = cc in absurd (false≢true z)
-
-either : (b : Bool) (x y : Choice) (P : Type 0) → ifElse b x y ≡ Choice.Terminal → (x ≡ Choice.Terminal → P) → (y ≡ Choice.Terminal → P) → P
-unfolding ifElse
-either true x y P e f g = f e
-either false x y P e f g = g e
-
-clash : (x : Choice) → x ≡ Choice.Terminal → isTerminalChoice x ≡ false → ⊥
-clash x e n = false≢true (sym n ∙ ap isTerminalChoice e)
-
-order-terminal : (fin det can cr st cm aw e0 e1 rdy : Bool) (x : Stream) (n1 n2 : ℕ) → order fin det can cr st cm aw e0 e1 rdy x n1 n2 ≡ Choice.Terminal → rdy ≡ true
-unfolding order
-order-terminal fin det can cr st cm aw e0 e1 rdy x n1 n2 e =
-    either _ _ _ (rdy ≡ true) (peel _ _ _ e (λ z. clash _ z refl)) (λ d. final rdy d)
-    (λ d. final rdy (peel _ _ _ (peel _ _ _ (peel _ _ _ (peel _ _ _ (peel _ _ _ (peel _ _ _ (peel _ _ _ (peel _ _ _ d
-    (λ z. clash _ z refl)) (λ z. clash _ z refl)) (λ z. clash _ z refl)) (λ z. clash _ z refl)) (λ z. clash _ z refl)) (λ z. clash _ z refl)) (λ z. clash _ z refl)) (λ z. clash _ z refl)))
-
-pub chosen-ready : (n : ℕ) (s : Runner) → choose s n ≡ Choice.Terminal → isReady s ≡ true
-unfolding choose
-chosen-ready n s e = order-terminal _ _ _ _ _ _ _ _ _ _ _ _ _ e
 
 pub ends-answer : (s : State) (c : Call) → Ends s c → answer s c ≡ Call.Says (Call.Terminal (outcomeOf (s .runner)))
 unfolding answer said

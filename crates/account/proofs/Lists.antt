@@ -1,24 +1,19 @@
 -- Over a list of calls: the invariant, and the first three parts of the demand.
-use mathlib.Core.Bool.{Bool, true, false, not, _&&_, _||_, true≢false, false≢true}
+use mathlib.Core.Bool.{Bool, true, false, true≢false, false≢true}
 use mathlib.Core.Path.{_≡_, refl, sym, ap, _∙_}
 use mathlib.Core.List.{List, [], _∷_, _++_, append-assoc}
 use Prim.Native.Nat.{ℕ, _+_, _≤_, _<_}
 use native.Mathlib.Omega.{arith}
-use lib.Dec.{ltb}
 use lib.ListN.{length, take}
 use Rattle.exec.specs.declared.Outcome.{Outcome}
 use Rattle.exec.specs.declared.Stream.{Stream}
 use Rattle.exec.specs.declared.Stream.the-variants.{Stdout, Stderr}
-use Rattle.exec.specs.Stream.{every-stream}
 use Rattle.exec.specs.Outcome.{isTruncated}
 use Rattle.ring.specs.RingLaws.{read-none}
-use Rattle.lifecycle.specs.Life.{exitKnown, isFenced, isSettled}
-use Rattle.output.specs.declared.Output.{Output}
-use Rattle.output.specs.Output.{newOutput, isDone, isDelivered}
+use Rattle.output.specs.Output.{newOutput}
 use Rattle.runner.specs.declared.runner.Runner.{Runner}
-use Rattle.runner.specs.Life.{awaitsLaunch, ticked, isReady, outcomeOf}
+use Rattle.runner.specs.Life.{ticked, outcomeOf}
 use Rattle.runner.specs.Range as Range
-use Rattle.output.specs.Outputs.{allDelivered}
 use Rattle.runner.specs.State.{outOf, base}
 use Rattle.calls.specs.Call as Call
 use Rattle.calls.specs.Call.{Conf, Call, Answer, count}
@@ -31,10 +26,9 @@ use Rattle.account.proofs.Streams.{Good, cut-is}
 use Rattle.account.proofs.Sides.{out-alike, one-per, base-behind}
 use Rattle.account.proofs.Keeps.{add-keeps}
 use Rattle.account.proofs.Range.{RangedS, range-next, Lent, opened-range}
-use Rattle.account.proofs.Finish.{Ends, ends, ends-answer, ends-fin, no-more, silent, fin-stays, chosen-ready}
+use Rattle.account.proofs.Finish.{Ends, ends, ends-answer, ends-fin, no-more, silent, fin-stays}
 use Rattle.account.proofs.Lives.{tick-inv}
-use Rattle.account.proofs.Flags.{and-l, and-r, four}
-use borrow.Author.Tests.{not-true}
+use Rattle.account.proofs.Still.{chosen-ready, ready-empty}
 use Rattle.account.proofs.EachCall.{InvS, Roomy, step-inv, roomy-next}
 
 -- ---- after Terminal: sent stays, taken grows at most
@@ -124,18 +118,6 @@ module _ (conf : Conf) (now : ℕ) (bytes lengths : List ℕ) (op : Lent (conf .
 
 pub once : (s : State) (c : Call) (ds : List Call) → isTerminal (answer s c) ≡ true → Silent (run (next s c) ds)
 once s c ds e = silent ds _ (ends-fin _ c (ends c _ e))
-
-emptied : (o : Output) (b : Bool) → (isDone o && b) ≡ true → ltb 0 (o .queued) ≡ false
-emptied o b e = not-true (ltb 0 (o .queued)) (and-r (o .closed) (not (ltb 0 (o .queued))) (and-l (isDone o) b e))
-
-pub ready-delivered : (s : Runner) → isReady s ≡ true → (x : Stream) → isDelivered (s .flags .detached) (outOf x s) ≡ true
-unfolding isReady
-ready-delivered s e =
-    every-stream (λ (x : Stream). isDelivered (s .flags .detached) (outOf x s))
-    (four (not (awaitsLaunch s)) (exitKnown (s .life .exit)) (allDelivered (s .outputs) (s .flags .detached)) (isSettled (s .life .settling) || isFenced (s .life .settling)) e .2)
-
-ready-empty : (s : Runner) → isReady s ≡ true → (x : Stream) → ltb 0 (outOf x s .queued) ≡ false
-ready-empty s e x = emptied (outOf x s) (outOf x s .ended || s .flags .detached) (ready-delivered s e x)
 
 -- what the outcome says of a stream is its mark
 told-cut : (s : Runner) (x : Stream) → isTruncated (outcomeOf s) x ≡ outOf x s .truncated

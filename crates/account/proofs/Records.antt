@@ -11,11 +11,12 @@ use lib.Seq.{drop-at, length-take-le, take-append-le}
 use borrow.Author.Tests.{leb-true, eqb-true}
 use Rattle.exec.specs.declared.Cause.{Cause}
 use Rattle.exec.specs.declared.Key.{Key}
+use Rattle.exec.specs.declared.Outcome.{Outcome}
 use Rattle.exec.specs.declared.Pool.the-variants as Pool
 use Rattle.exec.specs.declared.Received.{Received}
 use Rattle.exec.specs.declared.Received.the-variants as Received
 use Rattle.exec.specs.declared.Receipt.the-variants as Receipt
-use Rattle.exec.specs.declared.Refusal.the-variants.{NotAChannel}
+use Rattle.exec.specs.declared.Refusal.the-variants.{NotAChannel, BufferShort, UntoldStatus}
 use Rattle.exec.specs.declared.Reply.{Reply}
 use Rattle.exec.specs.declared.Reply.the-variants as Reply
 use Rattle.exec.specs.declared.Stream.{Stream}
@@ -29,6 +30,7 @@ use Rattle.choice.specs.declared.Choice.the-variants as Choice
 use Rattle.runner.specs.declared.runner.Runner.{Runner}
 use Rattle.runner.specs.Calls as Calls
 use Rattle.runner.specs.Calls.{storesDo}
+use Rattle.runner.specs.Life.{outcomeOf}
 use Rattle.runner.specs.Message.{choose, payload, saidFor, bufferAfter}
 use Rattle.runner.specs.Range.{stop, bytesDo, fresh}
 use Rattle.codec.specs.declared.Parsed.{Parsed}
@@ -36,9 +38,10 @@ use Rattle.codec.specs.declared.Parsed.the-variants as Parsed
 use Rattle.codec.specs.declared.Record.{Record}
 use Rattle.codec.specs.declared.Record.the-variants as Record
 use Rattle.channel.specs.Calls as Channel
-use Rattle.channel.specs.Calls.{ReadAfter, isChannel, admitted, heardAs, notedAs, parsedRead, admittedRead, admittedWrite, roomyWrite, sent, told, wrote, wroteBuffer, sentAs, sentBuffer, partBack, hasEnded}
+use Rattle.channel.specs.Calls.{ReadAfter, WriteAfter, isChannel, admitted, heardAs, notedAs, parsedRead, admittedRead, admittedWrite, room, roomyWrite, writeAfter, unwritten, asked, isLeft, sent, told, wrote, wroteBuffer, sentAs, sentBuffer, partBack, hasEnded}
 use Rattle.codec.specs.Codec.{start, size, kinded, isTyped, fitting, checked, read, laidRecord}
 use Rattle.codec.specs.RoundTrip.{payload-back, laid-front}
+use Rattle.exits.specs.Exit.{isUntold}
 use Rattle.calls.specs.Call as Call
 use Rattle.calls.specs.Call.{Conf, Call, Answer, Done}
 use Rattle.account.specs.Step as Step
@@ -46,27 +49,28 @@ use Rattle.account.specs.Step.{State, replied, receivedAs, says}
 use Rattle.account.specs.Account as Accounts
 use Rattle.account.specs.Account.{Account, account, tallyOf, cut, tickA}
 use Rattle.account.specs.Claim.{Demand3, Opens, IsPrefix, Silent, isMessage, isTerminal, anyTerminal, isStop, accountOf}
-use Rattle.account.specs.Records.{Entry, call, readRecord, writeRecord, nextEntry, readAs, wroteAs, answerEntry, afterEntries, runEntries, callOf, made, consCall, callsOf, consDone, donesOf, entryAccount, anyTerminalIn, SilentIn, Whole}
-use Rattle.account.specs.Refused.{among, ofRecords}
+use Rattle.account.specs.Records.{Entry, call, readRecord, writeRecord, nextEntry, readAs, wroteAs, answerEntry, afterEntries, runEntries, callOf, roomy, isUntaken, made, consCall, callsOf, consDone, donesOf, entryAccount, anyTerminalIn, SilentIn, Whole}
+use Rattle.account.specs.Refused.{among, ofReads, ofWrites, ofEntry}
 use Rattle.account.proofs.Plain as Plain
 use Rattle.account.proofs.Guarded.{payload-length}
-use Rattle.account.proofs.Finish.{framed, framed-conf}
+use Rattle.account.proofs.Still.{still}
+use Rattle.account.proofs.Finish.{framed, framed-conf, ends-answer}
 use Rattle.account.proofs.Lives.{confOf}
-use Rattle.account.proofs.Demand.{Fine, goes, fine-next, next-same, fine-open, open-same, opens-by, demand3}
+use Rattle.account.proofs.Demand.{Fine, goes, fine-next, next-same, answer-same, fine-open, open-same, opens-by, demand3}
 use Rattle.account.proofs.Range.{lent}
 
--- ---- a refusal of the record's own, 13 or 20 to 25: no call was made
+-- ---- a refusal of the record's own: no call was made
 
-pub record Unmade (before after : State) (a : Answer) : Type 0 where
+pub record Unmade (e : Entry) (before after : State) (a : Answer) : Type 0 where
   pub kept : after ≡ before
   pub refusal : ℕ
   pub answered : a ≡ Call.Refused refusal
-  pub own : among refusal ofRecords ≡ true
+  pub own : among refusal (ofEntry e) ≡ true
 
 -- what an entry does, by the call that it makes
-unfoldable pub Does : Option Call → (s after : State) → Answer → Type 0
-Does none s after a = Unmade s after a
-Does (some c) s after a = (after ≡ Step.next s c) × (a ≡ Step.answer s c)
+unfoldable pub Does : Entry → Option Call → (s after : State) → Answer → Type 0
+Does e none s after a = Unmade e s after a
+Does e (some c) s after a = (after ≡ Step.next s c) × (a ≡ Step.answer s c)
 
 -- ---- a record read
 
@@ -86,7 +90,7 @@ leaves x = record { runner = x .reading .runner; bytes = x .bytes; lengths = x .
 -- the reader's refusals are its own
 OwnRefusal : Parsed → Type 0
 OwnRefusal (Parsed.Read rec) = Unit
-OwnRefusal (Parsed.Refused x) = among (number x) ofRecords ≡ true
+OwnRefusal (Parsed.Refused x) = among (number x) ofReads ≡ true
 
 either : (b : Bool) (p q : Parsed) → OwnRefusal p → OwnRefusal q → OwnRefusal (cond b p q)
 either true p q hp hq = hp
@@ -106,16 +110,16 @@ own-read channel s =
     either (eqb kind 93) _ _ tt (either (eqb kind 94) _ _ tt (either (eqb kind 95) _ _ tt (either (eqb kind 96) _ _ tt (either (eqb kind 97) _ _ tt refl)))) in
     either (eqb (length s) 0) _ _ refl (own-checked channel s (kinded kind s) k)
 
-parsed-does : (p : Parsed) (s : State) (now : ℕ) (b : List ℕ) → OwnRefusal p
-    → Does (callOf (confOf (s .runner)) now b p) s (leaves (parsedRead p (s .runner) now b (s .bytes) (s .lengths))) (readAs (parsedRead p (s .runner) now b (s .bytes) (s .lengths) .reading .answer))
+parsed-does : (p : Parsed) (s : State) (now channel : ℕ) (b : List ℕ) → OwnRefusal p
+    → Does (readRecord now channel b) (callOf (confOf (s .runner)) now b p) s (leaves (parsedRead p (s .runner) now b (s .bytes) (s .lengths))) (readAs (parsedRead p (s .runner) now b (s .bytes) (s .lengths) .reading .answer))
 unfolding OwnRefusal Does callOf parsedRead Channel.made Step.next Step.answer
-parsed-does (Parsed.Read (Record.Adjust units)) s now b h = (refl, heard-as (Calls.credit (s .runner) (s .runner .key) Pool.Output units .received))
-parsed-does (Parsed.Read (Record.Data n)) s now b h =
+parsed-does (Parsed.Read (Record.Adjust units)) s now channel b h = (refl, heard-as (Calls.credit (s .runner) (s .runner .key) Pool.Output units .received))
+parsed-does (Parsed.Read (Record.Data n)) s now channel b h =
     (refl, heard-as (Calls.input (s .runner) (s .runner .key) (drop 9 b) (s .bytes) (s .lengths) .hearing .received))
-parsed-does (Parsed.Read (Record.Extended n)) s now b h = record { kept = refl; refusal = 24; answered = refl; own = refl }
-parsed-does (Parsed.Read Record.Eof) s now b h = (refl, heard-as (Calls.endInput (s .runner) (s .runner .key) .received))
-parsed-does (Parsed.Read Record.Close) s now b h = (refl, noted-as (Calls.disconnect (s .runner) now .reply))
-parsed-does (Parsed.Refused x) s now b h = record { kept = refl; refusal = number x; answered = refl; own = h }
+parsed-does (Parsed.Read (Record.Extended n)) s now channel b h = record { kept = refl; refusal = 24; answered = refl; own = refl }
+parsed-does (Parsed.Read Record.Eof) s now channel b h = (refl, heard-as (Calls.endInput (s .runner) (s .runner .key) .received))
+parsed-does (Parsed.Read Record.Close) s now channel b h = (refl, noted-as (Calls.disconnect (s .runner) now .reply))
+parsed-does (Parsed.Refused x) s now channel b h = record { kept = refl; refusal = number x; answered = refl; own = h }
 
 -- what is met before a record, for a runner in range with its stores
 pub admitted-so : (r : Runner) (stores : Bool) → stop r stores ≡ Reply.Ok → admitted r stores ≡ cond (isChannel (r .limits)) Reply.Ok (Reply.Refused NotAChannel)
@@ -123,11 +127,11 @@ unfolding admitted
 admitted-so r stores g = rw g refl
 
 pub read-by : (channels : Bool) (s : State) (now channel : ℕ) (b : List ℕ)
-    → Does (cond channels (callOf (confOf (s .runner)) now b (read channel b)) none) s
+    → Does (readRecord now channel b) (cond channels (callOf (confOf (s .runner)) now b (read channel b)) none) s
     (leaves (admittedRead (cond channels Reply.Ok (Reply.Refused NotAChannel)) (s .runner) now channel b (s .bytes) (s .lengths)))
     (readAs (admittedRead (cond channels Reply.Ok (Reply.Refused NotAChannel)) (s .runner) now channel b (s .bytes) (s .lengths) .reading .answer))
 unfolding Does admittedRead
-read-by true s now channel b = parsed-does (read channel b) s now b (own-read channel b)
+read-by true s now channel b = parsed-does (read channel b) s now channel b (own-read channel b)
 read-by false s now channel b = record { kept = refl; refusal = 13; answered = refl; own = refl }
 
 -- ---- a record written
@@ -150,7 +154,7 @@ part-long k buffer part n h m = simp (length-append, length-take-le 13 buffer h)
 
 -- what is told of a message is what next_message answered
 output-told : (x : Stream) (channel n k : ℕ) (ended : Bool) (buffer part : List ℕ) → 13 ≤ length buffer → n ≤ length part
-    → wroteAs (wrote ended (Said.Message (Message.Output x n))) (wroteBuffer channel ended (Said.Message (Message.Output x n)) (partBack k buffer part)) ≡ Call.Says (Call.Output x (take n part))
+    → wroteAs (wrote channel ended (Said.Message (Message.Output x n))) (wroteBuffer channel ended (Said.Message (Message.Output x n)) (partBack k buffer part)) ≡ Call.Says (Call.Output x (take n part))
 unfolding wrote wroteBuffer sentAs sentBuffer
 output-told Stdout channel n k ended buffer part h m =
     ap (λ (b : List ℕ). Call.Says (Call.Output Stdout b))
@@ -161,7 +165,7 @@ output-told Stderr channel n k ended buffer part h m =
 
 choice-told : (m : Choice) (r : Runner) (store part buffer : List ℕ) (channel k : ℕ) (ended : Bool) → 13 ≤ length buffer
     → ((x : Stream) (n : ℕ) → Choice.Output x n ≡ m → length (payload r x n store) ≡ n)
-    → wroteAs (wrote ended (saidFor m r)) (wroteBuffer channel ended (saidFor m r) (partBack k buffer (bufferAfter m r store part)))
+    → wroteAs (wrote channel ended (saidFor m r)) (wroteBuffer channel ended (saidFor m r) (partBack k buffer (bufferAfter m r store part)))
     ≡ says (saidFor m r) (bufferAfter m r store part)
 unfolding saidFor bufferAfter wrote wroteBuffer sentAs
 choice-told Choice.None r store part buffer channel k ended h l = refl
@@ -173,29 +177,111 @@ choice-told (Choice.Output x n) r store part buffer channel k ended h l =
     output-told x channel n k ended buffer (payload r x n store ++ drop n part) h (simp length-append (omega (arith, l x n refl)))
 choice-told Choice.Terminal r store part buffer channel k ended h l = refl
 
-sent-does : (s : State) (channel : ℕ) (buffer : List ℕ) → stop (s .runner) (bytesDo (s .runner .limits) (s .bytes)) ≡ Reply.Ok → 13 ≤ length buffer
-    → Does (some (Call.nextMessage (take (s .runner .limits .chunk) (drop 13 buffer)))) s
-    (Step.onRunner (sent (s .runner) channel (s .bytes) buffer .writing .runner) s)
-    (wroteAs (sent (s .runner) channel (s .bytes) buffer .writing .wrote) (sent (s .runner) channel (s .bytes) buffer .buffer))
-unfolding Does sent told Step.next Step.answer Calls.nextMessage
-sent-does s channel buffer g h =
-    let part = take (s .runner .limits .chunk) (drop 13 buffer) in (
-      refl,
-      rw g (choice-told (choose (s .runner) (length part)) (s .runner) (s .bytes) part buffer channel (s .runner .limits .chunk) (hasEnded (s .runner)) h (λ x n e. payload-length s part x n g e)),
-    )
+-- and is no refusal
+choice-as : (C : Answer → Type 0) → C Call.Nothing → ((x : Call.Message) → C (Call.Says x))
+    → (m : Choice) (r : Runner) (channel : ℕ) (ended : Bool) (b : List ℕ) → C (wroteAs (wrote channel ended (saidFor m r)) b)
+unfolding saidFor wrote
+choice-as C n h Choice.None r channel ended b = n
+choice-as C n h Choice.Credit r channel ended b = h _
+choice-as C n h Choice.Started r channel ended b = h _
+choice-as C n h Choice.InputClosed r channel ended b = h _
+choice-as C n h (Choice.End x) r channel ended b = h _
+choice-as C n h (Choice.Output x k) r channel ended b = h _
+choice-as C n h Choice.Terminal r channel ended b = h _
 
-pub write-by : (channels room : Bool) (s : State) (channel : ℕ) (buffer : List ℕ) → stop (s .runner) (bytesDo (s .runner .limits) (s .bytes)) ≡ Reply.Ok
-    → leb (13 + s .runner .limits .chunk) (length buffer) ≡ room
-    → Does (cond (channels && room) (some (Call.nextMessage (take (s .runner .limits .chunk) (drop 13 buffer)))) none) s
-    (Step.onRunner (admittedWrite (cond channels Reply.Ok (Reply.Refused NotAChannel)) (s .runner) channel (s .bytes) buffer .writing .runner) s)
-    (wroteAs (admittedWrite (cond channels Reply.Ok (Reply.Refused NotAChannel)) (s .runner) channel (s .bytes) buffer .writing .wrote)
-    (admittedWrite (cond channels Reply.Ok (Reply.Refused NotAChannel)) (s .runner) channel (s .bytes) buffer .buffer))
-unfolding Does admittedWrite roomyWrite
-write-by true true s channel buffer g e =
-    rw e (sent-does s channel buffer g (omega (arith, leb-true (13 + s .runner .limits .chunk) (length buffer) e)))
-write-by true false s channel buffer g e = rw e (record { kept = refl; refusal = 25; answered = refl; own = refl })
-write-by false true s channel buffer g e = record { kept = refl; refusal = 13; answered = refl; own = refl }
-write-by false false s channel buffer g e = record { kept = refl; refusal = 13; answered = refl; own = refl }
+-- what is left is Terminal
+choice-left : (m : Choice) (r : Runner) → isLeft (saidFor m r) ≡ true → (m ≡ Choice.Terminal) × (isUntold (outcomeOf r .status) ≡ true)
+unfolding saidFor isLeft
+choice-left Choice.None r e = absurd (false≢true e)
+choice-left Choice.Credit r e = absurd (false≢true e)
+choice-left Choice.Started r e = absurd (false≢true e)
+choice-left Choice.InputClosed r e = absurd (false≢true e)
+choice-left (Choice.End x) r e = absurd (false≢true e)
+choice-left (Choice.Output x n) r e = absurd (false≢true e)
+choice-left Choice.Terminal r e = (refl, e)
+
+-- the message is taken and told
+abbrev pub tells : State → (channel : ℕ) (buffer : List ℕ) → WriteAfter
+tells s channel buffer =
+    told (asked (s .runner) (s .bytes) buffer .saying) (hasEnded (s .runner)) channel
+    (partBack (s .runner .limits .chunk) buffer (asked (s .runner) (s .bytes) buffer .buffer))
+
+-- what a write leaves, by whether it is for a channel and there is room: it is refused by 13, 25 or 40, or its message is told
+pub data Writes (s : State) (channel : ℕ) (buffer : List ℕ) : Bool → WriteAfter → Type 0 where
+  elsewhere : Writes s channel buffer false (writeAfter (unwritten NotAChannel (s .runner)) buffer)
+  short : Writes s channel buffer false (writeAfter (unwritten BufferShort (s .runner)) buffer)
+  left : isLeft (asked (s .runner) (s .bytes) buffer .saying .said) ≡ true → Writes s channel buffer true (writeAfter (unwritten UntoldStatus (s .runner)) buffer)
+  taken : isLeft (asked (s .runner) (s .bytes) buffer .saying .said) ≡ false → 13 ≤ length buffer → Writes s channel buffer true (tells s channel buffer)
+
+write-by : (channels roomy isleft : Bool) (s : State) (channel : ℕ) (buffer : List ℕ) → leb (room (s .runner .limits)) (length buffer) ≡ roomy
+    → isLeft (asked (s .runner) (s .bytes) buffer .saying .said) ≡ isleft
+    → Writes s channel buffer (channels && roomy) (admittedWrite (cond channels Reply.Ok (Reply.Refused NotAChannel)) (s .runner) channel (s .bytes) buffer)
+unfolding admittedWrite roomyWrite sent
+write-by false roomy isleft s channel buffer e u = elsewhere
+write-by true false isleft s channel buffer e u = rw e short
+write-by true true true s channel buffer e u = rw (e, u) (left u)
+write-by true true false s channel buffer e u = rw (e, u) (taken u (omega (arith, leb-true (room (s .runner .limits)) (length buffer) e)))
+
+pub writes : (s : State) (channel : ℕ) (buffer : List ℕ) → stop (s .runner) (bytesDo (s .runner .limits) (s .bytes)) ≡ Reply.Ok
+    → Writes s channel buffer (isChannel (s .runner .limits) && leb (room (s .runner .limits)) (length buffer)) (Channel.writeRecord (s .runner) channel (s .bytes) buffer)
+unfolding Channel.writeRecord
+writes s channel buffer g =
+    rw (admitted-so (s .runner) (bytesDo (s .runner .limits) (s .bytes)) g)
+    (write-by (isChannel (s .runner .limits)) (leb (room (s .runner .limits)) (length buffer)) (isLeft (asked (s .runner) (s .bytes) buffer .saying .said)) s channel buffer refl refl)
+
+abbrev pub answers : WriteAfter → Answer
+answers w = wroteAs (w .writing .wrote) (w .buffer)
+
+module _ (s : State) (channel : ℕ) (buffer : List ℕ) (g : stop (s .runner) (bytesDo (s .runner .limits) (s .bytes)) ≡ Reply.Ok) where
+  abbrev part : List ℕ
+  part = take (s .runner .limits .chunk) (drop 13 buffer)
+
+  pub told-as : (C : Answer → Type 0) → C Call.Nothing → ((x : Call.Message) → C (Call.Says x)) → C (answers (tells s channel buffer))
+  unfolding told asked Calls.nextMessage
+  told-as C n h = rw g (choice-as C n h (choose (s .runner) (length part)) (s .runner) channel (hasEnded (s .runner)) _)
+
+  told-taken : isUntaken (answers (tells s channel buffer)) ≡ false
+  told-taken = told-as (λ (a : Answer). isUntaken a ≡ false) refl (λ x. refl)
+
+  told-does : 13 ≤ length buffer → Does (writeRecord channel buffer) (some (Call.nextMessage part)) s (Step.onRunner (tells s channel buffer .writing .runner) s) (answers (tells s channel buffer))
+  unfolding Does told asked Step.next Step.answer Calls.nextMessage
+  told-does h = (
+    refl,
+    rw g (choice-told (choose (s .runner) (length part)) (s .runner) (s .bytes) part buffer channel (s .runner .limits .chunk) (hasEnded (s .runner)) h (λ x n e. payload-length s part x n g e)),
+  )
+
+  written-does : (met : Bool) (w : WriteAfter) → Writes s channel buffer met w
+      → Does (writeRecord channel buffer) (cond met (cond (isUntaken (answers w)) none (some (Call.nextMessage part))) none) s (Step.onRunner (w .writing .runner) s) (answers w)
+  unfolding Does
+  written-does met w elsewhere = record { kept = refl; refusal = 13; answered = refl; own = refl }
+  written-does met w short = record { kept = refl; refusal = 25; answered = refl; own = refl }
+  written-does met w (left u) = record { kept = refl; refusal = 40; answered = refl; own = refl }
+  written-does met w (taken u h) = rw told-taken (told-does h)
+
+  -- where it is left, Terminal is chosen, for this buffer and so for any
+  left-chosen : (met : Bool) (w : WriteAfter) → Writes s channel buffer met w → isUntaken (answers w) ≡ true
+      → (choose (s .runner) (length part) ≡ Choice.Terminal) × (isUntold (outcomeOf (s .runner) .status) ≡ true)
+  unfolding asked Calls.nextMessage
+  left-chosen met w elsewhere e = absurd (false≢true e)
+  left-chosen met w short e = absurd (false≢true e)
+  left-chosen met w (left u) e = choice-left (choose (s .runner) (length part)) (s .runner) (rw g at u)
+  left-chosen met w (taken u h) e = absurd (false≢true (sym told-taken ∙ e))
+
+-- ---- an entry does what its call does, of a runner in range with its stores
+
+abbrev pub EntryDoes : Conf → Entry → State → Type 0
+EntryDoes conf e s = Does e (made conf e (answerEntry s e)) s (nextEntry s e) (answerEntry s e)
+
+pub read-does : (s : State) (now channel : ℕ) (b : List ℕ) → stop (s .runner) (storesDo (s .runner) (s .bytes) (s .lengths)) ≡ Reply.Ok
+    → EntryDoes (confOf (s .runner)) (readRecord now channel b) s
+unfolding made nextEntry answerEntry Channel.readRecord
+read-does s now channel b g =
+    rw (admitted-so (s .runner) (storesDo (s .runner) (s .bytes) (s .lengths)) g) (read-by (isChannel (s .runner .limits)) s now channel b)
+
+pub write-does : (s : State) (channel : ℕ) (buffer : List ℕ) → stop (s .runner) (bytesDo (s .runner .limits) (s .bytes)) ≡ Reply.Ok
+    → EntryDoes (confOf (s .runner)) (writeRecord channel buffer) s
+unfolding made nextEntry answerEntry
+write-does s channel buffer g = written-does s channel buffer g _ _ (writes s channel buffer g)
 
 -- ---- an entry, at a state that came from open
 
@@ -203,109 +289,134 @@ pub record Good (conf : Conf) (s : State) : Type 0 where
   pub fine : Fine s
   pub same : confOf (s .runner) ≡ conf
 
-does-so : (e : Entry) (s : State) → Fine s → Does (made (confOf (s .runner)) e) s (nextEntry s e) (answerEntry s e)
-unfolding Does made nextEntry answerEntry Channel.readRecord Channel.writeRecord Plain.enough
+does-so : (e : Entry) (s : State) → Fine s → EntryDoes (confOf (s .runner)) e s
+unfolding Does made nextEntry answerEntry Plain.enough
 does-so (call c) s f = (refl, refl)
-does-so (readRecord now channel b) s f =
-    rw (admitted-so (s .runner) (storesDo (s .runner) (s .bytes) (s .lengths)) (goes s (Call.input (s .runner .key) b) f))
-    (read-by (isChannel (s .runner .limits)) s now channel b)
-does-so (writeRecord channel buffer) s f =
-    let g : stop (s .runner) (bytesDo (s .runner .limits) (s .bytes)) ≡ Reply.Ok = goes s (Call.nextMessage buffer) f in
-    rw (admitted-so (s .runner) (bytesDo (s .runner .limits) (s .bytes)) g)
-    (write-by (isChannel (s .runner .limits)) (leb (13 + s .runner .limits .chunk) (length buffer)) s channel buffer g refl)
+does-so (readRecord now channel b) s f = read-does s now channel b (goes s (Call.input (s .runner .key) b) f)
+does-so (writeRecord channel buffer) s f = write-does s channel buffer (goes s (Call.nextMessage buffer) f)
 
-pub does : (conf : Conf) (e : Entry) (s : State) → Good conf s → Does (made conf e) s (nextEntry s e) (answerEntry s e)
-does conf e s h = subst (λ (k : Conf). Does (made k e) s (nextEntry s e) (answerEntry s e)) (h .same) (does-so e s (h .fine))
+pub does : (conf : Conf) (e : Entry) (s : State) → Good conf s → EntryDoes conf e s
+does conf e s h = subst (λ (k : Conf). EntryDoes k e s) (h .same) (does-so e s (h .fine))
 
 good-next : (conf : Conf) (c : Call) (s : State) → Good conf s → Good conf (Step.next s c)
 good-next conf c s h =
     rw (next-same s c (h .fine)) (record { fine = fine-next c s (h .fine); same = framed-conf (framed c s) ∙ h .same })
 
-good-by : (conf : Conf) (m : Option Call) (s after : State) (a : Answer) → Does m s after a → Good conf s → Good conf after
+good-by : (conf : Conf) (x : Entry) (m : Option Call) (s after : State) (a : Answer) → Does x m s after a → Good conf s → Good conf after
 unfolding Does
-good-by conf none s after a d h = subst⁻¹ (Good conf) (d .kept) h
-good-by conf (some c) s after a d h = subst⁻¹ (Good conf) (d .0) (good-next conf c s h)
+good-by conf x none s after a d h = subst⁻¹ (Good conf) (d .kept) h
+good-by conf x (some c) s after a d h = subst⁻¹ (Good conf) (d .0) (good-next conf c s h)
 
 pub good-entry : (conf : Conf) (e : Entry) (s : State) → Good conf s → Good conf (nextEntry s e)
-good-entry conf e s h = good-by conf (made conf e) s (nextEntry s e) (answerEntry s e) (does conf e s h) h
+good-entry conf e s h = good-by conf e (made conf e (answerEntry s e)) s (nextEntry s e) (answerEntry s e) (does conf e s h) h
 
 pub good-list : (conf : Conf) (es : List Entry) (s : State) → Good conf s → Good conf (afterEntries s es)
 good-list conf [] s h = h
 good-list conf (e ∷ es) s h = good-list conf es (nextEntry s e) (good-entry conf e s h)
 
+-- a Terminal that a write left is still the next message
+left-untold : (s : State) (channel : ℕ) (buffer : List ℕ) → Fine s → isUntaken (answerEntry s (writeRecord channel buffer)) ≡ true → (part : List ℕ)
+    → (o : Outcome) × (Step.answer s (Call.nextMessage part) ≡ Call.Says (Call.Terminal o)) × (isUntold (o .status) ≡ true)
+unfolding answerEntry Plain.enough
+left-untold s channel buffer f e part =
+    let g : stop (s .runner) (bytesDo (s .runner .limits) (s .bytes)) ≡ Reply.Ok = goes s (Call.nextMessage buffer) f in
+    let p = left-chosen s channel buffer g _ _ (writes s channel buffer g) e in (
+      outcomeOf (s .runner),
+      answer-same s (Call.nextMessage part) f ∙ ends-answer s (Call.nextMessage part) (record { buffer = part; call = refl; chosen = still (s .runner) _ (length part) (p .0) }),
+      p .1,
+    )
+
+-- so where no Terminal is next, an entry makes what it makes where it is not refused by 40
+pub made-so : (conf : Conf) (e : Entry) (c : Call) (s : State) → Good conf s → made conf e Call.Ok ≡ some c → isTerminal (Step.answer s c) ≡ false
+    → made conf e (answerEntry s e) ≡ some c
+unfolding made
+made-so conf (call x) c s g k h = k
+made-so conf (readRecord now channel b) c s g k h = k
+made-so conf (writeRecord channel buffer) c s g k h = at (isChannel (conf .limits) && roomy conf buffer) (isUntaken (answerEntry s (writeRecord channel buffer))) refl k
+  where
+    part : List ℕ
+    part = take (conf .limits .chunk) (drop 13 buffer)
+
+    at : (b u : Bool) → isUntaken (answerEntry s (writeRecord channel buffer)) ≡ u → cond b (some (Call.nextMessage part)) none ≡ some c
+        → cond b (cond u none (some (Call.nextMessage part))) none ≡ some c
+    at false u e k = k
+    at true false e k = k
+    at true true e k =
+        let q : Call.nextMessage part ≡ c = cc in
+        absurd (false≢true (sym h ∙ ap (λ (x : Call). isTerminal (Step.answer s x)) (sym q) ∙ ap isTerminal (left-untold s channel buffer (g .fine) e part .1)))
+
 -- ---- a list of entries is the list of its calls
 
-after-by : (m : Option Call) (s after : State) (a : Answer) (cs : List Call) → Does m s after a → Step.after after cs ≡ Step.after s (consCall m cs)
+after-by : (x : Entry) (m : Option Call) (s after : State) (a : Answer) (cs : List Call) → Does x m s after a → Step.after after cs ≡ Step.after s (consCall m cs)
 unfolding Does
-after-by none s after a cs d = ap (λ (t : State). Step.after t cs) (d .kept)
-after-by (some c) s after a cs d = ap (λ (t : State). Step.after t cs) (d .0)
+after-by x none s after a cs d = ap (λ (t : State). Step.after t cs) (d .kept)
+after-by x (some c) s after a cs d = ap (λ (t : State). Step.after t cs) (d .0)
 
-run-by : (m : Option Call) (s after : State) (a : Answer) (cs : List Call) → Does m s after a
+run-by : (x : Entry) (m : Option Call) (s after : State) (a : Answer) (cs : List Call) → Does x m s after a
     → consDone m a (Step.run after cs) ≡ Step.run s (consCall m cs)
 unfolding Does
-run-by none s after a cs d = ap (λ (t : State). Step.run t cs) (d .kept)
-run-by (some c) s after a cs d = rw (d .0, d .1) refl
+run-by x none s after a cs d = ap (λ (t : State). Step.run t cs) (d .kept)
+run-by x (some c) s after a cs d = rw (d .0, d .1) refl
 
-any-by : (m : Option Call) (s after : State) (a : Answer) (cs : List Call) → Does m s after a
+any-by : (x : Entry) (m : Option Call) (s after : State) (a : Answer) (cs : List Call) → Does x m s after a
     → (isTerminal a || anyTerminal (Step.run after cs)) ≡ anyTerminal (Step.run s (consCall m cs))
 unfolding Does
-any-by none s after a cs d = rw (d .answered, d .kept) refl
-any-by (some c) s after a cs d = rw (d .0, d .1) refl
+any-by x none s after a cs d = rw (d .answered, d .kept) refl
+any-by x (some c) s after a cs d = rw (d .0, d .1) refl
 
-silent-by : (m : Option Call) (s after : State) (a : Answer) (cs : List Call) → Does m s after a → Silent (Step.run s (consCall m cs))
+silent-by : (x : Entry) (m : Option Call) (s after : State) (a : Answer) (cs : List Call) → Does x m s after a → Silent (Step.run s (consCall m cs))
     → (isMessage a ≡ false) × Silent (Step.run after cs)
 unfolding Does
-silent-by none s after a cs d h = (rw (d .answered) refl, rw (d .kept) h)
-silent-by (some c) s after a cs d h = (rw (d .1) (h .0), rw (d .0) (h .1))
+silent-by x none s after a cs d h = (rw (d .answered) refl, rw (d .kept) h)
+silent-by x (some c) s after a cs d h = (rw (d .1) (h .0), rw (d .0) (h .1))
 
 module _ (conf : Conf) where
-  same-after : (es : List Entry) (s : State) → Good conf s → afterEntries s es ≡ Step.after s (callsOf conf es)
+  same-after : (es : List Entry) (s : State) → Good conf s → afterEntries s es ≡ Step.after s (callsOf conf (runEntries s es))
   same-after [] s h = refl
   same-after (e ∷ es) s h =
       same-after es (nextEntry s e) (good-entry conf e s h)
-      ∙ after-by (made conf e) s (nextEntry s e) (answerEntry s e) (callsOf conf es) (does conf e s h)
+      ∙ after-by e (made conf e (answerEntry s e)) s (nextEntry s e) (answerEntry s e) (callsOf conf (runEntries (nextEntry s e) es)) (does conf e s h)
 
-  pub same-dones : (es : List Entry) (s : State) → Good conf s → donesOf conf (runEntries s es) ≡ Step.run s (callsOf conf es)
+  pub same-dones : (es : List Entry) (s : State) → Good conf s → donesOf conf (runEntries s es) ≡ Step.run s (callsOf conf (runEntries s es))
   same-dones [] s h = refl
   same-dones (e ∷ es) s h =
-      ap (consDone (made conf e) (answerEntry s e)) (same-dones es (nextEntry s e) (good-entry conf e s h))
-      ∙ run-by (made conf e) s (nextEntry s e) (answerEntry s e) (callsOf conf es) (does conf e s h)
+      ap (consDone (made conf e (answerEntry s e)) (answerEntry s e)) (same-dones es (nextEntry s e) (good-entry conf e s h))
+      ∙ run-by e (made conf e (answerEntry s e)) s (nextEntry s e) (answerEntry s e) (callsOf conf (runEntries (nextEntry s e) es)) (does conf e s h)
 
-  same-any : (es : List Entry) (s : State) → Good conf s → anyTerminalIn (runEntries s es) ≡ anyTerminal (Step.run s (callsOf conf es))
+  same-any : (es : List Entry) (s : State) → Good conf s → anyTerminalIn (runEntries s es) ≡ anyTerminal (Step.run s (callsOf conf (runEntries s es)))
   same-any [] s h = refl
   same-any (e ∷ es) s h =
       ap (λ (b : Bool). isTerminal (answerEntry s e) || b) (same-any es (nextEntry s e) (good-entry conf e s h))
-      ∙ any-by (made conf e) s (nextEntry s e) (answerEntry s e) (callsOf conf es) (does conf e s h)
+      ∙ any-by e (made conf e (answerEntry s e)) s (nextEntry s e) (answerEntry s e) (callsOf conf (runEntries (nextEntry s e) es)) (does conf e s h)
 
-  same-silent : (es : List Entry) (s : State) → Good conf s → Silent (Step.run s (callsOf conf es)) → SilentIn (runEntries s es)
+  same-silent : (es : List Entry) (s : State) → Good conf s → Silent (Step.run s (callsOf conf (runEntries s es))) → SilentIn (runEntries s es)
   same-silent [] s h q = tt
   same-silent (e ∷ es) s h q =
-      let p = silent-by (made conf e) s (nextEntry s e) (answerEntry s e) (callsOf conf es) (does conf e s h) q in
+      let p = silent-by e (made conf e (answerEntry s e)) s (nextEntry s e) (answerEntry s e) (callsOf conf (runEntries (nextEntry s e) es)) (does conf e s h) q in
       (p .0, same-silent es (nextEntry s e) (good-entry conf e s h) (p .1))
 
   calls-cons : (m : Option Call) (xs ys : List Call) → consCall m (xs ++ ys) ≡ consCall m xs ++ ys
   calls-cons none xs ys = refl
   calls-cons (some c) xs ys = refl
 
-  pub calls-append : (xs ys : List Entry) → callsOf conf (xs ++ ys) ≡ callsOf conf xs ++ callsOf conf ys
-  calls-append [] ys = refl
-  calls-append (e ∷ xs) ys = ap (consCall (made conf e)) (calls-append xs ys) ∙ calls-cons (made conf e) (callsOf conf xs) (callsOf conf ys)
+  -- a list behind another runs from where that one left
+  pub calls-append : (xs ys : List Entry) (s : State)
+      → callsOf conf (runEntries s (xs ++ ys)) ≡ callsOf conf (runEntries s xs) ++ callsOf conf (runEntries (afterEntries s xs) ys)
+  calls-append [] ys s = refl
+  calls-append (e ∷ xs) ys s =
+      ap (consCall (made conf e (answerEntry s e))) (calls-append xs ys (nextEntry s e))
+      ∙ calls-cons (made conf e (answerEntry s e)) (callsOf conf (runEntries (nextEntry s e) xs)) (callsOf conf (runEntries (afterEntries (nextEntry s e) xs) ys))
 
 -- an answer that is Terminal is a call's
-terminal-made : (m : Option Call) (s after : State) (a : Answer) → Does m s after a → isTerminal a ≡ true
+terminal-made : (x : Entry) (m : Option Call) (s after : State) (a : Answer) → Does x m s after a → isTerminal a ≡ true
     → (c : Call) × (after ≡ Step.next s c) × (a ≡ Step.answer s c) × (m ≡ some c)
 unfolding Does
-terminal-made none s after a d h = absurd (false≢true (sym (ap isTerminal (d .answered)) ∙ h))
-terminal-made (some c) s after a d h = (c, d .0, d .1, refl)
+terminal-made x none s after a d h = absurd (false≢true (sym (ap isTerminal (d .answered)) ∙ h))
+terminal-made x (some c) s after a d h = (c, d .0, d .1, refl)
 
--- and an entry that makes a call is answered as it
-pub made-answer : (m : Option Call) (c : Call) (s after : State) (a : Answer) → m ≡ some c → Does m s after a → a ≡ Step.answer s c
+unmade-as : (x : Entry) (m : Option Call) (s after : State) (a : Answer) → m ≡ none → Does x m s after a → (after ≡ s) × ((n : ℕ) × (a ≡ Call.Refused n))
 unfolding Does
-made-answer m c s after a e d = let q : Does (some c) s after a = rw e at d in q .1
-
-unmade-as : (m : Option Call) (s after : State) (a : Answer) → m ≡ none → Does m s after a → (after ≡ s) × ((n : ℕ) × (a ≡ Call.Refused n))
-unfolding Does
-unmade-as m s after a e d = let u : Unmade s after a = rw e at d in (u .kept, (u .refusal, u .answered))
+unmade-as x m s after a e d = let u : Unmade x s after a = rw e at d in (u .kept, (u .refusal, u .answered))
 
 -- the records' own refusals are none of 10, 11 and 12
 abbrev IsCalm : ℕ → Type 0
@@ -323,13 +434,15 @@ calm-in : (n : ℕ) (xs : List ℕ) → AllCalm xs → among n xs ≡ true → I
 calm-in n [] h e = absurd (false≢true e)
 calm-in n (x ∷ xs) h e = calm-at (eqb n x) n x (among n xs) refl (h .0) (calm-in n xs (h .1)) e
 
-own-calm : (n : ℕ) → among n ofRecords ≡ true → IsCalm n
-own-calm n h = calm-in n ofRecords (refl, (refl, (refl, (refl, (refl, (refl, (refl, tt))))))) h
+own-calm : (e : Entry) (n : ℕ) → among n (ofEntry e) ≡ true → IsCalm n
+own-calm (call c) n h = calm-in n [] tt h
+own-calm (readRecord now channel b) n h = calm-in n ofReads (refl, (refl, (refl, (refl, (refl, (refl, tt)))))) h
+own-calm (writeRecord channel buffer) n h = calm-in n ofWrites (refl, (refl, (refl, tt))) h
 
-ranged-by : (m : Option Call) (s after : State) (a : Answer) → Does m s after a → ((c : Call) → isStop (Step.answer s c) ≡ false) → isStop a ≡ false
+ranged-by : (x : Entry) (m : Option Call) (s after : State) (a : Answer) → Does x m s after a → ((c : Call) → isStop (Step.answer s c) ≡ false) → isStop a ≡ false
 unfolding Does
-ranged-by none s after a d h = ap isStop (d .answered) ∙ own-calm (d .refusal) (d .own)
-ranged-by (some c) s after a d h = ap isStop (d .1) ∙ h c
+ranged-by x none s after a d h = ap isStop (d .answered) ∙ own-calm x (d .refusal) (d .own)
+ranged-by x (some c) s after a d h = ap isStop (d .1) ∙ h c
 
 -- ---- the demand
 
@@ -343,11 +456,15 @@ module _ (conf : Conf) (now : ℕ) (bytes lengths : List ℕ) (op : Opens conf n
   pub good-at : (es : List Entry) → Good conf (afterEntries (Step.opened conf now bytes lengths) es)
   good-at es = good-list conf es (Step.opened conf now bytes lengths) good-open
 
-  pub to-calls : (es : List Entry) → afterEntries (Step.opened conf now bytes lengths) es ≡ Step.after (Step.opened conf now bytes lengths) (callsOf conf es)
+  -- the calls of a list from open
+  abbrev pub calls : List Entry → List Call
+  calls es = callsOf conf (runEntries (Step.opened conf now bytes lengths) es)
+
+  to-calls : (es : List Entry) → afterEntries (Step.opened conf now bytes lengths) es ≡ Step.after (Step.opened conf now bytes lengths) (calls es)
   to-calls es = same-after conf es (Step.opened conf now bytes lengths) good-open
 
   -- THE LIST WITH RECORDS HAS THE ACCOUNT OF THE LIST OF ITS CALLS
-  pub same-account : (es : List Entry) → entryAccount conf now bytes lengths es ≡ accountOf conf now bytes lengths (callsOf conf es)
+  pub same-account : (es : List Entry) → entryAccount conf now bytes lengths es ≡ accountOf conf now bytes lengths (calls es)
   same-account es = ap (λ (ds : List Done). account (Accounts.start conf now) ds) (same-dones conf es (Step.opened conf now bytes lengths) good-open)
 
   d3 : Demand3 conf now bytes lengths
@@ -355,41 +472,47 @@ module _ (conf : Conf) (now : ℕ) (bytes lengths : List ℕ) (op : Opens conf n
 
   -- what Terminal's entry did, as a call after the calls
   pub at-terminal : (es : List Entry) (e : Entry) → isTerminal (answerEntry (afterEntries (Step.opened conf now bytes lengths) es) e) ≡ true
-      → (c : Call) × (nextEntry (afterEntries (Step.opened conf now bytes lengths) es) e ≡ Step.next (Step.after (Step.opened conf now bytes lengths) (callsOf conf es)) c)
-      × (answerEntry (afterEntries (Step.opened conf now bytes lengths) es) e ≡ Step.answer (Step.after (Step.opened conf now bytes lengths) (callsOf conf es)) c)
-      × (made conf e ≡ some c)
+      → (c : Call) × (nextEntry (afterEntries (Step.opened conf now bytes lengths) es) e ≡ Step.next (Step.after (Step.opened conf now bytes lengths) (calls es)) c)
+      × (answerEntry (afterEntries (Step.opened conf now bytes lengths) es) e ≡ Step.answer (Step.after (Step.opened conf now bytes lengths) (calls es)) c)
+      × (made conf e (answerEntry (afterEntries (Step.opened conf now bytes lengths) es) e) ≡ some c)
   at-terminal es e h =
       let s : State = afterEntries (Step.opened conf now bytes lengths) es in
-      let q = terminal-made (made conf e) s (nextEntry s e) (answerEntry s e) (does conf e s (good-at es)) h in
+      let q = terminal-made e (made conf e (answerEntry s e)) s (nextEntry s e) (answerEntry s e) (does conf e s (good-at es)) h in
       (q .0, q .1 ∙ ap (λ (t : State). Step.next t (q .0)) (to-calls es), q .2 ∙ ap (λ (t : State). Step.answer t (q .0)) (to-calls es), q .3)
 
   cancel-at : (es : List Entry) (t : ℕ) (k : Key) (c : Cause) → answerEntry (afterEntries (Step.opened conf now bytes lengths) es) (call (Call.cancel t k c)) ≡ Call.Applied
-      → Step.answer (Step.after (Step.opened conf now bytes lengths) (callsOf conf es)) (Call.cancel t k c) ≡ Call.Applied
+      → Step.answer (Step.after (Step.opened conf now bytes lengths) (calls es)) (Call.cancel t k c) ≡ Call.Applied
   unfolding answerEntry
   cancel-at es t k c e = ap (λ (s : State). Step.answer s (Call.cancel t k c)) (sym (to-calls es)) ∙ e
 
-  late-calls : (cs ds es : List Entry) (a b : Call)
-      → callsOf conf (cs ++ (call a ∷ (ds ++ (call b ∷ es)))) ≡ callsOf conf cs ++ (a ∷ (callsOf conf ds ++ (b ∷ callsOf conf es)))
+  late-calls : (cs ds es : List Entry) (a b : Call) (s : State)
+      → callsOf conf (runEntries s (cs ++ (call a ∷ (ds ++ (call b ∷ es)))))
+      ≡ callsOf conf (runEntries s cs)
+      ++ (a ∷ (callsOf conf (runEntries (nextEntry (afterEntries s cs) (call a)) ds)
+      ++ (b ∷ callsOf conf (runEntries (nextEntry (afterEntries (nextEntry (afterEntries s cs) (call a)) ds) (call b)) es))))
   unfolding made
-  late-calls cs ds es a b =
-      calls-append conf cs (call a ∷ (ds ++ (call b ∷ es)))
-      ∙ ap (λ (xs : List Call). callsOf conf cs ++ (a ∷ xs)) (calls-append conf ds (call b ∷ es))
+  late-calls cs ds es a b s =
+      calls-append conf cs (call a ∷ (ds ++ (call b ∷ es))) s
+      ∙ ap (λ (xs : List Call). callsOf conf (runEntries s cs) ++ (a ∷ xs)) (calls-append conf ds (call b ∷ es) (nextEntry (afterEntries s cs) (call a)))
 
   pub whole : Whole conf now bytes lengths
   whole = record {
-    joined = λ es x. subst⁻¹ (λ (a : Account). IsPrefix (tallyOf x a .sent) (tallyOf x a .taken)) (same-account es) (d3 .joined (callsOf conf es) x);
+    joined = λ es x. subst⁻¹ (λ (a : Account). IsPrefix (tallyOf x a .sent) (tallyOf x a .taken)) (same-account es) (d3 .joined (calls es) x);
     once = λ es e ds h. (let q = at-terminal es e h in
+        let cs = callsOf conf (runEntries (nextEntry (afterEntries (Step.opened conf now bytes lengths) es) e) ds) in
         same-silent conf ds _ (good-entry conf e _ (good-at es))
-        (subst⁻¹ (λ (s : State). Silent (Step.run s (callsOf conf ds))) (q .1)
-        (d3 .once (callsOf conf es) (q .0) (callsOf conf ds) (sym (ap isTerminal (q .2)) ∙ h))));
+        (subst⁻¹ (λ (s : State). Silent (Step.run s cs)) (q .1) (d3 .once (calls es) (q .0) cs (sym (ap isTerminal (q .2)) ∙ h))));
     marks = λ es e out h. (let q = at-terminal es e (ap isTerminal h) in
         subst⁻¹ (λ (a : Account). (x : Stream) → isTruncated out x ≡ cut (tallyOf x a)) (same-account es)
-        (d3 .marks (callsOf conf es) (q .0) out (sym (q .2) ∙ h)));
-    first = λ es t k c h. subst⁻¹ (λ (a : Account). tickA t a .rep .begun ≡ false) (same-account es) (d3 .first (callsOf conf es) t k c (cancel-at es t k c h));
-    late = λ cs ds es t n k c h below past five.
+        (d3 .marks (calls es) (q .0) out (sym (q .2) ∙ h)));
+    first = λ es t k c h. subst⁻¹ (λ (a : Account). tickA t a .rep .begun ≡ false) (same-account es) (d3 .first (calls es) t k c (cancel-at es t k c h));
+    late = λ cs ds es t n k c h below past five. (
+        let s : State = nextEntry (afterEntries (Step.opened conf now bytes lengths) cs) (call (Call.cancel t k c)) in
+        let u : State = nextEntry (afterEntries s ds) (call (Call.tick n)) in
         same-any conf (cs ++ (call (Call.cancel t k c) ∷ (ds ++ (call (Call.tick n) ∷ es)))) _ good-open
-        ∙ ap (λ (xs : List Call). anyTerminal (Step.run (Step.opened conf now bytes lengths) xs)) (late-calls cs ds es (Call.cancel t k c) (Call.tick n))
-        ∙ d3 .late (callsOf conf cs) (callsOf conf ds) (callsOf conf es) t n k c (cancel-at cs t k c h) below past five;
-    ranged = λ es e. ranged-by (made conf e) _ _ _ (does conf e _ (good-at es)) (λ c. ap (λ (s : State). isStop (Step.answer s c)) (to-calls es) ∙ d3 .ranged (callsOf conf es) c);
-    refused = λ es e h. unmade-as (made conf e) _ _ _ h (does conf e _ (good-at es));
+        ∙ ap (λ (xs : List Call). anyTerminal (Step.run (Step.opened conf now bytes lengths) xs)) (late-calls cs ds es (Call.cancel t k c) (Call.tick n) (Step.opened conf now bytes lengths))
+        ∙ d3 .late (calls cs) (callsOf conf (runEntries s ds)) (callsOf conf (runEntries u es)) t n k c (cancel-at cs t k c h) below past five);
+    ranged = λ es e. ranged-by e (made conf e _) _ _ _ (does conf e _ (good-at es)) (λ c. ap (λ (s : State). isStop (Step.answer s c)) (to-calls es) ∙ d3 .ranged (calls es) c);
+    refused = λ es e h. unmade-as e (made conf e _) _ _ _ h (does conf e _ (good-at es));
+    untold = λ es channel buffer e. left-untold _ channel buffer (good-at es .fine) (ap isUntaken e);
   }

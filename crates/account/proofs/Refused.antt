@@ -2,12 +2,11 @@
 -- and cancel refuse, and only these answer Stale; of the records' own refusals `Records` tells.
 use mathlib.Core.Bool.{Bool, true, false, cond, not, _&&_, _||_, false≢true}
 use mathlib.Core.Path.{_≡_, refl, sym, ap, _∙_, subst}
-use mathlib.Core.List.{List, [], _∷_}
+use mathlib.Core.List.{List, []}
 use mathlib.Core.Option.{Option, none, some}
-use Prim.Native.Nat.{ℕ, _+_}
-use native.Mathlib.Omega.{arith}
-use lib.Dec.{leb, ltb, eqb}
-use lib.ListN.{length, take, drop}
+use Prim.Native.Nat.{ℕ}
+use lib.Dec.{ltb, eqb}
+use lib.ListN.{length}
 use Rattle.exec.specs.declared.Admission.{Admission}
 use Rattle.exec.specs.declared.Admission.the-variants as Admission
 use Rattle.exec.specs.declared.Cause.{Cause}
@@ -25,7 +24,7 @@ use Rattle.exec.specs.declared.Refusal.the-variants as Refusal
 use Rattle.exec.specs.declared.Reply.{Reply}
 use Rattle.exec.specs.declared.Reply.the-variants as Reply
 use Rattle.exec.specs.Key.{admits}
-use Rattle.exec.specs.Limits.{cost, isValid, offChunk, outputPool}
+use Rattle.exec.specs.Limits.{isValid, outputPool}
 use Rattle.exec.specs.Refusal.{number}
 use Rattle.credit.specs.declared.sender.Credit.{Credit}
 use Rattle.credit.specs.Sender.{grantable, grant}
@@ -40,23 +39,23 @@ use Rattle.runner.specs.declared.runner.Runner.{Runner}
 use Rattle.runner.specs.Calls as Calls
 use Rattle.runner.specs.Calls.{askedFor, storesDo}
 use Rattle.runner.specs.Life.{isLate, ticked, cancelAnswer, cancelNext}
-use Rattle.runner.specs.Message.{choose, saidFor, wish}
+use Rattle.runner.specs.Message.{choose, wish}
 use Rattle.runner.specs.Range.{inRange, bytesDo, stop}
 use Rattle.runner.specs.State.{creditAt, putCredit, withFlow, withInput}
 use Rattle.runner.specs.Streams as Streams
 use Rattle.channel.specs.Calls as Channel
-use Rattle.channel.specs.Calls.{WriteAfter, isChannel, admitted, admittedRead, admittedWrite, roomyWrite, sent, told, wrote, hasEnded}
+use Rattle.channel.specs.Calls.{WriteAfter, admitted, admittedRead, admittedWrite}
 use Rattle.calls.specs.Call as Call
 use Rattle.calls.specs.Call.{Call, Answer, isRefused}
 use Rattle.account.specs.Step as Step
 use Rattle.account.specs.Step.{State, onRunner, receivedAs, asks, waits}
-use Rattle.account.specs.Records.{Entry, call, readRecord, writeRecord, nextEntry, wroteAs, answerEntry}
-use Rattle.account.specs.Refused.{among, ofCalls, ofRecords, Refusals}
+use Rattle.account.specs.Records.{Entry, call, readRecord, writeRecord, nextEntry, answerEntry}
+use Rattle.account.specs.Refused.{among, ofCalls, ofEntry, Refusals}
 use Rattle.account.proofs.Plain as Plain
 use Rattle.account.proofs.Plain.{said}
-use Rattle.account.proofs.Flags.{either}
+use Rattle.account.proofs.Flags.{either, or-right}
 use Rattle.account.proofs.Guarded.{next-is, answer-is}
-use Rattle.account.proofs.Records.{Does, admitted-so, read-by, write-by}
+use Rattle.account.proofs.Records.{Does, Writes, elsewhere, short, left, taken, tells, writes, told-as, answers, read-does, write-does}
 
 -- ---- what is to be shown of a call that leaves the state t and has the answer a
 
@@ -339,31 +338,27 @@ stale s c e = subst (Safe s (Step.next s c)) e (safe s c)
 
 -- ---- a record
 
-record KeptBy (s t : State) (n : ℕ) : Type 0 where
+record KeptBy (e : Entry) (s t : State) (n : ℕ) : Type 0 where
   same : t ≡ s
-  known : (among n ofCalls || among n ofRecords) ≡ true
-
-or-right : (a b : Bool) → b ≡ true → (a || b) ≡ true
-or-right true b h = refl
-or-right false b h = h
+  known : (among n ofCalls || among n (ofEntry e)) ≡ true
 
 -- refused as the call that it makes, or by its own
-does-kept : (m : Option Call) (s t : State) (a : Answer) (n : ℕ) → Does m s t a → a ≡ Call.Refused n → KeptBy s t n
+does-kept : (x : Entry) (m : Option Call) (s t : State) (a : Answer) (n : ℕ) → Does x m s t a → a ≡ Call.Refused n → KeptBy x s t n
 unfolding Does
-does-kept none s t a n d e =
+does-kept x none s t a n d e =
     let k : d .refusal ≡ n = cc (d .answered) in
-    record { same = d .kept; known = or-right (among n ofCalls) (among n ofRecords) (subst (λ (m : ℕ). among m ofRecords ≡ true) k (d .own)) }
-does-kept (some c) s t a n d e =
+    record { same = d .kept; known = or-right (among n ofCalls) (among n (ofEntry x)) (subst (λ (m : ℕ). among m (ofEntry x) ≡ true) k (d .own)) }
+does-kept x (some c) s t a n d e =
     let k = refused s c n (sym (d .1) ∙ e) in record { same = d .0 ∙ k .same; known = rw (k .known) refl }
 
-does-stale : (m : Option Call) (s t : State) (a : Answer) → Does m s t a → a ≡ Call.Stale → t ≡ s
+does-stale : (x : Entry) (m : Option Call) (s t : State) (a : Answer) → Does x m s t a → a ≡ Call.Stale → t ≡ s
 unfolding Does
-does-stale none s t a d e = absurd (false≢true (sym (ap isRefused e) ∙ ap isRefused (d .answered)))
-does-stale (some c) s t a d e = d .0 ∙ stale s c (sym (d .1) ∙ e)
+does-stale x none s t a d e = absurd (false≢true (sym (ap isRefused e) ∙ ap isRefused (d .answered)))
+does-stale x (some c) s t a d e = d .0 ∙ stale s c (sym (d .1) ∙ e)
 
 -- refused by 12, 10 or 11
-stop-kept : (s : State) (stores : Bool) (x : Refusal) (n : ℕ) → stop (s .runner) stores ≡ Reply.Refused x → Call.Refused (number x) ≡ Call.Refused n → KeptBy s s n
-stop-kept s stores x n g e =
+stop-kept : (e : Entry) (s : State) (stores : Bool) (x : Refusal) (n : ℕ) → stop (s .runner) stores ≡ Reply.Refused x → Call.Refused (number x) ≡ Call.Refused n → KeptBy e s s n
+stop-kept e s stores x n g h =
     let m : number x ≡ n = cc in record { same = refl; known = rw (← m) (rw (stop-known (s .runner) stores x g .0) refl) }
 
 admitted-not : (r : Runner) (stores : Bool) (x : Refusal) → stop r stores ≡ Reply.Refused x → admitted r stores ≡ Reply.Refused x
@@ -371,51 +366,37 @@ unfolding admitted
 admitted-not r stores x g = rw g refl
 
 -- what is so of an entry that does what its call does, and of one that is refused by 12, 10 or 11, is so of every entry
-module _ (s : State) (C : State → Answer → Type 0) (made : (m : Option Call) (t : State) (a : Answer) → Does m s t a → C t a)
-    (stops : (stores : Bool) (x : Refusal) → stop (s .runner) stores ≡ Reply.Refused x → C s (Call.Refused (number x))) where
+module _ (s : State) (C : Entry → State → Answer → Type 0) (made : (e : Entry) (m : Option Call) (t : State) (a : Answer) → Does e m s t a → C e t a)
+    (stops : (e : Entry) (stores : Bool) (x : Refusal) → stop (s .runner) stores ≡ Reply.Refused x → C e s (Call.Refused (number x))) where
   read-so : (met : Reply) (now channel : ℕ) (b : List ℕ) → stop (s .runner) (storesDo (s .runner) (s .bytes) (s .lengths)) ≡ met
-      → C (nextEntry s (readRecord now channel b)) (answerEntry s (readRecord now channel b))
+      → C (readRecord now channel b) (nextEntry s (readRecord now channel b)) (answerEntry s (readRecord now channel b))
   unfolding nextEntry answerEntry Channel.readRecord admittedRead
-  read-so Reply.Ok now channel b g =
-      rw (admitted-so (s .runner) (storesDo (s .runner) (s .bytes) (s .lengths)) g) (made _ _ _ (read-by (isChannel (s .runner .limits)) s now channel b))
+  read-so Reply.Ok now channel b g = made _ _ _ _ (read-does s now channel b g)
   read-so (Reply.Refused x) now channel b g =
-      rw (admitted-not (s .runner) (storesDo (s .runner) (s .bytes) (s .lengths)) x g) (stops _ x g)
+      rw (admitted-not (s .runner) (storesDo (s .runner) (s .bytes) (s .lengths)) x g) (stops _ _ x g)
 
   write-so : (met : Reply) (channel : ℕ) (buffer : List ℕ) → stop (s .runner) (bytesDo (s .runner .limits) (s .bytes)) ≡ met
-      → C (nextEntry s (writeRecord channel buffer)) (answerEntry s (writeRecord channel buffer))
+      → C (writeRecord channel buffer) (nextEntry s (writeRecord channel buffer)) (answerEntry s (writeRecord channel buffer))
   unfolding nextEntry answerEntry Channel.writeRecord admittedWrite
-  write-so Reply.Ok channel buffer g =
-      rw (admitted-so (s .runner) (bytesDo (s .runner .limits) (s .bytes)) g)
-      (made _ _ _ (write-by (isChannel (s .runner .limits)) (leb (13 + s .runner .limits .chunk) (length buffer)) s channel buffer g refl))
+  write-so Reply.Ok channel buffer g = made _ _ _ _ (write-does s channel buffer g)
   write-so (Reply.Refused x) channel buffer g =
-      rw (admitted-not (s .runner) (bytesDo (s .runner .limits) (s .bytes)) x g) (stops _ x g)
+      rw (admitted-not (s .runner) (bytesDo (s .runner .limits) (s .bytes)) x g) (stops _ _ x g)
 
-  entry-so : (e : Entry) → C (nextEntry s e) (answerEntry s e)
+  entry-so : (e : Entry) → C e (nextEntry s e) (answerEntry s e)
   unfolding nextEntry answerEntry Does
-  entry-so (call c) = made (some c) (Step.next s c) (Step.answer s c) (refl, refl)
+  entry-so (call c) = made (call c) (some c) (Step.next s c) (Step.answer s c) (refl, refl)
   entry-so (readRecord now channel b) = read-so (stop (s .runner) (storesDo (s .runner) (s .bytes) (s .lengths))) now channel b refl
   entry-so (writeRecord channel buffer) = write-so (stop (s .runner) (bytesDo (s .runner .limits) (s .bytes))) channel buffer refl
 
-kept : (s : State) (e : Entry) (n : ℕ) → answerEntry s e ≡ Call.Refused n → KeptBy s (nextEntry s e) n
+kept : (s : State) (e : Entry) (n : ℕ) → answerEntry s e ≡ Call.Refused n → KeptBy e s (nextEntry s e) n
 kept s e n =
-    entry-so s (λ (t : State) (a : Answer). a ≡ Call.Refused n → KeptBy s t n) (λ m t a d. does-kept m s t a n d) (λ stores x g. stop-kept s stores x n g) e
+    entry-so s (λ (x : Entry) (t : State) (a : Answer). a ≡ Call.Refused n → KeptBy x s t n) (λ x m t a d. does-kept x m s t a n d) (λ e stores x g. stop-kept e s stores x n g) e
 
 stale-entry : (s : State) (e : Entry) → answerEntry s e ≡ Call.Stale → nextEntry s e ≡ s
 stale-entry s e =
-    entry-so s (λ (t : State) (a : Answer). a ≡ Call.Stale → t ≡ s) (λ m t a d. does-stale m s t a d) (λ stores x g h. refl) e
+    entry-so s (λ (x : Entry) (t : State) (a : Answer). a ≡ Call.Stale → t ≡ s) (λ x m t a d. does-stale x m s t a d) (λ e stores x g h. refl) e
 
 -- ---- the buffers
-
--- what is said behind the guard is no refusal
-said-told : (P : ℕ → Type 0) (ended : Bool) (m : Choice) (r : Runner) (buffer : List ℕ) → IfRefused Unit P (wroteAs (wrote ended (saidFor m r)) buffer)
-unfolding saidFor wrote
-said-told P ended Choice.None r buffer = tt
-said-told P ended Choice.Credit r buffer = tt
-said-told P ended Choice.Started r buffer = tt
-said-told P ended Choice.InputClosed r buffer = tt
-said-told P ended (Choice.End x) r buffer = tt
-said-told P ended (Choice.Output x n) r buffer = tt
-said-told P ended Choice.Terminal r buffer = tt
 
 message-buffer : (met : Reply) (s : State) (buffer : List ℕ) → stop (s .runner) (bytesDo (s .runner .limits) (s .bytes)) ≡ met
     → IfRefused Unit (λ n. Calls.nextMessage (s .runner) (s .bytes) buffer .buffer ≡ buffer) (Step.answer s (Call.nextMessage buffer))
@@ -425,23 +406,19 @@ message-buffer Reply.Ok s buffer g =
 message-buffer (Reply.Refused x) s buffer g = rw (stopped s (Call.nextMessage buffer) x g .1) (rw g refl)
 
 abbrev BufferSafe : WriteAfter → List ℕ → Type 0
-BufferSafe w buffer = IfRefused Unit (λ n. w .buffer ≡ buffer) (wroteAs (w .writing .wrote) (w .buffer))
+BufferSafe w buffer = IfRefused Unit (λ n. w .buffer ≡ buffer) (answers w)
 
-write-buffer : (channels room : Bool) (s : State) (channel : ℕ) (buffer : List ℕ) → stop (s .runner) (bytesDo (s .runner .limits) (s .bytes)) ≡ Reply.Ok
-    → leb (13 + s .runner .limits .chunk) (length buffer) ≡ room
-    → BufferSafe (admittedWrite (cond channels Reply.Ok (Reply.Refused Refusal.NotAChannel)) (s .runner) channel (s .bytes) buffer) buffer
-unfolding admittedWrite roomyWrite sent told Calls.nextMessage
-write-buffer false room s channel buffer g e = refl
-write-buffer true false s channel buffer g e = rw e refl
-write-buffer true true s channel buffer g e =
-    rw (e, g) (said-told _ (hasEnded (s .runner)) (choose (s .runner) (length (take (s .runner .limits .chunk) (drop 13 buffer)))) (s .runner) _)
+write-buffer : (s : State) (channel : ℕ) (buffer : List ℕ) → stop (s .runner) (bytesDo (s .runner .limits) (s .bytes)) ≡ Reply.Ok
+    → (met : Bool) (w : WriteAfter) → Writes s channel buffer met w → BufferSafe w buffer
+write-buffer s channel buffer g met w elsewhere = refl
+write-buffer s channel buffer g met w short = refl
+write-buffer s channel buffer g met w (left u) = refl
+write-buffer s channel buffer g met w (taken u h) = told-as s channel buffer g (IfRefused Unit (λ n. tells s channel buffer .buffer ≡ buffer)) tt (λ x. tt)
 
 record-buffer : (met : Reply) (s : State) (channel : ℕ) (buffer : List ℕ) → stop (s .runner) (bytesDo (s .runner .limits) (s .bytes)) ≡ met
     → BufferSafe (Channel.writeRecord (s .runner) channel (s .bytes) buffer) buffer
 unfolding Channel.writeRecord admittedWrite
-record-buffer Reply.Ok s channel buffer g =
-    rw (admitted-so (s .runner) (bytesDo (s .runner .limits) (s .bytes)) g)
-    (write-buffer (isChannel (s .runner .limits)) (leb (13 + s .runner .limits .chunk) (length buffer)) s channel buffer g refl)
+record-buffer Reply.Ok s channel buffer g = write-buffer s channel buffer g _ _ (writes s channel buffer g)
 record-buffer (Reply.Refused x) s channel buffer g = rw (admitted-not (s .runner) (bytesDo (s .runner .limits) (s .bytes)) x g) refl
 
 -- DEMAND 1, OF REFUSALS

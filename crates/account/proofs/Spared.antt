@@ -76,7 +76,7 @@ module _ (x : Stream) where
         subst (λ (z : Entry). All Marked (account a (donesOf conf (runEntries s (z ∷ es))))) q
         (stays (donesOf conf (runEntries (nextEntry s (call c)) es)) (add a c (Step.answer s c)) (marks s a (g .fine)))
     all-marked (e ∷ es) s a g (inr h) =
-        behind (made conf e) (answerEntry s e) (donesOf conf (runEntries (nextEntry s e) es)) (λ b. all-marked es (nextEntry s e) b (good-entry conf e s g) h) a
+        behind (made conf e (answerEntry s e)) (answerEntry s e) (donesOf conf (runEntries (nextEntry s e) es)) (λ b. all-marked es (nextEntry s e) b (good-entry conf e s g) h) a
 
 marked-cut : (t : Tally) → t .mark ≡ true → cut t ≡ true
 unfolding cut

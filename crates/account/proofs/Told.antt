@@ -22,7 +22,7 @@ use Rattle.account.specs.Step as Step
 use Rattle.account.specs.Step.{State}
 use Rattle.account.specs.Account.{Account, Tally, none as untold, takenBy, sentBy, add, adds, account, start, tallyOf}
 use Rattle.account.specs.Claim.{Opens, isMessage}
-use Rattle.account.specs.Records.{Entry, EntryDone, call, readRecord, writeRecord, nextEntry, answerEntry, callOf, roomy, made, donesOf, runEntries, entryAccount}
+use Rattle.account.specs.Records.{Entry, EntryDone, call, readRecord, writeRecord, nextEntry, answerEntry, callOf, roomy, isUntaken, made, donesOf, runEntries, entryAccount}
 use Rattle.account.specs.TurnClaim.{offered, offeredIn, carried, takenIn, sentIn}
 use Rattle.account.proofs.Plain.{said, answer}
 use Rattle.account.proofs.Sides.{same-self, one-per, on-each}
@@ -192,15 +192,15 @@ mute-offering : (e : Entry) (m : Option Call) → ((x : Stream) → offeredIn x 
 mute-offering e none h q = tt
 mute-offering e (some c) h q = λ x. h x ∙ sym (q x)
 
-offering : (conf : Conf) (e : Entry) → Offering e (made conf e)
+offering : (conf : Conf) (e : Entry) (a : Answer) → Offering e (made conf e a)
 unfolding made
-offering conf (call c) = λ x. refl
-offering conf (readRecord now channel b) =
-    mute-offering (readRecord now channel b) (made conf (readRecord now channel b)) (λ x. refl)
+offering conf (call c) a = λ x. refl
+offering conf (readRecord now channel b) a =
+    mute-offering (readRecord now channel b) (made conf (readRecord now channel b) a) (λ x. refl)
     (either Mute (isChannel (conf .limits)) (callOf conf now b (read channel b)) none (read-mute conf now b (read channel b)) tt)
-offering conf (writeRecord channel buffer) =
-    mute-offering (writeRecord channel buffer) (made conf (writeRecord channel buffer)) (λ x. refl)
-    (either Mute (isChannel (conf .limits) && roomy conf buffer) (some (Call.nextMessage (take (conf .limits .chunk) (drop 13 buffer)))) none (λ x. refl) tt)
+offering conf (writeRecord channel buffer) a =
+    mute-offering (writeRecord channel buffer) (made conf (writeRecord channel buffer) a) (λ x. refl)
+    (either Mute (isChannel (conf .limits) && roomy conf buffer) _ none (either Mute (isUntaken a) none (some (Call.nextMessage (take (conf .limits .chunk) (drop 13 buffer)))) tt (λ x. refl)) tt)
 
 -- ---- a list: what is behind the entry is told of the account after it
 
@@ -218,7 +218,7 @@ joined t u v k l e d = e ∙ ap (λ (q : List ℕ). q ++ l) d ∙ append-assoc v
 refused-adds : (e : Entry) (r : Answer) (n : ℕ) (x : Stream) → r ≡ Call.Refused n → (take (count r) (offeredIn x e) ≡ []) × (carried x r ≡ [])
 refused-adds e r n x h = rw h (refl, refl)
 
-behind : (conf : Conf) (e : Entry) (m : Option Call) (s after : State) (r : Answer) (ds : List EntryDone) (z : Account) → made conf e ≡ m → Does m s after r → Offering e m → Fine s
+behind : (conf : Conf) (e : Entry) (m : Option Call) (s after : State) (r : Answer) (ds : List EntryDone) (z : Account) → made conf e r ≡ m → Does e m s after r → Offering e m → Fine s
     → ((a : Account) → ToldIn conf a ds) → ToldIn conf z (record { entry = e; answer = r } ∷ ds)
 unfolding Does
 behind conf e none s after r ds z k d o f h x =
@@ -242,7 +242,7 @@ behind conf e (some c) s after r ds z k d o f h x =
 list-told : (conf : Conf) (es : List Entry) (s : State) (z : Account) → Good conf s → ToldIn conf z (runEntries s es)
 list-told conf [] s z g = λ x. (sym (append-nil _), sym (append-nil _))
 list-told conf (e ∷ es) s z g =
-    behind conf e (made conf e) s (nextEntry s e) (answerEntry s e) (runEntries (nextEntry s e) es) z refl (does conf e s g) (offering conf e) (g .fine)
+    behind conf e (made conf e (answerEntry s e)) s (nextEntry s e) (answerEntry s e) (runEntries (nextEntry s e) es) z refl (does conf e s g) (offering conf e (answerEntry s e)) (g .fine)
     (λ a. list-told conf es (nextEntry s e) a (good-entry conf e s g))
 
 -- the account of a stream after a list from open

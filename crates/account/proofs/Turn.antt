@@ -41,17 +41,18 @@ use Rattle.account.specs.Step as Step
 use Rattle.account.specs.Step.{State}
 use Rattle.account.specs.Account.{Account, Replay, Tally, add, account, start, tallyOf, cut}
 use Rattle.account.specs.Claim.{Opens, IsPrefix, isMessage, isTerminal}
-use Rattle.account.specs.Records.{Entry, EntryDone, call, readRecord, writeRecord, callOf, roomy, made, callsOf, consCall, consDone, donesOf, runEntries, entryAccount, Whole}
+use Rattle.account.specs.Records.{Entry, EntryDone, call, readRecord, writeRecord, nextEntry, afterEntries, callOf, roomy, isUntaken, made, callsOf, consCall, consDone, donesOf, runEntries, entryAccount, Whole}
 use Rattle.account.specs.TurnClaim.{Has, closing, answerAfter, Turn}
 use Rattle.account.proofs.Plain.{next, answer, afterAll, run, begun}
 use Rattle.account.proofs.Stages.{launchedIf}
 use Rattle.account.proofs.Sides.{on-out, one-per}
 use Rattle.account.proofs.Keeps.{All, add-keeps}
-use Rattle.account.proofs.Finish.{Ends, ends, ends-fin, ends-answer, no-more, fin-stays, finished-none, chosen-ready}
-use Rattle.account.proofs.Lists.{Course, running, over, open-course, plainOf, ready-delivered}
+use Rattle.account.proofs.Finish.{Ends, ends, ends-fin, ends-answer, no-more, fin-stays, finished-none}
+use Rattle.account.proofs.Lists.{Course, running, over, open-course, plainOf}
+use Rattle.account.proofs.Still.{chosen-ready, ready-delivered}
 use Rattle.account.proofs.Range.{lent}
 use Rattle.account.proofs.Demand.{opens-by, same-run, same-answer, same-account as plain-account}
-use Rattle.account.proofs.Records.{same-dones, calls-append, good-open, same-account, at-terminal, whole}
+use Rattle.account.proofs.Records.{same-dones, calls-append, good-open, calls, same-account, at-terminal, whole}
 use Rattle.account.proofs.Told.{take-zero, Same, quiet-same, tallied, taken-told, sent-told}
 use Rattle.account.proofs.Spared.{dropped-marks, failed-marks, spared}
 use Rattle.account.proofs.Flags.{and-l, either, or-false-l, or-false-r}
@@ -236,14 +237,15 @@ read-unclosed conf now b x (Parsed.Read Record.Close) e = let z : false ≡ true
 read-unclosed conf now b x (Parsed.Refused y) e = none-unclosed x e
 
 closing-at : (conf : Conf) (x : Stream) (e : Entry) (r : Answer) (ds : List Done) (es : List EntryDone) → (Has (closing-call x) ds → Has (closing x) es)
-    → Has (closing-call x) (consDone (made conf e) r ds) → Has (closing x) (record { entry = e; answer = r } ∷ es)
+    → Has (closing-call x) (consDone (made conf e r) r ds) → Has (closing x) (record { entry = e; answer = r } ∷ es)
 unfolding made
 closing-at conf x (call c) r ds es g (inl e) = inl (ap (λ (d : Done). record { entry = call (d .call); answer = d .answer }) e)
 closing-at conf x (call c) r ds es g (inr h) = inr (g h)
 closing-at conf x (readRecord now channel b) r ds es g h =
     inr (g (unclosed _ r x ds (either (Unclosing x) (isChannel (conf .limits)) (callOf conf now b (read channel b)) none (read-unclosed conf now b x (read channel b)) (none-unclosed x)) h))
 closing-at conf x (writeRecord channel buffer) r ds es g h =
-    inr (g (unclosed _ r x ds (either (Unclosing x) (isChannel (conf .limits) && roomy conf buffer) _ none (λ e. let z : false ≡ true = cc in false≢true z) (none-unclosed x)) h))
+    inr (g (unclosed _ r x ds (either (Unclosing x) (isChannel (conf .limits) && roomy conf buffer) _ none
+    (either (Unclosing x) (isUntaken r) none _ (none-unclosed x) (λ e. let z : false ≡ true = cc in false≢true z)) (none-unclosed x)) h))
 
 closing-in : (conf : Conf) (x : Stream) (ds : List EntryDone) → Has (closing-call x) (donesOf conf ds) → Has (closing x) ds
 closing-in conf x [] h = h
@@ -269,35 +271,42 @@ module _ (conf : Conf) (now : ℕ) (bytes lengths : List ℕ) (op : Opens conf n
       → cut (tallied conf now bytes lengths es x) ≡ false
   uncut es e o x h u = sym (w .marks es e o h x) ∙ u
 
-  -- the state and the account of the calls of a list
+  -- the calls of a list, and the state and the account of them
+  abbrev made-of : List Entry → List Call
+  made-of es = calls conf now bytes lengths op es
+
   abbrev state : List Entry → State
-  state es = afterAll (begun conf now bytes lengths) (callsOf conf es)
+  state es = afterAll (begun conf now bytes lengths) (made-of es)
 
   abbrev plain : List Entry → Account
-  plain es = plainOf conf now bytes lengths (callsOf conf es)
+  plain es = plainOf conf now bytes lengths (made-of es)
 
   to-plain : (es : List Entry) → entryAccount conf now bytes lengths es ≡ plain es
-  to-plain es = same-account conf now bytes lengths op es ∙ plain-account conf now bytes lengths op (callsOf conf es)
+  to-plain es = same-account conf now bytes lengths op es ∙ plain-account conf now bytes lengths op (made-of es)
 
   terminal-call : (es : List Entry) (e : Entry) → isTerminal (answerAfter conf now bytes lengths es e) ≡ true
-      → (c : Call) × (made conf e ≡ some c) × (isTerminal (answer (state es) c) ≡ true)
+      → (c : Call) × (made conf e (answerAfter conf now bytes lengths es e) ≡ some c) × (isTerminal (answer (state es) c) ≡ true)
   terminal-call es e h =
       let q = at-terminal conf now bytes lengths op es e h in
-      (q .0, q .3, sym (ap isTerminal (q .2 ∙ same-answer conf now bytes lengths op (callsOf conf es) (q .0))) ∙ h)
+      (q .0, q .3, sym (ap isTerminal (q .2 ∙ same-answer conf now bytes lengths op (made-of es) (q .0))) ∙ h)
 
   own-at : (es : List Entry) (x : Stream) → one x (plain es .rep .closed) ≡ true → tallyOf x (plain es) .mark ≡ false → Has (closing x) (runEntries (Step.opened conf now bytes lengths) es)
   own-at es x =
-      list-own (λ (y : Stream). Has (closing y) (runEntries (Step.opened conf now bytes lengths) es)) (callsOf conf es) (begun conf now bytes lengths) (start conf now)
+      list-own (λ (y : Stream). Has (closing y) (runEntries (Step.opened conf now bytes lengths) es)) (made-of es) (begun conf now bytes lengths) (start conf now)
       (λ y m. closing-in conf y (runEntries (Step.opened conf now bytes lengths) es)
-      (subst⁻¹ (Has (closing-call y)) (same-dones conf es (Step.opened conf now bytes lengths) (good-open conf now bytes lengths op) ∙ same-run conf now bytes lengths op (callsOf conf es)) m))
+      (subst⁻¹ (Has (closing-call y)) (same-dones conf es (Step.opened conf now bytes lengths) (good-open conf now bytes lengths op) ∙ same-run conf now bytes lengths op (made-of es)) m))
       (start-own _ conf now) x
 
-  final-at : (es : List Entry) (e : Entry) (ds : List Entry) (c : Call) → made conf e ≡ some c → isTerminal (answer (state es) c) ≡ true → All (Same (plain es)) (plain (es ++ (e ∷ ds)))
+  final-at : (es : List Entry) (e : Entry) (ds : List Entry) (c : Call) → made conf e (answerAfter conf now bytes lengths es e) ≡ some c → isTerminal (answer (state es) c) ≡ true
+      → All (Same (plain es)) (plain (es ++ (e ∷ ds)))
   final-at es e ds c m h =
+      let s : State = afterEntries (Step.opened conf now bytes lengths) es in
+      let rest : List Call = callsOf conf (runEntries (nextEntry s e) ds) in
       subst⁻¹ (All (Same (plain es)))
-      (ap (λ (cs : List Call). account (start conf now) (run (begun conf now bytes lengths) cs)) (calls-append conf es (e ∷ ds) ∙ ap (λ (k : Option Call). callsOf conf es ++ consCall k (callsOf conf ds)) m)
-      ∙ list-append (callsOf conf es) (c ∷ callsOf conf ds) (begun conf now bytes lengths) (start conf now))
-      (terminal-same (plain es) c (callsOf conf ds) (state es) (plain es) h (λ x. (refl, refl)))
+      (ap (λ (cs : List Call). account (start conf now) (run (begun conf now bytes lengths) cs))
+      (calls-append conf es (e ∷ ds) (Step.opened conf now bytes lengths) ∙ ap (λ (k : Option Call). made-of es ++ consCall k rest) m)
+      ∙ list-append (made-of es) (c ∷ rest) (begun conf now bytes lengths) (start conf now))
+      (terminal-same (plain es) c rest (state es) (plain es) h (λ x. (refl, refl)))
 
   pub turn : Turn conf now bytes lengths
   turn = record {
@@ -305,7 +314,7 @@ module _ (conf : Conf) (now : ℕ) (bytes lengths : List ℕ) (op : Opens conf n
         sym (sent-told conf now bytes lengths op es x) ∙ uncut-sent (tallied conf now bytes lengths es x) (w .joined es x) (uncut es e o x h u)
         ∙ taken-told conf now bytes lengths op es x;
     own = λ es e o x h u. (let q = terminal-call es e (ap isTerminal h) in
-        let course = open-course conf now bytes lengths (lent (conf .limits) bytes lengths (opens-by conf now bytes lengths op)) (callsOf conf es) in
+        let course = open-course conf now bytes lengths (lent (conf .limits) bytes lengths (opens-by conf now bytes lengths op)) (made-of es) in
         own-at es x (replay-shut x (state es) (plain es) (q .0) course (q .2))
         (subst (λ (a : Account). tallyOf x a .mark ≡ false) (to-plain es) (unmarked (tallied conf now bytes lengths es x) (uncut es e o x h u))));
     undropped = λ es e o x n h u l. spared conf now bytes lengths op es e o x (Call.discarded x n) (dropped-marks x n l) h u;

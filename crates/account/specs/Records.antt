@@ -1,11 +1,12 @@
 -- Demand 3 whole: lists that mix the runner's calls with channel records read into it and written from it. Each record stands
--- in the list as the call that it makes, told from the arguments of open and its own; one that is refused first makes none.
+-- in the list as the call that it makes, told from the arguments of open, its own, and its answer; one that is refused first
+-- makes none.
 use mathlib.Core.Bool.{Bool, true, false, cond, _&&_, _||_}
 use mathlib.Core.Path.{_≡_}
 use mathlib.Core.List.{List, [], _∷_, _++_}
 use mathlib.Core.Option.{Option, none, some}
 use Prim.Native.Nat.{ℕ, _+_, _-_, _^_, _≤_, _<_}
-use lib.Dec.{leb}
+use lib.Dec.{leb, eqb}
 use lib.ListN.{length, take, drop}
 use Rattle.exec.specs.declared.Cause.{Cause}
 use Rattle.exec.specs.declared.Key.{Key}
@@ -25,8 +26,9 @@ use Rattle.codec.specs.declared.Parsed.{Parsed}
 use Rattle.codec.specs.declared.Parsed.the-variants as Parsed
 use Rattle.codec.specs.declared.Record.the-variants as Record
 use Rattle.channel.specs.Calls as Channel
-use Rattle.channel.specs.Calls.{isChannel}
+use Rattle.channel.specs.Calls.{isChannel, room}
 use Rattle.codec.specs.Codec.{read}
+use Rattle.exits.specs.Exit.{isUntold}
 use Rattle.calls.specs.Call as Call
 use Rattle.calls.specs.Call.{Conf, Call, Answer, Done}
 use Rattle.account.specs.Step.{State, onRunner, next, answer, opened}
@@ -103,23 +105,44 @@ callOf conf now b (Parsed.Read Record.Eof) = some (Call.endInput (conf .key))
 callOf conf now b (Parsed.Read Record.Close) = some (Call.disconnect now)
 callOf conf now b (Parsed.Refused x) = none
 
--- a record is written into a buffer of at least chunk + 13 bytes
+-- a record is written into a buffer of at least chunk + 13 bytes, and 43
 abbrev pub roomy : Conf → (buffer : List ℕ) → Bool
-roomy conf buffer = leb (13 + conf .limits .chunk) (length buffer)
+roomy conf buffer = leb (room (conf .limits)) (length buffer)
 
-unfoldable pub made : Conf → Entry → Option Call
-made conf (call c) = some c
-made conf (readRecord now channel b) = cond (isChannel (conf .limits)) (callOf conf now b (read channel b)) none
-made conf (writeRecord channel buffer) =
-    cond (isChannel (conf .limits) && roomy conf buffer) (some (Call.nextMessage (take (conf .limits .chunk) (drop 13 buffer)))) none
+-- refused by 40: the message was not taken
+abbrev pub isUntaken : Answer → Bool
+isUntaken Call.Ok = false
+isUntaken Call.Applied = false
+isUntaken Call.Stale = false
+isUntaken Call.Late = false
+isUntaken (Call.Refused n) = eqb n 40
+isUntaken (Call.Taken n) = false
+isUntaken (Call.Pending b) = false
+isUntaken (Call.Value n) = false
+isUntaken (Call.Time d) = false
+isUntaken (Call.Truth b) = false
+isUntaken (Call.Asks r) = false
+isUntaken (Call.Says m) = false
+isUntaken (Call.IsKey k) = false
+isUntaken (Call.AreLimits l) = false
+isUntaken Call.Nothing = false
+
+-- the call that an entry makes, where it is answered so
+unfoldable pub made : Conf → Entry → Answer → Option Call
+made conf (call c) a = some c
+made conf (readRecord now channel b) a = cond (isChannel (conf .limits)) (callOf conf now b (read channel b)) none
+made conf (writeRecord channel buffer) a =
+    cond (isChannel (conf .limits) && roomy conf buffer)
+    (cond (isUntaken a) none (some (Call.nextMessage (take (conf .limits .chunk) (drop 13 buffer)))))
+    none
 
 abbrev pub consCall : Option Call → List Call → List Call
 consCall none cs = cs
 consCall (some c) cs = c ∷ cs
 
-abbrev pub callsOf : Conf → List Entry → List Call
+abbrev pub callsOf : Conf → List EntryDone → List Call
 callsOf conf [] = []
-callsOf conf (e ∷ es) = consCall (made conf e) (callsOf conf es)
+callsOf conf (d ∷ ds) = consCall (made conf (d .entry) (d .answer)) (callsOf conf ds)
 
 -- the calls made, each with its entry's answer
 abbrev pub consDone : Option Call → Answer → List Done → List Done
@@ -128,7 +151,7 @@ consDone (some c) a ds = record { call = c; answer = a } ∷ ds
 
 abbrev pub donesOf : Conf → List EntryDone → List Done
 donesOf conf [] = []
-donesOf conf (d ∷ ds) = consDone (made conf (d .entry)) (d .answer) (donesOf conf ds)
+donesOf conf (d ∷ ds) = consDone (made conf (d .entry) (d .answer)) (d .answer) (donesOf conf ds)
 
 -- ---- the demand
 
@@ -160,11 +183,16 @@ pub record Whole (conf : Conf) (now : ℕ) (bytes lengths : List ℕ) : Type 0 w
   -- after a cancel Applied at t, Terminal has come by the fifth message asked for, by call or by record, after a tick at or past
   -- t + grace + settlement; what is refused asks for none
   pub late : (cs ds es : List Entry) (t n : ℕ) (k : Key) (c : Cause) → answerEntry (afterEntries (opened conf now bytes lengths) cs) (call (Call.cancel t k c)) ≡ Call.Applied
-      → t + conf .timers .grace + conf .timers .settlement < 2 ^ 64 → t + conf .timers .grace + conf .timers .settlement ≤ n → 5 ≤ messages (callsOf conf es)
+      → t + conf .timers .grace + conf .timers .settlement < 2 ^ 64 → t + conf .timers .grace + conf .timers .settlement ≤ n
+      → 5 ≤ messages (callsOf conf (runEntries (nextEntry (afterEntries (nextEntry (afterEntries (opened conf now bytes lengths) cs) (call (Call.cancel t k c))) ds) (call (Call.tick n))) es))
       → anyTerminalIn (runEntries (opened conf now bytes lengths) (cs ++ (call (Call.cancel t k c) ∷ (ds ++ (call (Call.tick n) ∷ es))))) ≡ true
   -- from open on no entry is refused by 10, 11 or 12
   pub ranged : (es : List Entry) (e : Entry) → isStop (answerEntry (afterEntries (opened conf now bytes lengths) es) e) ≡ false
   -- an entry that makes no call is refused, and leaves runner and stores as they were
-  pub refused : (es : List Entry) (e : Entry) → made conf e ≡ none
+  pub refused : (es : List Entry) (e : Entry) → made conf e (answerEntry (afterEntries (opened conf now bytes lengths) es) e) ≡ none
       → (nextEntry (afterEntries (opened conf now bytes lengths) es) e ≡ afterEntries (opened conf now bytes lengths) es)
       × ((n : ℕ) × (answerEntry (afterEntries (opened conf now bytes lengths) es) e ≡ Call.Refused n))
+  -- a write answered 40 leaves the Terminal with the runner: next_message gives it, into any buffer, and its status is one that no
+  -- request tells
+  pub untold : (es : List Entry) (channel : ℕ) (buffer : List ℕ) → answerEntry (afterEntries (opened conf now bytes lengths) es) (writeRecord channel buffer) ≡ Call.Refused 40
+      → (part : List ℕ) → (o : Outcome) × (answer (afterEntries (opened conf now bytes lengths) es) (Call.nextMessage part) ≡ Call.Says (Call.Terminal o)) × (isUntold (o .status) ≡ true)

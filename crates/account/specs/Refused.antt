@@ -11,7 +11,7 @@ use Rattle.channel.specs.Calls as Channel
 use Rattle.calls.specs.Call as Call
 use Rattle.calls.specs.Call.{Call}
 use Rattle.account.specs.Step.{State, next, answer}
-use Rattle.account.specs.Records.{Entry, writeRecord, nextEntry, answerEntry}
+use Rattle.account.specs.Records.{Entry, call, readRecord, writeRecord, nextEntry, answerEntry}
 
 abbrev pub among : ℕ → List ℕ → Bool
 among n [] = false
@@ -21,9 +21,17 @@ among n (x ∷ xs) = eqb n x || among n xs
 abbrev pub ofCalls : List ℕ
 ofCalls = 1 ∷ 2 ∷ 3 ∷ 4 ∷ 5 ∷ 6 ∷ 10 ∷ 11 ∷ 12 ∷ []
 
--- and what a record may be refused by besides
-abbrev pub ofRecords : List ℕ
-ofRecords = 13 ∷ 20 ∷ 21 ∷ 22 ∷ 23 ∷ 24 ∷ 25 ∷ []
+-- and besides a record that is read, or written
+abbrev pub ofReads : List ℕ
+ofReads = 13 ∷ 20 ∷ 21 ∷ 22 ∷ 23 ∷ 24 ∷ []
+
+abbrev pub ofWrites : List ℕ
+ofWrites = 13 ∷ 25 ∷ 40 ∷ []
+
+abbrev pub ofEntry : Entry → List ℕ
+ofEntry (call c) = []
+ofEntry (readRecord now channel b) = ofReads
+ofEntry (writeRecord channel buffer) = ofWrites
 
 -- DEMAND 1, of refusals: for every state, call or record, and number
 pub record Refusals : Type 0 where
@@ -38,7 +46,7 @@ pub record Refusals : Type 0 where
   -- and a record that is not written leaves the record buffer
   pub buffer-kept : (s : State) (channel : ℕ) (buffer : List ℕ) (n : ℕ) → answerEntry s (writeRecord channel buffer) ≡ Call.Refused n
       → Channel.writeRecord (s .runner) channel (s .bytes) buffer .buffer ≡ buffer
-  pub entry-number : (s : State) (e : Entry) (n : ℕ) → answerEntry s e ≡ Call.Refused n → (among n ofCalls || among n ofRecords) ≡ true
+  pub entry-number : (s : State) (e : Entry) (n : ℕ) → answerEntry s e ≡ Call.Refused n → (among n ofCalls || among n (ofEntry e)) ≡ true
   -- 'Same id, lower generation: Stale, and nothing else happens, not even the tick of cancel'
   pub stale-kept : (s : State) (c : Call) → answer s c ≡ Call.Stale → next s c ≡ s
   pub stale-read : (s : State) (e : Entry) → answerEntry s e ≡ Call.Stale → nextEntry s e ≡ s
