@@ -8,7 +8,7 @@ use Rattle.choice.specs.Order.{ifElse, order}
 use Rattle.exec.specs.Stream.{streamAt, following}
 use Rattle.runner.specs.State.{outOf}
 use Rattle.runner.specs.Message.{choose}
-use Rattle.account.proofs.Still.{sendable-count}
+use Rattle.runner.specs.TerminalLaws.{sendable-count}
 
 -- no message carries more than the queue holds
 abbrev pub Sound : Runner → Choice → Type 0

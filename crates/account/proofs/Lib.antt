@@ -8,7 +8,6 @@ pub mod Sides
 pub mod Keeps
 pub mod Stages
 pub mod Lives
-pub mod Still
 pub mod Choices
 pub mod InputRange
 pub mod Range

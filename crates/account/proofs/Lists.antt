@@ -28,7 +28,7 @@ use Rattle.account.proofs.Keeps.{add-keeps}
 use Rattle.account.proofs.Range.{RangedS, range-next, Lent, opened-range}
 use Rattle.account.proofs.Finish.{Ends, ends, ends-answer, ends-fin, no-more, silent, fin-stays}
 use Rattle.account.proofs.Lives.{tick-inv}
-use Rattle.account.proofs.Still.{chosen-ready, ready-empty}
+use Rattle.runner.specs.TerminalLaws.{chosen-ready, ready-empty}
 use Rattle.account.proofs.EachCall.{InvS, Roomy, step-inv, roomy-next}
 
 -- ---- after Terminal: sent stays, taken grows at most

@@ -53,7 +53,7 @@ use Rattle.account.specs.Records.{Entry, call, readRecord, writeRecord, 
 use Rattle.account.specs.Refused.{among, ofReads, ofWrites, ofEntry}
 use Rattle.account.proofs.Plain as Plain
 use Rattle.account.proofs.Guarded.{payload-length}
-use Rattle.account.proofs.Still.{still}
+use Rattle.runner.specs.TerminalLaws.{still}
 use Rattle.account.proofs.Finish.{framed, framed-conf, ends-answer}
 use Rattle.account.proofs.Lives.{confOf}
 use Rattle.account.proofs.Demand.{Fine, goes, fine-next, next-same, answer-same, fine-open, open-same, opens-by, demand3}

@@ -49,7 +49,7 @@ use Rattle.account.proofs.Sides.{on-out, one-per}
 use Rattle.account.proofs.Keeps.{All, add-keeps}
 use Rattle.account.proofs.Finish.{Ends, ends, ends-fin, ends-answer, no-more, fin-stays, finished-none}
 use Rattle.account.proofs.Lists.{Course, running, over, open-course, plainOf}
-use Rattle.account.proofs.Still.{chosen-ready, ready-delivered}
+use Rattle.runner.specs.TerminalLaws.{chosen-ready, ready-delivered}
 use Rattle.account.proofs.Range.{lent}
 use Rattle.account.proofs.Demand.{opens-by, same-run, same-answer, same-account as plain-account}
 use Rattle.account.proofs.Records.{same-dones, calls-append, good-open, calls, same-account, at-terminal, whole}

@@ -53,7 +53,7 @@ use Rattle.account.specs.Step as Step
 use Rattle.account.specs.Step.{State}
 use Rattle.account.specs.TurnClaim.{Has, closing, answerAfter, carried, takenIn, sentIn}
 use Rattle.account.proofs.Flags.{or-false-l, or-false-r}
-use Rattle.account.proofs.Still.{still}
+use Rattle.runner.specs.TerminalLaws.{still}
 use Rattle.account.proofs.Plain as Plain
 use Rattle.account.proofs.Plain.{said, next, answer, begun, afterAll, run}
 use Rattle.account.proofs.Finish.{Ends, ends, ends-answer}

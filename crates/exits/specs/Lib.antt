@@ -3,3 +3,5 @@ pub mod Signals
 pub mod Exit
 pub mod ExitLaws
 pub mod SignalLaws
+pub mod RoundTrip
+pub mod Edges

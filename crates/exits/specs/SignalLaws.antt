@@ -1,5 +1,5 @@
 -- Laws of the table: the turns of a search, what is found, and that number and name find the same signal.
-use mathlib.Core.Bool.{Bool, true, false, cond, _&&_, false≢true}
+use mathlib.Core.Bool.{Bool, true, false, cond, _&&_, _||_, false≢true}
 use mathlib.Core.List.{List, [], _∷_}
 use mathlib.Core.Path.{_≡_, refl, sym, ap, _∙_}
 use Prim.Native.Nat.{ℕ, zero, suc, _+_, _^_, _≤_, _<_}
@@ -51,7 +51,7 @@ found P [] h = absurd (false≢true h)
 found P (x ∷ xs) h = found-by P (P x) x (find P xs) refl (found P xs) h
 
 -- what every signal of a list passes, passes what is found or stands at a place, if nobody passes it
-abbrev every : (Signal → Bool) → List Signal → Bool
+abbrev pub every : (Signal → Bool) → List Signal → Bool
 every Q [] = true
 every Q (x ∷ xs) = Q x && every Q xs
 
@@ -68,6 +68,24 @@ at-every : (Q : Signal → Bool) (xs : List Signal) (i : ℕ) → Q nobody ≡ t
 at-every Q [] i n h = n
 at-every Q (x ∷ xs) zero n h = and-l (Q x) (every Q xs) h
 at-every Q (x ∷ xs) (suc i) n h = at-every Q xs i n (and-r (Q x) (every Q xs) h)
+
+-- where every signal has a name, one that has is found where one passes
+abbrev pub any : (Signal → Bool) → List Signal → Bool
+any P [] = false
+any P (x ∷ xs) = P x || any P xs
+
+sooner : (b : Bool) (x y : Signal) (rest : Bool) → ltb 0 (x .length) ≡ true → ltb 0 (y .length) ≡ rest → ltb 0 (cond b x y .length) ≡ (b || rest)
+sooner true x y rest h e = h
+sooner false x y rest h e = e
+
+abbrev pub hasName : Signal → Bool
+hasName x = ltb 0 (x .length)
+
+pub find-any : (P : Signal → Bool) (xs : List Signal) → every hasName xs ≡ true → ltb 0 (find P xs .length) ≡ any P xs
+unfolding find
+find-any P [] h = refl
+find-any P (x ∷ xs) h =
+    sooner (P x) x (find P xs) (any P xs) (and-l (hasName x) (every hasName xs) h) (find-any P xs (and-r (hasName x) (every hasName xs) h))
 
 -- ---- the signals of the table
 

@@ -6,4 +6,5 @@ pub mod Message
 pub mod Range
 pub mod RangeLaws
 pub mod MessageLaws
+pub mod TerminalLaws
 pub mod Calls
