@@ -41,6 +41,7 @@ use Rattle.channel.specs.Calls as Channel
 use Rattle.channel.specs.Calls.{ReadAfter, WriteAfter, isChannel, admitted, heardAs, notedAs, parsedRead, admittedRead, admittedWrite, room, roomyWrite, writeAfter, unwritten, asked, isLeft, sent, told, wrote, wroteBuffer, sentAs, sentBuffer, partBack, hasEnded}
 use Rattle.codec.specs.Codec.{start, size, kinded, isTyped, fitting, checked, read, laidRecord}
 use Rattle.codec.specs.RoundTrip.{payload-back, laid-front}
+use Rattle.channel.specs.Ended.{Writes, elsewhere, short, left, taken, tells, writes, choice-left, write-left}
 use Rattle.exits.specs.Exit.{isUntold}
 use Rattle.calls.specs.Call as Call
 use Rattle.calls.specs.Call.{Conf, Call, Answer, Done}
@@ -54,7 +55,7 @@ use Rattle.account.specs.Refused.{among, ofReads, ofWrites, ofEntry}
 use Rattle.account.proofs.Plain as Plain
 use Rattle.account.proofs.Guarded.{payload-length}
 use Rattle.runner.specs.TerminalLaws.{still}
-use Rattle.account.proofs.Finish.{framed, framed-conf, ends-answer}
+use Rattle.account.proofs.Finish.{framed, framed-conf, ends, ends-answer}
 use Rattle.account.proofs.Lives.{confOf}
 use Rattle.account.proofs.Demand.{Fine, goes, fine-next, next-same, answer-same, fine-open, open-same, opens-by, demand3}
 use Rattle.account.proofs.Range.{lent}
@@ -189,46 +190,6 @@ choice-as C n h (Choice.End x) r channel ended b = h _
 choice-as C n h (Choice.Output x k) r channel ended b = h _
 choice-as C n h Choice.Terminal r channel ended b = h _
 
--- what is left is Terminal
-choice-left : (m : Choice) (r : Runner) → isLeft (saidFor m r) ≡ true → (m ≡ Choice.Terminal) × (isUntold (outcomeOf r .status) ≡ true)
-unfolding saidFor isLeft
-choice-left Choice.None r e = absurd (false≢true e)
-choice-left Choice.Credit r e = absurd (false≢true e)
-choice-left Choice.Started r e = absurd (false≢true e)
-choice-left Choice.InputClosed r e = absurd (false≢true e)
-choice-left (Choice.End x) r e = absurd (false≢true e)
-choice-left (Choice.Output x n) r e = absurd (false≢true e)
-choice-left Choice.Terminal r e = (refl, e)
-
--- the message is taken and told
-abbrev pub tells : State → (channel : ℕ) (buffer : List ℕ) → WriteAfter
-tells s channel buffer =
-    told (asked (s .runner) (s .bytes) buffer .saying) (hasEnded (s .runner)) channel
-    (partBack (s .runner .limits .chunk) buffer (asked (s .runner) (s .bytes) buffer .buffer))
-
--- what a write leaves, by whether it is for a channel and there is room: it is refused by 13, 25 or 40, or its message is told
-pub data Writes (s : State) (channel : ℕ) (buffer : List ℕ) : Bool → WriteAfter → Type 0 where
-  elsewhere : Writes s channel buffer false (writeAfter (unwritten NotAChannel (s .runner)) buffer)
-  short : Writes s channel buffer false (writeAfter (unwritten BufferShort (s .runner)) buffer)
-  left : isLeft (asked (s .runner) (s .bytes) buffer .saying .said) ≡ true → Writes s channel buffer true (writeAfter (unwritten UntoldStatus (s .runner)) buffer)
-  taken : isLeft (asked (s .runner) (s .bytes) buffer .saying .said) ≡ false → 13 ≤ length buffer → Writes s channel buffer true (tells s channel buffer)
-
-write-by : (channels roomy isleft : Bool) (s : State) (channel : ℕ) (buffer : List ℕ) → leb (room (s .runner .limits)) (length buffer) ≡ roomy
-    → isLeft (asked (s .runner) (s .bytes) buffer .saying .said) ≡ isleft
-    → Writes s channel buffer (channels && roomy) (admittedWrite (cond channels Reply.Ok (Reply.Refused NotAChannel)) (s .runner) channel (s .bytes) buffer)
-unfolding admittedWrite roomyWrite sent
-write-by false roomy isleft s channel buffer e u = elsewhere
-write-by true false isleft s channel buffer e u = rw e short
-write-by true true true s channel buffer e u = rw (e, u) (left u)
-write-by true true false s channel buffer e u = rw (e, u) (taken u (omega (arith, leb-true (room (s .runner .limits)) (length buffer) e)))
-
-pub writes : (s : State) (channel : ℕ) (buffer : List ℕ) → stop (s .runner) (bytesDo (s .runner .limits) (s .bytes)) ≡ Reply.Ok
-    → Writes s channel buffer (isChannel (s .runner .limits) && leb (room (s .runner .limits)) (length buffer)) (Channel.writeRecord (s .runner) channel (s .bytes) buffer)
-unfolding Channel.writeRecord
-writes s channel buffer g =
-    rw (admitted-so (s .runner) (bytesDo (s .runner .limits) (s .bytes)) g)
-    (write-by (isChannel (s .runner .limits)) (leb (room (s .runner .limits)) (length buffer)) (isLeft (asked (s .runner) (s .bytes) buffer .saying .said)) s channel buffer refl refl)
-
 abbrev pub answers : WriteAfter → Answer
 answers w = wroteAs (w .writing .wrote) (w .buffer)
 
@@ -236,30 +197,30 @@ module _ (s : State) (channel : ℕ) (buffer : List ℕ) (g : stop (s .runner) (
   abbrev part : List ℕ
   part = take (s .runner .limits .chunk) (drop 13 buffer)
 
-  pub told-as : (C : Answer → Type 0) → C Call.Nothing → ((x : Call.Message) → C (Call.Says x)) → C (answers (tells s channel buffer))
+  pub told-as : (C : Answer → Type 0) → C Call.Nothing → ((x : Call.Message) → C (Call.Says x)) → C (answers (tells (s .runner) channel (s .bytes) buffer))
   unfolding told asked Calls.nextMessage
   told-as C n h = rw g (choice-as C n h (choose (s .runner) (length part)) (s .runner) channel (hasEnded (s .runner)) _)
 
-  told-taken : isUntaken (answers (tells s channel buffer)) ≡ false
+  told-taken : isUntaken (answers (tells (s .runner) channel (s .bytes) buffer)) ≡ false
   told-taken = told-as (λ (a : Answer). isUntaken a ≡ false) refl (λ x. refl)
 
-  told-does : 13 ≤ length buffer → Does (writeRecord channel buffer) (some (Call.nextMessage part)) s (Step.onRunner (tells s channel buffer .writing .runner) s) (answers (tells s channel buffer))
+  told-does : 13 ≤ length buffer → Does (writeRecord channel buffer) (some (Call.nextMessage part)) s (Step.onRunner (tells (s .runner) channel (s .bytes) buffer .writing .runner) s) (answers (tells (s .runner) channel (s .bytes) buffer))
   unfolding Does told asked Step.next Step.answer Calls.nextMessage
   told-does h = (
     refl,
     rw g (choice-told (choose (s .runner) (length part)) (s .runner) (s .bytes) part buffer channel (s .runner .limits .chunk) (hasEnded (s .runner)) h (λ x n e. payload-length s part x n g e)),
   )
 
-  written-does : (met : Bool) (w : WriteAfter) → Writes s channel buffer met w
+  written-does : (met : Bool) (w : WriteAfter) → Writes (s .runner) channel (s .bytes) buffer met w
       → Does (writeRecord channel buffer) (cond met (cond (isUntaken (answers w)) none (some (Call.nextMessage part))) none) s (Step.onRunner (w .writing .runner) s) (answers w)
   unfolding Does
   written-does met w elsewhere = record { kept = refl; refusal = 13; answered = refl; own = refl }
   written-does met w short = record { kept = refl; refusal = 25; answered = refl; own = refl }
   written-does met w (left u) = record { kept = refl; refusal = 40; answered = refl; own = refl }
-  written-does met w (taken u h) = rw told-taken (told-does h)
+  written-does met w (taken u h) = rw told-taken (told-does (omega (arith, h)))
 
   -- where it is left, Terminal is chosen, for this buffer and so for any
-  left-chosen : (met : Bool) (w : WriteAfter) → Writes s channel buffer met w → isUntaken (answers w) ≡ true
+  left-chosen : (met : Bool) (w : WriteAfter) → Writes (s .runner) channel (s .bytes) buffer met w → isUntaken (answers w) ≡ true
       → (choose (s .runner) (length part) ≡ Choice.Terminal) × (isUntold (outcomeOf (s .runner) .status) ≡ true)
   unfolding asked Calls.nextMessage
   left-chosen met w elsewhere e = absurd (false≢true e)
@@ -281,7 +242,7 @@ read-does s now channel b g =
 pub write-does : (s : State) (channel : ℕ) (buffer : List ℕ) → stop (s .runner) (bytesDo (s .runner .limits) (s .bytes)) ≡ Reply.Ok
     → EntryDoes (confOf (s .runner)) (writeRecord channel buffer) s
 unfolding made nextEntry answerEntry
-write-does s channel buffer g = written-does s channel buffer g _ _ (writes s channel buffer g)
+write-does s channel buffer g = written-does s channel buffer g _ _ (writes (s .runner) channel (s .bytes) buffer g)
 
 -- ---- an entry, at a state that came from open
 
@@ -320,11 +281,28 @@ left-untold : (s : State) (channel : ℕ) (buffer : List ℕ) → Fine s → isU
 unfolding answerEntry Plain.enough
 left-untold s channel buffer f e part =
     let g : stop (s .runner) (bytesDo (s .runner .limits) (s .bytes)) ≡ Reply.Ok = goes s (Call.nextMessage buffer) f in
-    let p = left-chosen s channel buffer g _ _ (writes s channel buffer g) e in (
+    let p = left-chosen s channel buffer g _ _ (writes (s .runner) channel (s .bytes) buffer g) e in (
       outcomeOf (s .runner),
       answer-same s (Call.nextMessage part) f ∙ ends-answer s (Call.nextMessage part) (record { buffer = part; call = refl; chosen = still (s .runner) _ (length part) (p .0) }),
       p .1,
     )
+
+-- and one that no request tells is left by every write with room
+says-outcome : (o p : Outcome) → Call.Says (Call.Terminal o) ≡ Call.Says (Call.Terminal p) → o ≡ p
+says-outcome o p e = cc
+
+untold-left : (s : State) → Fine s → (part : List ℕ) (o : Outcome) → Step.answer s (Call.nextMessage part) ≡ Call.Says (Call.Terminal o) → isUntold (o .status) ≡ true
+    → (channel : ℕ) (buffer : List ℕ) → (isChannel (s .runner .limits) && leb (room (s .runner .limits)) (length buffer)) ≡ true
+    → answerEntry s (writeRecord channel buffer) ≡ Call.Refused 40
+unfolding answerEntry asked Calls.nextMessage saidFor isLeft Plain.enough
+untold-left s f part o e u channel buffer m =
+    let g : stop (s .runner) (bytesDo (s .runner .limits) (s .bytes)) ≡ Reply.Ok = goes s (Call.nextMessage part) f in
+    let a = sym (answer-same s (Call.nextMessage part) f) ∙ e in
+    let t = ends (Call.nextMessage part) s (ap isTerminal a) in
+    let same : outcomeOf (s .runner) ≡ o = says-outcome _ _ (sym (ends-answer s (Call.nextMessage part) t) ∙ a) in
+    let next = length (take (s .runner .limits .chunk) (drop 13 buffer)) in
+    let l : isLeft (asked (s .runner) (s .bytes) buffer .saying .said) ≡ true = rw (g, still (s .runner) _ next (t .chosen), same) u in
+    ap answers (write-left (s .runner) channel (s .bytes) buffer _ _ (writes (s .runner) channel (s .bytes) buffer g) m l)
 
 -- so where no Terminal is next, an entry makes what it makes where it is not refused by 40
 pub made-so : (conf : Conf) (e : Entry) (c : Call) (s : State) → Good conf s → made conf e Call.Ok ≡ some c → isTerminal (Step.answer s c) ≡ false
@@ -515,4 +493,6 @@ module _ (conf : Conf) (now : ℕ) (bytes lengths : List ℕ) (op : Opens conf n
     ranged = λ es e. ranged-by e (made conf e _) _ _ _ (does conf e _ (good-at es)) (λ c. ap (λ (s : State). isStop (Step.answer s c)) (to-calls es) ∙ d3 .ranged (calls es) c);
     refused = λ es e h. unmade-as e (made conf e _) _ _ _ h (does conf e _ (good-at es));
     untold = λ es channel buffer e. left-untold _ channel buffer (good-at es .fine) (ap isUntaken e);
+    left = λ es part o e u channel buffer m. untold-left _ (good-at es .fine) part o e u channel buffer
+        (ap (λ (k : Conf). isChannel (k .limits) && roomy k buffer) (good-at es .same) ∙ m);
   }

@@ -55,7 +55,8 @@ use Rattle.account.proofs.Plain as Plain
 use Rattle.account.proofs.Plain.{said}
 use Rattle.account.proofs.Flags.{either, or-right}
 use Rattle.account.proofs.Guarded.{next-is, answer-is}
-use Rattle.account.proofs.Records.{Does, Writes, elsewhere, short, left, taken, tells, writes, told-as, answers, read-does, write-does}
+use Rattle.channel.specs.Ended.{Writes, elsewhere, short, left, taken, tells, writes}
+use Rattle.account.proofs.Records.{Does, told-as, answers, read-does, write-does}
 
 -- ---- what is to be shown of a call that leaves the state t and has the answer a
 
@@ -409,16 +410,16 @@ abbrev BufferSafe : WriteAfter → List ℕ → Type 0
 BufferSafe w buffer = IfRefused Unit (λ n. w .buffer ≡ buffer) (answers w)
 
 write-buffer : (s : State) (channel : ℕ) (buffer : List ℕ) → stop (s .runner) (bytesDo (s .runner .limits) (s .bytes)) ≡ Reply.Ok
-    → (met : Bool) (w : WriteAfter) → Writes s channel buffer met w → BufferSafe w buffer
+    → (met : Bool) (w : WriteAfter) → Writes (s .runner) channel (s .bytes) buffer met w → BufferSafe w buffer
 write-buffer s channel buffer g met w elsewhere = refl
 write-buffer s channel buffer g met w short = refl
 write-buffer s channel buffer g met w (left u) = refl
-write-buffer s channel buffer g met w (taken u h) = told-as s channel buffer g (IfRefused Unit (λ n. tells s channel buffer .buffer ≡ buffer)) tt (λ x. tt)
+write-buffer s channel buffer g met w (taken u h) = told-as s channel buffer g (IfRefused Unit (λ n. tells (s .runner) channel (s .bytes) buffer .buffer ≡ buffer)) tt (λ x. tt)
 
 record-buffer : (met : Reply) (s : State) (channel : ℕ) (buffer : List ℕ) → stop (s .runner) (bytesDo (s .runner .limits) (s .bytes)) ≡ met
     → BufferSafe (Channel.writeRecord (s .runner) channel (s .bytes) buffer) buffer
 unfolding Channel.writeRecord admittedWrite
-record-buffer Reply.Ok s channel buffer g = write-buffer s channel buffer g _ _ (writes s channel buffer g)
+record-buffer Reply.Ok s channel buffer g = write-buffer s channel buffer g _ _ (writes (s .runner) channel (s .bytes) buffer g)
 record-buffer (Reply.Refused x) s channel buffer g = rw (admitted-not (s .runner) (bytesDo (s .runner .limits) (s .bytes)) x g) refl
 
 -- DEMAND 1, OF REFUSALS

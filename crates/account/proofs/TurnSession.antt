@@ -59,7 +59,8 @@ use Rattle.account.proofs.Plain.{said, next, answer, begun, afterAll, r
 use Rattle.account.proofs.Finish.{Ends, ends, ends-answer}
 use Rattle.account.proofs.Lists.{plainOf}
 use Rattle.account.proofs.Demand.{goes, answer-same, same-run, same-answer, same-account as plain-account}
-use Rattle.account.proofs.Records.{Does, Writes, elsewhere, short, left, taken, writes, answers, Good, does, made-so, good-open, good-entry, good-at, same-account}
+use Rattle.channel.specs.Ended.{Writes, elsewhere, short, left, taken, writes}
+use Rattle.account.proofs.Records.{Does, answers, Good, does, made-so, good-open, good-entry, good-at, same-account}
 use Rattle.account.proofs.Session.{conf, message, answersOf, open-ok, named-four}
 use Rattle.account.proofs.Told.{tallied, taken-told}
 use Rattle.account.proofs.Turn.{turn}
@@ -315,7 +316,7 @@ Closes false status w =
     (w .writing .wrote ≡ Wrote.Message (Message.Terminal (whole-with status)) (length (ending 1 status)))
     × (w .buffer ≡ ending 1 status ++ drop (length (ending 1 status)) (zeros 43))
 
-closes-by : (s : State) (status : MaybeStatus) (b met : Bool) (w : WriteAfter) → Writes s 1 (zeros 43) met w → met ≡ true → isUntold status ≡ b
+closes-by : (s : State) (status : MaybeStatus) (b met : Bool) (w : WriteAfter) → Writes (s .runner) 1 (s .bytes) (zeros 43) met w → met ≡ true → isUntold status ≡ b
     → stop (s .runner) (bytesDo (s .runner .limits) (s .bytes)) ≡ Reply.Ok → ((n : ℕ) → choose (s .runner) n ≡ Choice.Terminal)
     → outcomeOf (s .runner) ≡ whole-with status → s .runner .limits .chunk ≡ 4 → Closes b status w
 unfolding asked told wrote wroteBuffer sentAs sentBuffer isLeft Calls.nextMessage saidFor bufferAfter
@@ -363,7 +364,7 @@ module _ (status : MaybeStatus) (bytes lengths : List ℕ) (h : 16 ≤ length by
       ∙ same-answer channel 0 bytes lengths channel-opens (channel-calls status) next-one ∙ channel-plain status bytes lengths h .1 in
       let d : Ends s next-one = ends next-one s (ap isTerminal says) in
       let outcome : outcomeOf (s .runner) ≡ whole-with status = cc (ends-answer s next-one d) in
-      closes-by s status b _ _ (writes s 1 (zeros 43) g) (ap (λ (c : Conf). isChannel (c .limits) && roomy c (zeros 43)) (f .same)) u g
+      closes-by s status b _ _ (writes (s .runner) 1 (s .bytes) (zeros 43) g) (ap (λ (c : Conf). isChannel (c .limits) && roomy c (zeros 43)) (f .same)) u g
       (λ n. still (s .runner) _ n (d .chosen)) outcome (ap (λ (c : Conf). c .limits .chunk) (f .same))
 
   pub channel-left : isUntold status ≡ true → answerAfter channel 0 bytes lengths (records status) written ≡ Call.Refused 40

@@ -196,3 +196,7 @@ pub record Whole (conf : Conf) (now : ℕ) (bytes lengths : List ℕ) : Type 0 w
   -- request tells
   pub untold : (es : List Entry) (channel : ℕ) (buffer : List ℕ) → answerEntry (afterEntries (opened conf now bytes lengths) es) (writeRecord channel buffer) ≡ Call.Refused 40
       → (part : List ℕ) → (o : Outcome) × (answer (afterEntries (opened conf now bytes lengths) es) (Call.nextMessage part) ≡ Call.Says (Call.Terminal o)) × (isUntold (o .status) ≡ true)
+  -- and wherever next_message would give such a Terminal, a write with room is answered 40
+  pub left : (es : List Entry) (part : List ℕ) (o : Outcome) → answer (afterEntries (opened conf now bytes lengths) es) (Call.nextMessage part) ≡ Call.Says (Call.Terminal o)
+      → isUntold (o .status) ≡ true → (channel : ℕ) (buffer : List ℕ) → (isChannel (conf .limits) && roomy conf buffer) ≡ true
+      → answerEntry (afterEntries (opened conf now bytes lengths) es) (writeRecord channel buffer) ≡ Call.Refused 40

@@ -1,7 +1,7 @@
 -- The twelve edges of 01 as one table, each computed from the definitions: (1) to (10) on the runner's calls, from open on, and
 -- (11) and (12) on the records. An edge's own words stand above it.
 use mathlib.Core.Path.{_≡_, refl}
-use mathlib.Core.Bool.{false}
+use mathlib.Core.Bool.{true, false}
 use mathlib.Core.List.{List, [], _∷_}
 use Prim.Native.Nat.{ℕ, zero, suc, _-_, _^_}
 use Rattle.exec.specs.declared.Cause.the-variants.{Cancelled}
@@ -29,6 +29,7 @@ use Rattle.inbox.specs.Inbox.{front}
 use Rattle.input.specs.Input as Input
 use Rattle.output.specs.Output.{outputFits}
 use Rattle.runner.specs.declared.answer.Hearing.{Hearing}
+use Rattle.runner.specs.declared.answer.Message.the-variants as Messages
 use Rattle.runner.specs.declared.answer.When.{When}
 use Rattle.runner.specs.declared.answer.When.the-variants as When
 use Rattle.runner.specs.declared.runner.Runner.{Runner}
@@ -42,6 +43,10 @@ use Rattle.runner.specs.Streams as Streams
 use Rattle.runner.specs.Streams.{InputAfter, inputAfter}
 use Rattle.codec.specs.declared.Parsed.the-variants as Parsed
 use Rattle.codec.specs.declared.Record.the-variants.{Adjust, Data}
+use Rattle.channel.specs.declared.calls.Wrote.{Wrote}
+use Rattle.channel.specs.declared.calls.Wrote.the-variants as Wrote
+use Rattle.channel.specs.Calls as Channel
+use Rattle.channel.specs.Calls.{room}
 use Rattle.octets.specs.Bytes.{be32At, numberAt}
 use Rattle.codec.specs.Codec.{header, bytesOf, kinded, fitting, checked, read}
 
@@ -240,3 +245,22 @@ foreign : (frame44 .lengths ≡ 4 ∷ 4 ∷ [])
     × (number Refusal.StateOutOfRange ≡ 12)
 unfolding written Calls.tick Range.stop
 foreign = (refl, refl, refl, refl, refl, refl)
+
+-- ---- 02, A1: "25 asks for the larger of chunk + 13 and 43", for every message
+
+roomed : (room (limitsFor 4 (bytesWindow 8) (bytesWindow 8) true) ≡ 43)
+    × (room (limitsFor 30 (bytesWindow 8) (bytesWindow 8) true) ≡ 43)
+    × (room (limitsFor 31 (bytesWindow 8) (bytesWindow 8) true) ≡ 44)
+roomed = (refl, refl, refl)
+
+-- a channel's runner, from open: its first message is a Credit of 9 bytes, and 42 bytes are refused before it is taken
+onChannel : Limits
+onChannel = limitsFor 4 (bytesWindow 8) (bytesWindow 8) true
+
+wrotes : (bytes : ℕ) → Wrote
+unfolding opened Calls.nextMessage Message.choose order ifElse Message.effect Message.saidFor Channel.writeRecord Channel.admitted Channel.admittedWrite Channel.roomyWrite Channel.sent Channel.asked Channel.isLeft Channel.told Channel.wrote Channel.sentAs onChannel
+wrotes bytes = Channel.writeRecord (opened onChannel) 5 (zeros 16) (zeros bytes) .writing .wrote
+
+short : (wrotes 42 ≡ Wrote.Refused Refusal.BufferShort) × (wrotes 43 ≡ Wrote.Message (Messages.Credit 8) 9) × (number Refusal.BufferShort ≡ 25)
+unfolding wrotes
+short = (refl, refl, refl)

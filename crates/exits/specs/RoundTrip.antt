@@ -54,7 +54,7 @@ forth channel s status =
     (λ _. pick P (isMine channel s) _ _ status
     (λ _. pick P (isTold (guess s) && same (request channel (guess s)) s) _ _ status
     (λ t h. (let g : guess s ≡ status = told-only (guess s) status h in
-        rw (← g) (same-is (request channel (guess s)) s (and-r (isTold (guess s)) (same (request channel (guess s)) s) t), and-l (isTold (guess s)) (same (request channel (guess s)) s) t)))
+    rw (← g) (same-is (request channel (guess s)) s (and-r (isTold (guess s)) (same (request channel (guess s)) s) t), and-l (isTold (guess s)) (same (request channel (guess s)) s) t)))
     (λ _. never _ status))
     (λ _. never _ status))
     (λ _. never _ status))
@@ -146,8 +146,7 @@ ended-reads channel status rest h t =
     let q : List ℕ = requestOf channel status in
     let c : List ℕ = bytesOf channel Close [] in
     let cut : length (ending channel status) - 5 ≡ length q = omega (arith, ending-length channel status) in
-    let all : ending channel status ++ rest ≡ q ++ (c ++ rest) = joined channel status rest in
-    (
+    let all : ending channel status ++ rest ≡ q ++ (c ++ rest) = joined channel status rest in (
       subst⁻¹ (Tells channel status) (rw (cut, all) (take-at q (c ++ rest) (length q) refl)) (tells channel status h t),
       rw (cut, all, drop-at q (c ++ rest) (length q) refl, five channel rest) (close-reads channel h),
     )
