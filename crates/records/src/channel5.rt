@@ -7,6 +7,8 @@ use crate::step::read;
 use crate::step::read_all;
 use crate::step::taken;
 use crate::step::write;
+use exec::MaybeStatus;
+use exec::Status;
 use runner::runner::Runner;
 
 pub(crate) fn run() {
@@ -21,9 +23,9 @@ fn start(store: &mut [u8]) -> Runner {
     tell(output(begun, store), store)
 }
 
-// A buffer of chunk + 13 bytes is just enough.
+// A buffer of 43 bytes, which are more than chunk + 13, is just enough.
 fn tell(runner: Runner, store: &[u8]) -> Runner {
-    let mut buffer = [0u8; 17];
+    let mut buffer = [0u8; 43];
     write(runner, 5, store, &mut buffer)
 }
 
@@ -34,13 +36,13 @@ fn hear(runner: Runner, store: &mut [u8]) -> Runner {
 }
 
 fn tell_late(runner: Runner, store: &[u8]) -> Runner {
-    let mut buffer = [0u8; 16];
+    let mut buffer = [0u8; 42];
     tell(write(runner, 5, store, &mut buffer), store)
 }
 
-// The end of the input, and what is refused, each behind its length: an empty record; an unknown kind; data cut short; data
-// whose length counts the header too; data for channel 6; extended data of type 2, and of type 1, which is not for a runner to
-// read; data after the end; a grant of no units; an unknown kind for channel 6, of which the kind is met first.
+// The end of the input, and what is refused, each behind its length: an empty record; kind 98, which a runner writes and does
+// not read; data cut short; data whose length counts the header too; data for channel 6; extended data of type 2, and of type 1,
+// which is not for a runner to read; data after the end; a grant of no units; a 98 for channel 6, of which the kind is met first.
 fn refuse(runner: Runner, store: &mut [u8]) -> Runner {
     read_all(
         runner,
@@ -61,10 +63,6 @@ fn refuse(runner: Runner, store: &mut [u8]) -> Runner {
 }
 
 fn close(runner: Runner, store: &mut [u8]) {
-    read(
-        tell(ended(runner), store),
-        5,
-        b"\x61\x00\x00\x00\x05",
-        store,
-    );
+    let done = ended(runner, MaybeStatus::Some(Status::Exited(0)));
+    read(tell(done, store), 5, b"\x61\x00\x00\x00\x05", store);
 }

@@ -8,6 +8,8 @@ use crate::step::read;
 use crate::step::read_all;
 use crate::step::taken;
 use crate::step::write;
+use exec::MaybeStatus;
+use exec::Status;
 use runner::runner::Runner;
 
 // What windows of 2^21 bytes and data of at most 32768 bytes need, as OpenSSH has them.
@@ -51,12 +53,8 @@ fn hear(runner: Runner, store: &mut [u8]) -> Runner {
     taken(heard, store)
 }
 
-// The server sent the status in a 98, before its 97: that is no record of the runner's.
+// The Terminal's two records are the server's own: the 98 that tells the status, and the 97.
 fn close(runner: Runner, store: &mut [u8]) {
-    read(
-        tell(ended(runner), store),
-        2,
-        b"\x61\x00\x00\x00\x02",
-        store,
-    );
+    let done = ended(runner, MaybeStatus::Some(Status::Exited(0)));
+    read(tell(done, store), 2, b"\x61\x00\x00\x00\x02", store);
 }

@@ -5,7 +5,7 @@ use crate::step::write;
 use exec::Limits;
 use exec::Window;
 
-// 13 is met before the 20 of an empty record, and before the 25 of a buffer below chunk + 13 bytes.
+// 13 is met before the 20 of an empty record, and before the 25 of a buffer below 43 bytes, which are more than chunk + 13.
 pub(crate) fn run() {
     let limits = Limits::of(4, Window::frames(2), Window::bytes(8), true);
     let mut store = [0u8; 16];

@@ -2,14 +2,21 @@
 // and `-` where there are none.
 use channel::calls::Answer;
 use channel::calls::Wrote;
+use codec::Parsed;
+use codec::Record;
+use codec::Written;
+use exec::MaybeStatus;
 use exec::Receipt;
 use exec::Refusal;
 use exec::Reply;
+use exec::Status;
 use exec::Stream;
+use exits::Told;
 use libc::STDOUT_FILENO;
 use runner::answer::Asked;
 use runner::answer::Message;
 use runner::answer::Request;
+use runner::answer::Said;
 use runner::answer::Taken;
 
 fn text(bytes: &[u8]) {
@@ -38,6 +45,13 @@ fn shown(bytes: &[u8]) {
     } else {
         hex(bytes);
     }
+}
+
+// With a minus in front where the number is negative.
+fn signed(n: i32) {
+    let mut digits = [0u8; 21];
+    let end = decimal::write_signed(n, &mut digits, 0);
+    text(first(&digits, end));
 }
 
 fn stream(stream: Stream) {
@@ -102,12 +116,12 @@ fn first(bytes: &[u8], n: usize) -> &[u8] {
 
 fn message(message: Message, bytes: &[u8]) {
     name(message);
+    text(b",");
     sized(bytes);
 }
 
 // The end of a line: how many bytes, and the bytes.
 fn sized(bytes: &[u8]) {
-    text(b",");
     number(bytes.len() as u64);
     text(b",");
     shown(bytes);
@@ -138,6 +152,34 @@ pub(crate) fn noted(call: &[u8], reply: Reply) {
     replied(reply);
 }
 
+// The workload's end with its status.
+pub(crate) fn exited(with: MaybeStatus, reply: Reply) {
+    text(b"exited,");
+    maybe_status(with);
+    text(b",");
+    replied(reply);
+}
+
+fn maybe_status(maybe: MaybeStatus) {
+    match maybe {
+        MaybeStatus::None => text(b"-"),
+        MaybeStatus::Some(known) => status(known),
+    }
+}
+
+// E and the code, or S and the number of the signal.
+fn status(status: Status) {
+    match status {
+        Status::Exited(code) => lettered(b"E", code),
+        Status::Signaled(n) => lettered(b"S", n),
+    }
+}
+
+fn lettered(letter: &[u8], n: i32) {
+    text(letter);
+    signed(n);
+}
+
 fn replied(reply: Reply) {
     match reply {
         Reply::Ok => text(b"ok\n"),
@@ -149,14 +191,15 @@ fn replied(reply: Reply) {
 pub(crate) fn output(of: Stream, taken: Taken) {
     text(b"output,");
     stream(of);
+    text(b",");
     match taken {
-        Taken::Bytes(n) => counted(b",taken ", n as u64),
+        Taken::Bytes(n) => counted(b"taken ", n as u64),
         Taken::Refused(refusal) => refused(refusal),
     }
 }
 
 pub(crate) fn pending(bytes: &[u8]) {
-    text(b"pending");
+    text(b"pending,");
     sized(bytes);
 }
 
@@ -175,5 +218,73 @@ fn request(request: Request) {
         Request::Discard(_) => text(b"Discard\n"),
         Request::CloseInput => text(b"CloseInput\n"),
         Request::Settle => text(b"Settle\n"),
+    }
+}
+
+// The next message without its record.
+pub(crate) fn said(said: Said) {
+    text(b"message,");
+    match said {
+        Said::None => text(b"none\n"),
+        Said::Message(next) => bare(next),
+        Said::Refused(refusal) => refused(refusal),
+    }
+}
+
+// The message's name, and the status that it tells if it is a Terminal.
+fn bare(message: Message) {
+    name(message);
+    match message {
+        Message::Terminal(outcome) => {
+            let with = outcome.status;
+            text(b",");
+            maybe_status(with);
+        }
+        _ => {}
+    }
+    text(b"\n");
+}
+
+// CLOSE, written without a runner.
+pub(crate) fn closed(written: Written, buffer: &[u8]) {
+    text(b"close,");
+    match written {
+        Written::Bytes(n) => sized(first(buffer, n)),
+        Written::Refused(refusal) => refused(refusal),
+    }
+}
+
+// A request that tells how a program ended, and what it told.
+pub(crate) fn exit(bytes: &[u8], told: Told) {
+    text(b"exit,");
+    shown(bytes);
+    text(b",");
+    match told {
+        Told::Status(known) => {
+            status(known);
+            text(b"\n");
+        }
+        Told::Refused(refusal) => refused(refusal),
+    }
+}
+
+// A record read without a runner, by its name.
+pub(crate) fn parsed(bytes: &[u8], parsed: Parsed) {
+    text(b"record,");
+    shown(bytes);
+    text(b",");
+    match parsed {
+        Parsed::Read(rec) => named(rec),
+        Parsed::Refused(refusal) => refused(refusal),
+    }
+}
+
+fn named(rec: Record) {
+    match rec {
+        Record::Adjust(_) => text(b"Adjust\n"),
+        Record::Data(_) => text(b"Data\n"),
+        Record::Extended(_) => text(b"Extended\n"),
+        Record::Eof => text(b"Eof\n"),
+        Record::Close => text(b"Close\n"),
     }
 }

@@ -1,15 +1,16 @@
-// The steps of a session: each makes one call, prints it and hands the runner on.
+// The steps of a session: each makes one call, prints it and hands the runner on, if it has one.
 ghost use Prim.Native.Nat.{_≤_, _<_};
+ghost use lib.ListN.{length};
 use crate::print;
 use channel::calls::Wrote;
 use channel::calls::read_record;
 use channel::calls::write_record;
+use codec::Record;
 use exec::Key;
 use exec::LaunchResult;
 use exec::Limits;
 use exec::MaybeStatus;
 use exec::Settlement;
-use exec::Status;
 use exec::Stream;
 use exec::Timers;
 use exec::Window;
@@ -44,11 +45,11 @@ pub(crate) fn open(limits: Limits, store: &[u8]) -> Runner {
     noted(b"open", noting)
 }
 
-// A runner whose workload runs, and whose peer grants credit.
-pub(crate) fn begin(limits: Limits, channel: u32, grant: &[u8], store: &mut [u8]) -> Runner {
+// A runner whose workload runs, and the first record of its peer.
+pub(crate) fn begin(limits: Limits, channel: u32, bytes: &[u8], store: &mut [u8]) -> Runner {
     let opened = open(limits, store);
     let runner = noted(b"launched", opened.launched(LaunchResult::Started));
-    read(runner, channel, grant, store)
+    read(runner, channel, bytes, store)
 }
 
 // Reads a record for the channel.
@@ -134,9 +135,9 @@ pub(crate) fn taken(runner: Runner, store: &[u8]) -> Runner {
     noted(b"input_written,2", runner.input_written(&mut lengths, 2))
 }
 
-// The workload's streams close; it exits and settles.
-pub(crate) fn ended(runner: Runner) -> Runner {
-    settled(exited(closed(runner)))
+// The workload's streams close; it exits with a status, if that is known, and settles.
+pub(crate) fn ended(runner: Runner, status: MaybeStatus) -> Runner {
+    settled(exited(closed(runner), status))
 }
 
 fn closed(runner: Runner) -> Runner {
@@ -147,11 +148,11 @@ fn closed(runner: Runner) -> Runner {
     noted(b"output_closed,Stderr", half.output_closed(Stream::Stderr))
 }
 
-fn exited(runner: Runner) -> Runner {
-    noted(
-        b"exited,E0",
-        runner.exited(NOW, MaybeStatus::Some(Status::Exited(0))),
-    )
+fn exited(runner: Runner, status: MaybeStatus) -> Runner {
+    let noting = runner.exited(NOW, status);
+    let reply = noting.reply;
+    print::exited(status, reply);
+    noting.runner
 }
 
 // The input's end is asked for first.
@@ -165,4 +166,50 @@ fn request(runner: Runner) -> Runner {
     let asked = asking.asked;
     print::asked(asked);
     asking.runner
+}
+
+// Takes the next message without its record.
+pub(crate) fn message(runner: Runner, store: &[u8], buffer: &mut [u8]) -> Runner {
+    let saying = runner.next_message(store, buffer);
+    let said = saying.said;
+    print::said(said);
+    saying.runner
+}
+
+// Writes CLOSE, which takes no runner.
+pub(crate) fn close(channel: u32, buffer: &mut [u8]) {
+    let written = codec::write(channel, Record::Close, b"", buffer);
+    print::closed(written, buffer);
+}
+
+// Reads a request that tells how a program ended.
+fn exit(channel: u32, bytes: &[u8]) {
+    let told = exits::read(bytes, channel);
+    print::exit(bytes, told);
+}
+
+// Reads such requests, which stand one after the other, each behind a byte that says its length.
+pub(crate) fn exit_all(channel: u32, requests: &[u8]) {
+    let mut i = 0;
+    while i < requests.len() {
+        let start = i + 1;
+        let end = start + least(wide(requests[i]), requests.len() - start);
+        exit(channel, &requests[start..end]);
+        i = end;
+    }
+}
+
+// Reads the two records of a Terminal: the last 5 bytes are CLOSE, and those before them the request.
+pub(crate) fn cut(channel: u32, records: &[u8])
+    requires { ⌜ 5 ≤ length (now records) ⌝ }
+{
+    let end = records.len();
+    let at = end - 5;
+    exit(channel, &records[0..at]);
+    parsed(channel, &records[at..end]);
+}
+
+fn parsed(channel: u32, bytes: &[u8]) {
+    let parsed = codec::read(bytes, channel);
+    print::parsed(bytes, parsed);
 }
