@@ -7,7 +7,6 @@ use native.Mathlib.Omega.{arith}
 use lib.Dec.{ltb, eqb}
 use lib.ListN.{length, drop}
 use lib.Seq.{take-at}
-use borrow.Author.Tests.{leb-true}
 use Rattle.exec.specs.declared.Admission.{Admission}
 use Rattle.exec.specs.declared.Admission.the-variants as Admission
 use Rattle.exec.specs.declared.Key.{Key}
@@ -21,9 +20,7 @@ use Rattle.exec.specs.declared.Stream.{Stream}
 use Rattle.exec.specs.Key.{admits}
 use Rattle.exec.specs.Limits.{cost, offChunk, outputPool}
 use Rattle.exec.specs.Refusal.{number}
-use Rattle.inbox.specs.Need.{byteNeed}
 use Rattle.credit.specs.Sender.{grantable}
-use Rattle.ring.specs.RingLaws.{read-length}
 use Rattle.input.specs.Input as Input
 use Rattle.runner.specs.declared.answer.Request.the-variants as Request
 use Rattle.choice.specs.declared.Choice.{Choice}
@@ -35,9 +32,8 @@ use Rattle.runner.specs.Calls as Calls
 use Rattle.runner.specs.Calls.{askedFor}
 use Rattle.runner.specs.Life.{isLate, ticked, cancelAnswer}
 use Rattle.runner.specs.Message.{choose, payload, saidFor, bufferAfter, wish}
-use Rattle.runner.specs.MessageLaws.{Sendable, is-sendable}
+use Rattle.runner.specs.MessageLaws.{payload-length}
 use Rattle.runner.specs.Range.{stop, bytesDo}
-use Rattle.runner.specs.RangeLaws.{Good, is-good}
 use Rattle.runner.specs.State.{creditAt, outOf, base}
 use Rattle.runner.specs.Streams as Streams
 use Rattle.calls.specs.Call as Call
@@ -86,18 +82,6 @@ next-is s Call.highWater g = refl
 
 -- ---- what is answered
 
--- the bytes of an output message that is chosen are as many as it says
-pub payload-length : (s : State) (buffer : List ℕ) (x : Stream) (n : ℕ) → stop (s .runner) (bytesDo (s .runner .limits) (s .bytes)) ≡ Reply.Ok
-    → Choice.Output x n ≡ choose (s .runner) (length buffer) → length (payload (s .runner) x n (s .bytes)) ≡ n
-unfolding payload
-payload-length s buffer x n g e =
-    let r : Runner = s .runner in
-    let good : Good r (bytesDo (r .limits) (s .bytes)) = is-good r (bytesDo (r .limits) (s .bytes)) g in
-    let b : Sendable r x n (s .bytes) buffer =
-    is-sendable r x n (s .bytes) buffer (good .range) (leb-true (byteNeed (r .limits)) (length (s .bytes)) (good .stores-do)) e in
-    let most = b .queued in let within = b .queue .most in
-    read-length (base x (r .limits .chunk)) (r .limits .chunk) (outOf x r .start) n (s .bytes) (b .area) (b .queue .begins) (omega arith)
-
 -- the payload is read where the call put it
 says-is : (m : Choice) (r : Runner) (store buffer : List ℕ) → ((x : Stream) (n : ℕ) → Choice.Output x n ≡ m → length (payload r x n store) ≡ n)
     → says (saidFor m r) (bufferAfter m r store buffer) ≡ said m r store
@@ -139,7 +123,7 @@ answer-is s Call.deadline g = rw g refl
 answer-is s Call.nextRequest g = rw g refl
 answer-is s (Call.nextMessage buffer) g =
     let e : stop (s .runner) (bytesDo (s .runner .limits) (s .bytes)) ≡ Reply.Ok = g in
-    rw e (says-is (choose (s .runner) (length buffer)) (s .runner) (s .bytes) buffer (λ x n o. payload-length s buffer x n e o))
+    rw e (says-is (choose (s .runner) (length buffer)) (s .runner) (s .bytes) buffer (λ x n o. payload-length (s .runner) (s .bytes) buffer x n e o))
 answer-is s Call.isFinished g = rw g refl
 answer-is s Call.isDetached g = rw g refl
 answer-is s Call.awaitsSettlement g = rw g refl

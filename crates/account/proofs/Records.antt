@@ -53,7 +53,7 @@ use Rattle.account.specs.Claim.{Demand3, Opens, IsPrefix, Silent, isMess
 use Rattle.account.specs.Records.{Entry, call, readRecord, writeRecord, nextEntry, readAs, wroteAs, answerEntry, afterEntries, runEntries, callOf, roomy, isUntaken, made, consCall, callsOf, consDone, donesOf, entryAccount, anyTerminalIn, SilentIn, Whole}
 use Rattle.account.specs.Refused.{among, ofReads, ofWrites, ofEntry}
 use Rattle.account.proofs.Plain as Plain
-use Rattle.account.proofs.Guarded.{payload-length}
+use Rattle.runner.specs.MessageLaws.{payload-length}
 use Rattle.runner.specs.TerminalLaws.{still}
 use Rattle.account.proofs.Finish.{framed, framed-conf, ends, ends-answer}
 use Rattle.account.proofs.Lives.{confOf}
@@ -208,7 +208,7 @@ module _ (s : State) (channel : ℕ) (buffer : List ℕ) (g : stop (s .runner) (
   unfolding Does told asked Step.next Step.answer Calls.nextMessage
   told-does h = (
     refl,
-    rw g (choice-told (choose (s .runner) (length part)) (s .runner) (s .bytes) part buffer channel (s .runner .limits .chunk) (hasEnded (s .runner)) h (λ x n e. payload-length s part x n g e)),
+    rw g (choice-told (choose (s .runner) (length part)) (s .runner) (s .bytes) part buffer channel (s .runner .limits .chunk) (hasEnded (s .runner)) h (λ x n e. payload-length (s .runner) (s .bytes) part x n g e)),
   )
 
   written-does : (met : Bool) (w : WriteAfter) → Writes (s .runner) channel (s .bytes) buffer met w

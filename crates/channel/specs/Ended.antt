@@ -66,7 +66,7 @@ module _ (r : Runner) (channel : ℕ) (store b : List ℕ) where
   writes g = rw g (write-by (isChannel (r .limits)) (leb (room (r .limits)) (length b)) (isLeft (asked r store b .saying .said)) refl refl)
 
   -- and of any other
-  stopped : (x : Refusal) → stop r (bytesDo (r .limits) store) ≡ Reply.Refused x → writeRecord r channel store b ≡ writeAfter (unwritten x r) b
+  pub stopped : (x : Refusal) → stop r (bytesDo (r .limits) store) ≡ Reply.Refused x → writeRecord r channel store b ≡ writeAfter (unwritten x r) b
   unfolding writeRecord admitted admittedWrite
   stopped x g = rw g refl
 

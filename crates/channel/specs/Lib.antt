@@ -2,4 +2,5 @@
 pub mod Calls
 pub mod CallLaws
 pub mod Ended
+pub mod Kept
 pub mod Edges

@@ -52,6 +52,14 @@ start-least (Extended n) = omega arith
 start-least Eof = omega arith
 start-least Close = omega arith
 
+-- and at most at byte 13
+pub start-most : (rec : Record) → start rec ≤ 13
+start-most (Adjust units) = omega arith
+start-most (Data n) = omega arith
+start-most (Extended n) = omega arith
+start-most Eof = omega arith
+start-most Close = omega arith
+
 kinded-of : (k : ℕ) (s : List ℕ) (rec : Record) → IsKind k s rec → kinded k s ≡ Parsed.Read rec
 unfolding kinded
 kinded-of k s (Adjust units) h = rw (h .0, h .1)

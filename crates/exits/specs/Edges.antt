@@ -3,10 +3,12 @@
 use mathlib.Core.Bool.{Bool, true, false, _||_}
 use mathlib.Core.List.{List, [], _∷_, _++_}
 use mathlib.Core.Path.{_≡_, refl}
-use Prim.Native.Nat.{ℕ, zero, suc, _+_, _-_, _*_, _^_}
+use Prim.Native.Nat.{ℕ, zero, suc, _+_, _*_, _^_, _≤_, _<_}
+use native.Mathlib.Omega.{arith}
 use lib.Dec.{eqb}
 use lib.IntN.{pos, negsuc}
 use lib.ListN.{length, take}
+use borrow.Author.Tests.{lt-ltb, le-ltb, ne-eqb}
 use Rattle.exec.specs.declared.MaybeStatus.{MaybeStatus}
 use Rattle.exec.specs.declared.MaybeStatus.the-variants as MaybeStatus
 use Rattle.exec.specs.declared.Refusal.the-variants.{BadLength, UnknownKind, OtherChannel, BufferShort, UntoldStatus, BadRequest}
@@ -75,17 +77,25 @@ after : ℕ → ℕ
 unfolding long
 after n = long (MaybeStatus.Some (Signaled (pos n)))
 
-lengths : (long MaybeStatus.None ≡ 5) × (long (MaybeStatus.Some (Exited (pos 0))) ≡ 30) × (long (MaybeStatus.Some (Exited (pos (2 ^ 31 - 1)))) ≡ 30)
+lengths : (long MaybeStatus.None ≡ 5) × ((code : ℕ) → long (MaybeStatus.Some (Exited (pos code))) ≡ 30)
     × (after 1 ≡ 42) × (after 2 ≡ 42) × (after 3 ≡ 43) × (after 4 ≡ 42) × (after 6 ≡ 43) × (after 8 ≡ 42) × (after 9 ≡ 43) × (after 10 ≡ 43)
     × (after 11 ≡ 43) × (after 12 ≡ 43) × (after 13 ≡ 43) × (after 14 ≡ 43) × (after 15 ≡ 43)
 unfolding after
-lengths = (refl, refl, refl, refl, refl, refl, refl, refl, refl, refl, refl, refl, refl, refl, refl, refl)
+lengths = (refl, λ code. refl, refl, refl, refl, refl, refl, refl, refl, refl, refl, refl, refl, refl, refl)
 
 -- ---- what is told, and what is left with 40: "a negative code or a number outside the table"
 
-codes : (isTold (Exited (pos 0)) ≡ true) × (isTold (Exited (pos (2 ^ 31 - 1))) ≡ true) × (isTold (Exited (negsuc 0)) ≡ false)
+pub codes-told : (code : ℕ) → code < 2 ^ 31 → isTold (Exited (pos code)) ≡ true
 unfolding isTold
-codes = (refl, refl, refl)
+codes-told code h = lt-ltb code (2 ^ 31) h
+
+pub codes-over : (code : ℕ) → 2 ^ 31 ≤ code → isTold (Exited (pos code)) ≡ false
+unfolding isTold
+codes-over code h = le-ltb code (2 ^ 31) h
+
+pub codes-negative : (n : ℕ) → isTold (Exited (negsuc n)) ≡ false
+unfolding isTold
+codes-negative n = refl
 
 -- a signal is told exactly where its number is one of the thirteen
 abbrev among : ℕ → List ℕ → Bool
@@ -102,24 +112,29 @@ none-negative n = refl
 
 -- ---- 25 asks for 43 bytes whatever the status; then 40
 
-zeros : ℕ → List ℕ
-zeros zero = []
-zeros (suc n) = 0 ∷ zeros n
+-- a buffer in which every byte is 7
+sevens : ℕ → List ℕ
+sevens zero = []
+sevens (suc n) = 7 ∷ sevens n
 
 closed-in : (room : ℕ) → MaybeStatus → WrittenAfter
-unfolding close closed isUntold isTold ending bytesOf header request bytes signalFor signalOf find zeros
-closed-in room status = close 5 status (zeros room)
+unfolding close closed isUntold isTold ending bytesOf header request bytes signalFor signalOf find sevens
+closed-in room status = close 5 status (sevens room)
 
-room : (closed-in 42 MaybeStatus.None ≡ writtenAfter (Written.Refused BufferShort) (zeros 42))
-    × (closed-in 43 MaybeStatus.None .answer ≡ Written.Bytes 5)
-    × (closed-in 43 (MaybeStatus.Some (Signaled (pos 15))) ≡ writtenAfter (Written.Bytes 43) (term-on-5 ++ (97 ∷ 0 ∷ 0 ∷ 0 ∷ 5 ∷ [])))
-    × (closed-in 42 (MaybeStatus.Some (Signaled (pos 7))) ≡ writtenAfter (Written.Refused BufferShort) (zeros 42))
-    × (closed-in 43 (MaybeStatus.Some (Signaled (pos 7))) ≡ writtenAfter (Written.Refused UntoldStatus) (zeros 43))
-    × (closed-in 43 (MaybeStatus.Some (Exited (negsuc 0))) ≡ writtenAfter (Written.Refused UntoldStatus) (zeros 43))
+close-on-5 : List ℕ
+close-on-5 = 97 ∷ 0 ∷ 0 ∷ 0 ∷ 5 ∷ []
+
+room : (closed-in 42 MaybeStatus.None ≡ writtenAfter (Written.Refused BufferShort) (sevens 42))
+    × (closed-in 43 MaybeStatus.None ≡ writtenAfter (Written.Bytes 5) (close-on-5 ++ sevens 38))
+    × (closed-in 43 (MaybeStatus.Some (Signaled (pos 15))) ≡ writtenAfter (Written.Bytes 43) (term-on-5 ++ close-on-5))
+    × (closed-in 44 (MaybeStatus.Some (Signaled (pos 2))) ≡ writtenAfter (Written.Bytes 42) (int-on-5 ++ (close-on-5 ++ sevens 2)))
+    × (closed-in 42 (MaybeStatus.Some (Signaled (pos 7))) ≡ writtenAfter (Written.Refused BufferShort) (sevens 42))
+    × (closed-in 43 (MaybeStatus.Some (Signaled (pos 7))) ≡ writtenAfter (Written.Refused UntoldStatus) (sevens 43))
+    × (closed-in 43 (MaybeStatus.Some (Exited (negsuc 0))) ≡ writtenAfter (Written.Refused UntoldStatus) (sevens 43))
     × (number BufferShort ≡ 25)
     × (number UntoldStatus ≡ 40)
-unfolding closed-in term-on-5
-room = (refl, refl, refl, refl, refl, refl, refl, refl)
+unfolding closed-in term-on-5 int-on-5 close-on-5
+room = (refl, refl, refl, refl, refl, refl, refl, refl, refl)
 
 -- ---- the reader, for channel 5: 20 (empty), 21, 22 from 5 bytes on, 41
 
@@ -140,6 +155,7 @@ signal-with size letter core last = 98 ∷ 0 ∷ 0 ∷ 0 ∷ 5 ∷ 0 ∷ 0 ∷ 0
 
 order : (reads [] ≡ Told.Refused BadLength)
     × (reads (97 ∷ 0 ∷ 0 ∷ 0 ∷ 5 ∷ []) ≡ Told.Refused UnknownKind)
+    × (reads (97 ∷ 0 ∷ 0 ∷ 0 ∷ 6 ∷ []) ≡ Told.Refused UnknownKind)
     × (reads (98 ∷ []) ≡ Told.Refused BadRequest)
     × (reads (98 ∷ 0 ∷ 0 ∷ 0 ∷ []) ≡ Told.Refused BadRequest)
     × (reads (98 ∷ 0 ∷ 0 ∷ 0 ∷ 6 ∷ []) ≡ Told.Refused OtherChannel)
@@ -150,7 +166,12 @@ order : (reads [] ≡ Told.Refused BadLength)
     × (number OtherChannel ≡ 22)
     × (number BadRequest ≡ 41)
 unfolding reads status-with
-order = (refl, refl, refl, refl, refl, refl, refl, refl, refl, refl, refl)
+order = (refl, refl, refl, refl, refl, refl, refl, refl, refl, refl, refl, refl)
+
+-- "any other kind is 21", whatever stands behind it
+pub other-kind : (channel k : ℕ) (s : List ℕ) → (k ≡ 98 → ⊥) → read channel (k ∷ s) ≡ Told.Refused UnknownKind
+unfolding read
+other-kind channel k s h = simp (ne-eqb (length (k ∷ s)) 0 (omega arith), ne-eqb k 98 h)
 
 -- "a wrong length, a code no status holds", and every byte that 6.10 fixes
 forms : (reads (status-with 5 0 0 7) ≡ Told.Status (Exited (pos 7)))

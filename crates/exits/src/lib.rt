@@ -29,7 +29,7 @@ ghost use Rattle.exits.specs.Exit.{
   read,
 };
 
-pub mod signals;
+mod signals;
 
 use codec::Record;
 use codec::Written;

@@ -6,13 +6,15 @@ use native.Mathlib.Omega.{arith}
 use mathlib.Core.List.{List}
 use lib.Dec.{ltb}
 use lib.ListN.{length}
-use borrow.Author.Tests.{ltb-true}
+use borrow.Author.Tests.{ltb-true, leb-true}
+use Rattle.exec.specs.declared.Reply.the-variants as Reply
 use Rattle.exec.specs.declared.Stream.{Stream}
 use Rattle.exec.specs.declared.Stream.the-variants.{Stdout, Stderr}
 use Rattle.exec.specs.declared.Unit as Units
 use Rattle.exec.specs.declared.Unit.the-variants.{Bytes, Frames}
 use Rattle.exec.specs.Limits.{cost, poolOf}
 use Rattle.exec.specs.Stream.{streamAt, pick, picked, following}
+use Rattle.ring.specs.RingLaws.{read-length}
 use Rattle.inbox.specs.Need.{byteNeed}
 use Rattle.inbox.specs.RangeLaws.{both}
 use Rattle.credit.specs.Sender.{sendable}
@@ -22,8 +24,9 @@ use Rattle.runner.specs.declared.runner.Runner.{Runner}
 use Rattle.choice.specs.Order.{ifElse, order}
 use Rattle.input.specs.Input.{canGrant}
 use Rattle.runner.specs.Life.{awaitsLaunch, isReady}
-use Rattle.runner.specs.Message.{sendableOf, untold, choose}
-use Rattle.runner.specs.RangeLaws.{Queued, InRange}
+use Rattle.runner.specs.Message.{sendableOf, untold, choose, payload}
+use Rattle.runner.specs.Range.{bytesDo, stop}
+use Rattle.runner.specs.RangeLaws.{Queued, InRange, Good, is-good}
 use Rattle.runner.specs.State.{outOf, base, creditAt}
 
 -- the account of its pool has the cost of n bytes
@@ -151,3 +154,13 @@ module _ (r : Runner) (x : Stream) (n : ℕ) (store buffer : List ℕ) (h : InRa
         queued = omega (arith, c .bytes, l);
         fits = omega (arith, c .bytes, l);
       }
+
+-- the bytes of an output message that is chosen are as many as it says
+pub payload-length : (r : Runner) (store buffer : List ℕ) (x : Stream) (n : ℕ) → stop r (bytesDo (r .limits) store) ≡ Reply.Ok
+    → Choice.Output x n ≡ choose r (length buffer) → length (payload r x n store) ≡ n
+unfolding payload
+payload-length r store buffer x n g e =
+    let good : Good r (bytesDo (r .limits) store) = is-good r (bytesDo (r .limits) store) g in
+    let b : Sendable r x n store buffer = is-sendable r x n store buffer (good .range) (leb-true (byteNeed (r .limits)) (length store) (good .stores-do)) e in
+    let most = b .queued in let within = b .queue .most in
+    read-length (base x (r .limits .chunk)) (r .limits .chunk) (outOf x r .start) n store (b .area) (b .queue .begins) (omega arith)
