@@ -2,3 +2,4 @@
 pub mod Bytes
 pub mod BytesLaws
 pub mod Text
+pub mod Edges

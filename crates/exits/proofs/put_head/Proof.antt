@@ -1,5 +1,4 @@
 -- `exits::put_head` meets its contract: five parts, each behind the last.
-use native.Mathlib.Omega.{arith}
 use Rattle.exits.proofs.Laying.{head-laid}
 use mathlib.Core.Path.{_∙_}
 use borrow.Author.Needs.{needs}

@@ -1,6 +1,5 @@
 -- `exits::put_name` meets its contract: the name's length and the name behind the head.
 use mathlib.Core.Path.{_∙_}
-use native.Mathlib.Omega.{arith}
 use Rattle.octets.specs.Text.{bytes}
 use Rattle.exits.proofs.Laying.{name-laid}
 use borrow.Author.Needs.{needs}

@@ -1,5 +1,4 @@
 -- `exits::signals::Signal::is_named` meets its contract.
-use native.Mathlib.Omega.{arith}
 use native.Mathlib.Numerals.{unary-clauses}
 use borrow.Author.Needs.{needs}
 use Rattle.exits.proofs.signals.Signal.is_named.Statement.{statement}
