@@ -214,8 +214,8 @@ module _ (s : State) (channel : ℕ) (buffer : List ℕ) (g : stop (s .runner) (
   written-does : (met : Bool) (w : WriteAfter) → Writes (s .runner) channel (s .bytes) buffer met w
       → Does (writeRecord channel buffer) (cond met (cond (isUntaken (answers w)) none (some (Call.nextMessage part))) none) s (Step.onRunner (w .writing .runner) s) (answers w)
   unfolding Does
-  written-does met w elsewhere = record { kept = refl; refusal = 13; answered = refl; own = refl }
-  written-does met w short = record { kept = refl; refusal = 25; answered = refl; own = refl }
+  written-does met w (elsewhere x) = record { kept = refl; refusal = 13; answered = refl; own = refl }
+  written-does met w (short x y) = record { kept = refl; refusal = 25; answered = refl; own = refl }
   written-does met w (left u) = record { kept = refl; refusal = 40; answered = refl; own = refl }
   written-does met w (taken u h) = rw told-taken (told-does (omega (arith, h)))
 
@@ -223,8 +223,8 @@ module _ (s : State) (channel : ℕ) (buffer : List ℕ) (g : stop (s .runner) (
   left-chosen : (met : Bool) (w : WriteAfter) → Writes (s .runner) channel (s .bytes) buffer met w → isUntaken (answers w) ≡ true
       → (choose (s .runner) (length part) ≡ Choice.Terminal) × (isUntold (outcomeOf (s .runner) .status) ≡ true)
   unfolding asked Calls.nextMessage
-  left-chosen met w elsewhere e = absurd (false≢true e)
-  left-chosen met w short e = absurd (false≢true e)
+  left-chosen met w (elsewhere x) e = absurd (false≢true e)
+  left-chosen met w (short x y) e = absurd (false≢true e)
   left-chosen met w (left u) e = choice-left (choose (s .runner) (length part)) (s .runner) (rw g at u)
   left-chosen met w (taken u h) e = absurd (false≢true (sym told-taken ∙ e))
 

@@ -411,8 +411,8 @@ BufferSafe w buffer = IfRefused Unit (λ n. w .buffer ≡ buffer) (answers w)
 
 write-buffer : (s : State) (channel : ℕ) (buffer : List ℕ) → stop (s .runner) (bytesDo (s .runner .limits) (s .bytes)) ≡ Reply.Ok
     → (met : Bool) (w : WriteAfter) → Writes (s .runner) channel (s .bytes) buffer met w → BufferSafe w buffer
-write-buffer s channel buffer g met w elsewhere = refl
-write-buffer s channel buffer g met w short = refl
+write-buffer s channel buffer g met w (elsewhere x) = refl
+write-buffer s channel buffer g met w (short x y) = refl
 write-buffer s channel buffer g met w (left u) = refl
 write-buffer s channel buffer g met w (taken u h) = told-as s channel buffer g (IfRefused Unit (λ n. tells (s .runner) channel (s .bytes) buffer .buffer ≡ buffer)) tt (λ x. tt)
 

@@ -320,8 +320,8 @@ closes-by : (s : State) (status : MaybeStatus) (b met : Bool) (w : WriteAfter) �
     → stop (s .runner) (bytesDo (s .runner .limits) (s .bytes)) ≡ Reply.Ok → ((n : ℕ) → choose (s .runner) n ≡ Choice.Terminal)
     → outcomeOf (s .runner) ≡ whole-with status → s .runner .limits .chunk ≡ 4 → Closes b status w
 unfolding asked told wrote wroteBuffer sentAs sentBuffer isLeft Calls.nextMessage saidFor bufferAfter
-closes-by s status b met w elsewhere m u g c o k = absurd (false≢true m)
-closes-by s status b met w short m u g c o k = absurd (false≢true m)
+closes-by s status b met w (elsewhere x) m u g c o k = absurd (false≢true m)
+closes-by s status b met w (short x y) m u g c o k = absurd (false≢true m)
 closes-by s status true met w (left v) m u g c o k = refl
 closes-by s status false met w (left v) m u g c o k =
     let z : isUntold status ≡ true = rw (g, c (length (take (s .runner .limits .chunk) (zeros 30))), o) at v in absurd (false≢true (sym u ∙ z))
@@ -392,7 +392,7 @@ module _ (status : MaybeStatus) (bytes lengths : List ℕ) (h : 16 ≤ length by
         sym (t Stderr (channel-terminal u) refl) ∙ channel-sent .1,
       )
 
--- of a program that exited with 0 a 98, exit-status, and CLOSE: 30 bytes, and those behind are as they were
+-- of a program that exited with 0 a 98, exit-status, and CLOSE: 30 bytes
 pub zero-closes : (ending 1 zero-status ++ drop (length (ending 1 zero-status)) (zeros 43)
     ≡ 98 ∷ 0 ∷ 0 ∷ 0 ∷ 1 ∷ 0 ∷ 0 ∷ 0 ∷ 11 ∷ 101 ∷ 120 ∷ 105 ∷ 116 ∷ 45 ∷ 115 ∷ 116 ∷ 97 ∷ 116 ∷ 117 ∷ 115 ∷ 0 ∷ 0 ∷ 0 ∷ 0 ∷ 0 ∷ 97 ∷ 0 ∷ 0 ∷ 0 ∷ 1 ∷ zeros 13)
     × (length (ending 1 zero-status) ≡ 30) × (isUntold zero-status ≡ false)

@@ -6,7 +6,7 @@ use Prim.Native.Nat.{ℕ, _-_, _^_, _≤_, _<_}
 use native.Mathlib.Omega.{arith}
 use lib.Dec.{leb}
 use lib.ListN.{length, take, drop}
-use borrow.Author.Tests.{leb-true}
+use borrow.Author.Tests.{leb-true, leb-false}
 use Rattle.exec.specs.declared.Limits.{Limits}
 use Rattle.exec.specs.declared.Outcome.{Outcome}
 use Rattle.exec.specs.declared.Refusal.{Refusal}
@@ -43,27 +43,27 @@ use Rattle.channel.specs.Calls.{WriteAfter, writeAfter, isChannel, onCha
 abbrev pub tells : Runner → (channel : ℕ) (store b : List ℕ) → WriteAfter
 tells r channel store b = told (asked r store b .saying) (hasEnded r) channel (partBack (r .limits .chunk) b (asked r store b .buffer))
 
--- what a write leaves, by whether it is for a channel and there is room: it is refused by 13, 25 or 40, or its message is told
+-- what a write leaves, by whether it is for a channel and there is room: it is refused by 13, then by 25, then by 40, or its message is told
 pub data Writes (r : Runner) (channel : ℕ) (store b : List ℕ) : Bool → WriteAfter → Type 0 where
-  elsewhere : Writes r channel store b false (writeAfter (unwritten NotAChannel r) b)
-  short : Writes r channel store b false (writeAfter (unwritten BufferShort r) b)
+  elsewhere : isChannel (r .limits) ≡ false → Writes r channel store b false (writeAfter (unwritten NotAChannel r) b)
+  short : isChannel (r .limits) ≡ true → length b < room (r .limits) → Writes r channel store b false (writeAfter (unwritten BufferShort r) b)
   left : isLeft (asked r store b .saying .said) ≡ true → Writes r channel store b true (writeAfter (unwritten UntoldStatus r) b)
   taken : isLeft (asked r store b .saying .said) ≡ false → room (r .limits) ≤ length b → Writes r channel store b true (tells r channel store b)
 
 module _ (r : Runner) (channel : ℕ) (store b : List ℕ) where
-  write-by : (channels roomy isleft : Bool) → leb (room (r .limits)) (length b) ≡ roomy → isLeft (asked r store b .saying .said) ≡ isleft
+  write-by : (channels roomy isleft : Bool) → isChannel (r .limits) ≡ channels → leb (room (r .limits)) (length b) ≡ roomy → isLeft (asked r store b .saying .said) ≡ isleft
       → Writes r channel store b (channels && roomy) (admittedWrite (cond channels Reply.Ok (Reply.Refused NotAChannel)) r channel store b)
   unfolding admittedWrite roomyWrite sent
-  write-by false roomy isleft e u = elsewhere
-  write-by true false isleft e u = rw e short
-  write-by true true true e u = rw (e, u) (left u)
-  write-by true true false e u = rw (e, u) (taken u (leb-true (room (r .limits)) (length b) e))
+  write-by false roomy isleft c e u = elsewhere c
+  write-by true false isleft c e u = rw e (short c (leb-false (room (r .limits)) (length b) e))
+  write-by true true true c e u = rw (e, u) (left u)
+  write-by true true false c e u = rw (e, u) (taken u (leb-true (room (r .limits)) (length b) e))
 
   -- of a runner in range with its stores
   pub writes : stop r (bytesDo (r .limits) store) ≡ Reply.Ok
       → Writes r channel store b (isChannel (r .limits) && leb (room (r .limits)) (length b)) (writeRecord r channel store b)
   unfolding writeRecord admitted
-  writes g = rw g (write-by (isChannel (r .limits)) (leb (room (r .limits)) (length b)) (isLeft (asked r store b .saying .said)) refl refl)
+  writes g = rw g (write-by (isChannel (r .limits)) (leb (room (r .limits)) (length b)) (isLeft (asked r store b .saying .said)) refl refl refl)
 
   -- and of any other
   pub stopped : (x : Refusal) → stop r (bytesDo (r .limits) store) ≡ Reply.Refused x → writeRecord r channel store b ≡ writeAfter (unwritten x r) b
@@ -86,8 +86,8 @@ choice-left Choice.Terminal r e = (refl, e)
 -- where there is room it is left by 40
 pub write-left : (r : Runner) (channel : ℕ) (store b : List ℕ) (met : Bool) (w : WriteAfter) → Writes r channel store b met w → met ≡ true
     → isLeft (asked r store b .saying .said) ≡ true → w ≡ writeAfter (unwritten UntoldStatus r) b
-write-left r channel store b met w elsewhere m e = absurd (false≢true m)
-write-left r channel store b met w short m e = absurd (false≢true m)
+write-left r channel store b met w (elsewhere c) m e = absurd (false≢true m)
+write-left r channel store b met w (short c l) m e = absurd (false≢true m)
 write-left r channel store b met w (left u) m e = refl
 write-left r channel store b met w (taken u l) m e = absurd (false≢true (sym u ∙ e))
 
@@ -132,8 +132,8 @@ module _ (r : Runner) (channel : ℕ) (store b : List ℕ) where
   by-writes : stop r (bytesDo (r .limits) store) ≡ Reply.Ok → (met : Bool) (w : WriteAfter) → Writes r channel store b met w → writeRecord r channel store b ≡ w
       → numberOf (w .writing .wrote) ≡ 40 → Still r channel store b
   unfolding asked told Calls.nextMessage
-  by-writes g met w elsewhere e h = absurd (omega arith)
-  by-writes g met w short e h = absurd (omega arith)
+  by-writes g met w (elsewhere c) e h = absurd (omega arith)
+  by-writes g met w (short c l) e h = absurd (omega arith)
   by-writes g met w (left u) e h = still-left g u e
   by-writes g met w (taken u l) e h =
       let z : _≡_ {A = ℕ} 0 40 = sym (said-number (choose r (length (take (r .limits .chunk) (drop 13 b)))) r channel (hasEnded r)) ∙ (rw g at h) in
@@ -190,8 +190,8 @@ module _ (r : Runner) (channel : ℕ) (known : channel < 2 ^ 32) where
   ends : (store b : List ℕ) → stop r (bytesDo (r .limits) store) ≡ Reply.Ok → (met : Bool) (w : WriteAfter) → Writes r channel store b met w
       → EndsAs channel (w .buffer) (w .writing .wrote)
   unfolding asked told Calls.nextMessage
-  ends store b g met w elsewhere = tt
-  ends store b g met w short = tt
+  ends store b g met w (elsewhere c) = tt
+  ends store b g met w (short c l) = tt
   ends store b g met w (left u) = tt
   ends store b g met w (taken u l) = rw g (choice-ends (choose r (length (take (r .limits .chunk) (drop 13 b)))) (hasEnded r) _ (rw g at u))
 

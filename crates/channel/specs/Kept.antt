@@ -111,8 +111,8 @@ module _ (r : Runner) (channel : ℕ) (store b : List ℕ) where
   kept-by : stop r (bytesDo (r .limits) store) ≡ Reply.Ok → (met : Bool) (w : WriteAfter) → Writes r channel store b met w
       → drop (room (r .limits)) (w .buffer) ≡ drop (room (r .limits)) b
   unfolding asked told Calls.nextMessage chunk part
-  kept-by g met w elsewhere = refl
-  kept-by g met w short = refl
+  kept-by g met w (elsewhere c) = refl
+  kept-by g met w (short c l) = refl
   kept-by g met w (left u) = refl
   kept-by g met w (taken u l) = rw g (said-beyond r b l channel store (hasEnded r) g (choose r (length (take (r .limits .chunk) (drop 13 b)))) refl)
 

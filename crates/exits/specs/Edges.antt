@@ -43,10 +43,11 @@ term-on-5 = 98 ∷ 0 ∷ 0 ∷ 0 ∷ 5 ∷ 0 ∷ 0 ∷ 0 ∷ 11
     ∷ 0 ∷ 0 ∷ 0 ∷ 4 ∷ 84 ∷ 69 ∷ 82 ∷ 77 ∷ 0 ∷ 0 ∷ 0 ∷ 0 ∷ 0 ∷ 0 ∷ 0 ∷ 0 ∷ 0 ∷ []
 
 requests : (request 1 (Exited (pos 0)) ≡ zero-on-1)
+    × (request 1 (Exited (pos 16909060)) ≡ take 21 zero-on-1 ++ (1 ∷ 2 ∷ 3 ∷ 4 ∷ []))
     × (request 5 (Signaled (pos 2)) ≡ int-on-5)
     × (request 5 (Signaled (pos 15)) ≡ term-on-5)
 unfolding request bytes signalFor signalOf find zero-on-1 int-on-5 term-on-5
-requests = (refl, refl, refl)
+requests = (refl, refl, refl, refl)
 
 -- CLOSE stands directly behind, and a missing status has no request
 closing : (ending 5 (MaybeStatus.Some (Signaled (pos 2))) ≡ int-on-5 ++ (97 ∷ 0 ∷ 0 ∷ 0 ∷ 5 ∷ []))
