@@ -1,13 +1,12 @@
 -- How a session ends on a channel: what the record of a Terminal tells, and a Terminal that is left with the runner.
 use mathlib.Core.Bool.{Bool, true, false, cond, not, _&&_, false≢true}
-use mathlib.Core.List.{List, _++_}
+use mathlib.Core.List.{List}
 use mathlib.Core.Path.{_≡_, refl, sym, ap, subst, subst⁻¹, _∙_}
 use Prim.Native.Nat.{ℕ, _-_, _^_, _≤_, _<_}
 use native.Mathlib.Omega.{arith}
 use lib.Dec.{leb}
 use lib.ListN.{length, take, drop}
 use borrow.Author.Tests.{leb-true, leb-false}
-use Rattle.exec.specs.declared.Limits.{Limits}
 use Rattle.exec.specs.declared.Outcome.{Outcome}
 use Rattle.exec.specs.declared.Refusal.{Refusal}
 use Rattle.exec.specs.declared.Refusal.the-variants.{NoLimits, StoreShort, StateOutOfRange, NotAChannel, BufferShort, UntoldStatus}
@@ -23,9 +22,8 @@ use Rattle.runner.specs.declared.answer.Said.{Said}
 use Rattle.runner.specs.declared.answer.Said.the-variants as Said
 use Rattle.runner.specs.declared.runner.Runner.{Runner}
 use Rattle.runner.specs.Calls as Calls
-use Rattle.runner.specs.Calls.{messageBy}
 use Rattle.runner.specs.Life.{outcomeOf}
-use Rattle.runner.specs.Message.{choose, saidFor, bufferAfter}
+use Rattle.runner.specs.Message.{choose, saidFor}
 use Rattle.runner.specs.Range.{inRange, bytesDo, stop}
 use Rattle.runner.specs.TerminalLaws.{still}
 use Rattle.codec.specs.declared.Parsed.the-variants as Parsed
@@ -35,7 +33,7 @@ use Rattle.exits.specs.Exit.{isUntold, ending}
 use Rattle.exits.specs.RoundTrip.{Tells, ended-reads}
 use Rattle.channel.specs.declared.calls.Wrote.{Wrote}
 use Rattle.channel.specs.declared.calls.Wrote.the-variants as Wrote
-use Rattle.channel.specs.Calls.{WriteAfter, writeAfter, isChannel, onChannel, admitted, hasEnded, sentAs, sentBuffer, wrote, wroteBuffer, partBack, told, asked, isLeft, unwritten, sent, room, roomyWrite, admittedWrite, writeRecord}
+use Rattle.channel.specs.Calls.{WriteAfter, writeAfter, isChannel, admitted, hasEnded, sentAs, sentBuffer, wrote, wroteBuffer, partBack, told, asked, isLeft, unwritten, sent, room, roomyWrite, admittedWrite, writeRecord}
 
 -- ---- the ways of a write
 

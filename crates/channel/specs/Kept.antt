@@ -4,7 +4,7 @@ use mathlib.Core.List.{List, _++_, append-assoc}
 use mathlib.Core.Path.{_≡_, refl, sym, ap, _∙_}
 use Prim.Native.Nat.{ℕ, _+_, _-_, _≤_, min}
 use native.Mathlib.Omega.{arith}
-use lib.ListN.{length, take, drop, length-append, length-take, length-drop}
+use lib.ListN.{length, take, drop, length-append, length-drop}
 use lib.Seq.{drop-at, drop-drop, length-take-le}
 use Rattle.exec.specs.declared.MaybeStatus.{MaybeStatus}
 use Rattle.exec.specs.declared.Reply.{Reply}
@@ -28,7 +28,7 @@ use Rattle.codec.specs.CodecLaws.{header-length, start-most}
 use Rattle.exits.specs.Exit.{ending}
 use Rattle.exits.specs.ExitLaws.{ending-bound}
 use Rattle.channel.specs.declared.calls.Sending.the-variants as Sending
-use Rattle.channel.specs.Calls.{WriteAfter, outputRecord, sentAs, sentBuffer, wroteBuffer, hasEnded, partBack, told, asked, isLeft, room, writeRecord}
+use Rattle.channel.specs.Calls.{WriteAfter, outputRecord, sentAs, sentBuffer, wroteBuffer, hasEnded, partBack, told, asked, room, writeRecord}
 use Rattle.channel.specs.Ended.{Writes, elsewhere, short, left, taken, writes, stopped}
 
 -- what is laid over the first m bytes leaves those from k on

@@ -1,5 +1,5 @@
 -- What is told of a status, over plain variables.
-use mathlib.Core.Bool.{Bool, true, false, not, false≢true}
+use mathlib.Core.Bool.{Bool, true, false, false≢true}
 use mathlib.Core.List.{List, [], _++_}
 use mathlib.Core.Path.{_≡_, refl, sym, ap, subst⁻¹, _∙_}
 use Prim.Native.Nat.{ℕ, _+_, _-_, _^_, _≤_, _<_}
@@ -8,7 +8,7 @@ use lib.Dec.{ltb}
 use lib.IntN.{ℤ, pos, negsuc}
 use lib.ListN.{length, take, drop, length-append}
 use lib.Seq.{take-at, length-take-le}
-use borrow.Author.Tests.{ltb-true, lt-ltb, le-ltb}
+use borrow.Author.Tests.{ltb-true, lt-ltb, le-ltb, not-false}
 use mir.Syntax.{w32}
 use mir.Val.{toZ}
 use mir.ValLaws.{toZ-pos}
@@ -22,7 +22,7 @@ use Rattle.octets.specs.Text.{bytes, same}
 use Rattle.ring.specs.Signed.{Plus}
 use Rattle.exits.specs.declared.Told.the-variants as Told
 use Rattle.exits.specs.declared.signals.Signal.{Signal}
-use Rattle.exits.specs.Signals.{nameOf, find, signalNamed, signalFor}
+use Rattle.exits.specs.Signals.{find, signalNamed, signalFor}
 use Rattle.exits.specs.SignalLaws.{Fit, named-low, named-length}
 use Rattle.exits.specs.Exit.{head, named, request, isTold, isUntold, nameIn, matching}
 
@@ -59,13 +59,9 @@ signal-put channel status z x d b e f fit h =
     ((l, omega (arith, fit .0)), h ∙ ap (λ (n : ℕ). named channel x ++ drop n d) l)
 
 -- a status that is not left untold is told
-told-not : (b : Bool) → not b ≡ false → b ≡ true
-told-not true h = refl
-told-not false h = sym h
-
 pub told-some : (m : MaybeStatus) (status : Status) → m ≡ MaybeStatus.Some status → isUntold m ≡ false → isTold status ≡ true
 unfolding isUntold
-told-some m status e h = told-not (isTold status) (sym (ap isUntold e) ∙ h)
+told-some m status e h = not-false (isTold status) (sym (ap isUntold e) ∙ h)
 
 -- what was put at the front of a buffer, compared
 pub put-same : (request own rest s : List ℕ) (n : ℕ) (b : Bool) → own ≡ request ++ rest → n ≡ length request → b ≡ same (take n own) s

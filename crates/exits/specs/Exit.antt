@@ -1,5 +1,5 @@
 -- How a program ended, on the wire: RFC 4254, 6.10, exit-status or exit-signal, and CLOSE behind it.
-use mathlib.Core.Bool.{Bool, true, false, cond, not, _&&_, _||_}
+use mathlib.Core.Bool.{Bool, false, cond, not, _&&_, _||_}
 use mathlib.Core.List.{List, [], _∷_, _++_}
 use Prim.Native.Nat.{ℕ, _-_, _^_}
 use lib.Dec.{eqb, leb, ltb}

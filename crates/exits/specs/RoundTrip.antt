@@ -1,14 +1,14 @@
 -- Writer and reader undo each other, and an ending is read as what was written: the request, then CLOSE.
-use mathlib.Core.Bool.{Bool, true, false, cond, not, _&&_, _||_, false≢true, or-true}
+use mathlib.Core.Bool.{Bool, true, false, cond, _&&_, false≢true, or-true}
 use mathlib.Core.List.{List, [], _∷_, _++_, append-assoc}
-use mathlib.Core.Path.{_≡_, refl, sym, ap, subst⁻¹, _∙_}
-use Prim.Native.Nat.{ℕ, _+_, _-_, _^_, _≤_, _<_}
+use mathlib.Core.Path.{_≡_, refl, ap, subst⁻¹, _∙_}
+use Prim.Native.Nat.{ℕ, _+_, _-_, _^_, _<_}
 use native.Mathlib.Omega.{arith}
 use lib.Dec.{eqb, ltb}
-use lib.IntN.{ℤ, pos, negsuc}
+use lib.IntN.{pos, negsuc}
 use lib.ListN.{length, take, drop, getD, length-append}
-use lib.Seq.{take-at, drop-at, length-take-le}
-use borrow.Author.Tests.{eq-eqb, ne-eqb, ltb-true}
+use lib.Seq.{take-at, drop-at}
+use borrow.Author.Tests.{eq-eqb, ne-eqb, ltb-true, not-false}
 use Rattle.exec.specs.declared.MaybeStatus.{MaybeStatus}
 use Rattle.exec.specs.declared.MaybeStatus.the-variants as MaybeStatus
 use Rattle.exec.specs.declared.Refusal.{Refusal}
@@ -117,10 +117,6 @@ back channel status h t =
 abbrev pub Tells : (channel : ℕ) → MaybeStatus → List ℕ → Type 0
 Tells channel MaybeStatus.None s = s ≡ []
 Tells channel (MaybeStatus.Some status) s = read channel s ≡ Told.Status status
-
-not-false : (b : Bool) → not b ≡ false → b ≡ true
-not-false true h = refl
-not-false false h = sym h
 
 tells : (channel : ℕ) (status : MaybeStatus) → channel < 2 ^ 32 → isUntold status ≡ false → Tells channel status (requestOf channel status)
 unfolding isUntold

@@ -7,7 +7,7 @@ use native.Mathlib.Omega.{arith}
 use native.Mathlib.Numerals.{unary-clauses}
 use lib.Dec.{eqb, leb, ltb}
 use lib.IntN.{ℤ, pos, negsuc}
-use lib.ListN.{length, take, drop, getD}
+use lib.ListN.{length, drop, getD}
 use borrow.Author.Tests.{eqb-true, leb-true, ltb-true}
 use Rattle.ring.specs.Flags.{and-l, and-r}
 use Rattle.exits.specs.declared.signals.Signal.{Signal}
