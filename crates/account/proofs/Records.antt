@@ -145,12 +145,12 @@ payload-in channel rec b h =
     rw z (ap (drop (start rec)) (laid-front channel rec b h) ∙ payload-back channel rec (take (size rec) (drop 13 b)))
 
 -- and stood at the front of the part that came back
-part-in : (k : ℕ) (buffer part : List ℕ) (n : ℕ) → 13 ≤ length buffer → n ≤ length part → take n (drop 13 (partBack k buffer part)) ≡ take n part
+pub part-in : (k : ℕ) (buffer part : List ℕ) (n : ℕ) → 13 ≤ length buffer → n ≤ length part → take n (drop 13 (partBack k buffer part)) ≡ take n part
 part-in k buffer part n h m =
     ap (take n) (drop-at (take 13 buffer) (part ++ drop (13 + k) buffer) 13 (length-take-le 13 buffer h))
     ∙ take-append-le n part (drop (13 + k) buffer) m
 
-part-long : (k : ℕ) (buffer part : List ℕ) (n : ℕ) → 13 ≤ length buffer → n ≤ length part → 13 + n ≤ length (partBack k buffer part)
+pub part-long : (k : ℕ) (buffer part : List ℕ) (n : ℕ) → 13 ≤ length buffer → n ≤ length part → 13 + n ≤ length (partBack k buffer part)
 part-long k buffer part n h m = simp (length-append, length-take-le 13 buffer h) (omega arith)
 
 -- what is told of a message is what next_message answered

@@ -1,6 +1,6 @@
 -- The streams side by side: what one of them has after a change of each, or of one.
-use mathlib.Core.Bool.{Bool, true, false, true≢false}
-use mathlib.Core.Path.{_≡_, refl}
+use mathlib.Core.Bool.{Bool, true, false, cond, true≢false}
+use mathlib.Core.Path.{_≡_, refl, sym, _∙_}
 use mathlib.Core.List.{List, [], _∷_}
 use mathlib.Core.Logic.{_⊎_, inl, inr}
 use Prim.Native.Nat.{ℕ, _+_, _≤_}
@@ -35,6 +35,20 @@ pub one-per : {A : Type 0} (f : Stream → A) (x : Stream) → one x (per f) ≡
 one-per f Stdout = refl
 one-per f Stderr = refl
 
+-- alike in each, alike in all
+pub per-same : {A : Type 0} (f g : Stream → A) → ((x : Stream) → f x ≡ g x) → per f ≡ per g
+per-same f g h = rw (h Stdout, h Stderr) refl
+
+pub every-same : (p q : Stream → Bool) → ((x : Stream) → p x ≡ q x) → everyStream p ≡ everyStream q
+every-same p q h = rw (h Stdout, h Stderr) refl
+
+-- where one has it and another has not, the two are apart
+pub apart : (y x : Stream) (e : Each Bool) → one y e ≡ false → one x e ≡ true → sameStream y x ≡ false
+apart Stdout Stdout e f t = absurd (true≢false (sym t ∙ f))
+apart Stdout Stderr e f t = refl
+apart Stderr Stdout e f t = refl
+apart Stderr Stderr e f t = absurd (true≢false (sym t ∙ f))
+
 -- what holds of each holds of all
 pub of-every : (p : Stream → Bool) → ((x : Stream) → p x ≡ true) → everyStream p ≡ true
 of-every p h = rw (h Stdout, h Stderr) refl
@@ -66,6 +80,24 @@ on-one P Stderr o g os e p h Stderr = p
 pub on-out : (P : Stream → Output → Type 0) (y : Stream) (o : Output) (os : List Output)
     → P y o → ((x : Stream) → sameStream y x ≡ false → P x (outputIn x os)) → (x : Stream) → P x (outputIn x (putOutput y o os))
 on-out P y o os p h = on-one (λ (x : Stream) (o : Output) (a : Stream). P x o) y o (λ (a : Stream). a) os (per (λ (x : Stream). x)) p h
+
+-- what is asked of each output, where one is put back
+pub per-put : {A : Type 0} (g : Output → A) (x : Stream) (o : Output) (os : List Output)
+    → per (λ (y : Stream). g (outputIn y (putOutput x o os))) ≡ onOne x (λ (a : A). g o) (per (λ (y : Stream). g (outputIn y os)))
+per-put g Stdout o os = refl
+per-put g Stderr o os = refl
+
+-- one changed, and what one of them has then
+pub one-on : {A : Type 0} (y : Stream) (a : A) (e : Each A) (x : Stream) → one x (onOne y (λ (b : A). a) e) ≡ cond (sameStream y x) a (one x e)
+one-on Stdout a e Stdout = refl
+one-on Stdout a e Stderr = refl
+one-on Stderr a e Stdout = refl
+one-on Stderr a e Stderr = refl
+
+-- one put back as it was
+pub on-same : {A : Type 0} (x : Stream) (e : Each A) → onOne x (λ (a : A). one x e) e ≡ e
+on-same Stdout e = refl
+on-same Stderr e = refl
 
 -- ---- the rings
 
