@@ -204,7 +204,7 @@ module _ (s : State) (channel : ℕ) (buffer : List ℕ) (g : stop (s .runner) (
   told-taken : isUntaken (answers (tells (s .runner) channel (s .bytes) buffer)) ≡ false
   told-taken = told-as (λ (a : Answer). isUntaken a ≡ false) refl (λ x. refl)
 
-  told-does : 13 ≤ length buffer → Does (writeRecord channel buffer) (some (Call.nextMessage part)) s (Step.onRunner (tells (s .runner) channel (s .bytes) buffer .writing .runner) s) (answers (tells (s .runner) channel (s .bytes) buffer))
+  pub told-does : 13 ≤ length buffer → Does (writeRecord channel buffer) (some (Call.nextMessage part)) s (Step.onRunner (tells (s .runner) channel (s .bytes) buffer .writing .runner) s) (answers (tells (s .runner) channel (s .bytes) buffer))
   unfolding Does told asked Step.next Step.answer Calls.nextMessage
   told-does h = (
     refl,

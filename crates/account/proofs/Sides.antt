@@ -1,5 +1,5 @@
 -- The streams side by side: what one of them has after a change of each, or of one.
-use mathlib.Core.Bool.{Bool, true, false, cond, true≢false}
+use mathlib.Core.Bool.{Bool, true, false, cond, _&&_, _||_, true≢false}
 use mathlib.Core.Path.{_≡_, refl, sym, _∙_}
 use mathlib.Core.List.{List, [], _∷_}
 use mathlib.Core.Logic.{_⊎_, inl, inr}
@@ -7,8 +7,8 @@ use Prim.Native.Nat.{ℕ, _+_, _≤_}
 use native.Mathlib.Omega.{arith}
 use Rattle.exec.specs.declared.Stream.{Stream}
 use Rattle.exec.specs.declared.Stream.the-variants.{Stdout, Stderr}
-use Rattle.exec.specs.Each.{Each, one, onOne, per, both}
-use Rattle.exec.specs.Stream.{sameStream, everyStream, sumOfStreams}
+use Rattle.exec.specs.Each.{Each, one, onOne, per, both, every}
+use Rattle.exec.specs.Stream.{sameStream, everyStream, anyStream, sumOfStreams}
 use Rattle.output.specs.declared.Output.{Output}
 use Rattle.output.specs.Outputs.{eachOutput, outputIn, putOutput}
 use Rattle.runner.specs.State.{base}
@@ -48,6 +48,15 @@ apart Stdout Stdout e f t = absurd (true≢false (sym t ∙ f))
 apart Stdout Stderr e f t = refl
 apart Stderr Stdout e f t = refl
 apart Stderr Stderr e f t = absurd (true≢false (sym t ∙ f))
+
+-- with one of them had by another, all have it once the one that has it not does
+pub last-of : (x : Stream) (e : Each Bool) → one x e ≡ false → anyStream (λ (y : Stream). one y e) ≡ every (onOne x (λ (b : Bool). true) e)
+last-of Stdout e h = rw h refl
+last-of Stderr e h = rw h (rest (e .stdout))
+  where
+    rest : (b : Bool) → (b || false) ≡ (b && true)
+    rest true = refl
+    rest false = refl
 
 -- what holds of each holds of all
 pub of-every : (p : Stream → Bool) → ((x : Stream) → p x ≡ true) → everyStream p ≡ true

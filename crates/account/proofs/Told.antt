@@ -110,7 +110,7 @@ no-bytes c r h x b e =
     let o : offered x (Call.output x b) ≡ b = rw (same-self x) refl in
     ap (take (count r)) (sym o ∙ ap (offered x) (sym e) ∙ h x) ∙ take-nil (count r)
 
-quiet-carries : (r : Answer) (x : Stream) → isMessage r ≡ false → carried x r ≡ []
+pub quiet-carries : (r : Answer) (x : Stream) → isMessage r ≡ false → carried x r ≡ []
 quiet-carries Call.Ok x e = refl
 quiet-carries Call.Applied x e = refl
 quiet-carries Call.Stale x e = refl

@@ -1,6 +1,6 @@
 -- Which ends were told: each once, and no message of a stream comes after its End.
 use mathlib.Core.Bool.{Bool, true, false, cond, not, _&&_, _||_, or-assoc, true≢false, false≢true}
-use mathlib.Core.Path.{_≡_, refl, sym, ap, _∙_, subst}
+use mathlib.Core.Path.{_≡_, refl, sym, ap, _∙_, subst, subst⁻¹}
 use mathlib.Core.List.{List, [], _∷_, _++_, append-assoc}
 use Prim.Native.Nat.{ℕ, min}
 use native.Mathlib.Omega.{arith}
@@ -109,6 +109,11 @@ fresh n r m =
     (either P _ _ _ (λ h. sends n (streamAt (r .turn)) r m h) (either P _ _ _ (λ h. sends n (following (streamAt (r .turn))) r m h)
     (either P _ _ _ (λ _. tt) (either P _ _ _ (λ _. tt) tt))))))))))
 
+-- an End is chosen of a stream whose End is not told
+pub end-untold : (n : ℕ) (r : Runner) (x : Stream) → Muted r → Choice.End x ≡ choose r n → outOf x r .ended ≡ false
+unfolding Fresh
+end-untold n r x m e = subst⁻¹ (Fresh r) e (fresh n r m) .0
+
 -- ---- what messages tell of the ends
 
 abbrev pub endsAll : List Message → Each Bool → Each Bool
@@ -170,31 +175,31 @@ effect-tells Choice.Terminal r store f h = record { told = refl; once = (tt, tt)
 
 -- an answer says nothing, or one message
 pub data Speech : Answer → Type 0 where
-  none : {a : Answer} → saidIn a ≡ [] → Speech a
+  none : {a : Answer} → saidIn a ≡ [] → isMessage a ≡ false → Speech a
   some : (m : Message) → Speech (Call.Says m)
 
 pub speech : (a : Answer) → Speech a
-speech Call.Ok = none refl
-speech Call.Applied = none refl
-speech Call.Stale = none refl
-speech Call.Late = none refl
-speech (Call.Refused n) = none refl
-speech (Call.Taken n) = none refl
-speech (Call.Pending b) = none refl
-speech (Call.Value n) = none refl
-speech (Call.Time d) = none refl
-speech (Call.Truth b) = none refl
-speech (Call.Asks r) = none refl
+speech Call.Ok = none refl refl
+speech Call.Applied = none refl refl
+speech Call.Stale = none refl refl
+speech Call.Late = none refl refl
+speech (Call.Refused n) = none refl refl
+speech (Call.Taken n) = none refl refl
+speech (Call.Pending b) = none refl refl
+speech (Call.Value n) = none refl refl
+speech (Call.Time d) = none refl refl
+speech (Call.Truth b) = none refl refl
+speech (Call.Asks r) = none refl refl
 speech (Call.Says m) = some m
-speech (Call.IsKey k) = none refl
-speech (Call.AreLimits l) = none refl
-speech Call.Nothing = none refl
+speech (Call.IsKey k) = none refl refl
+speech (Call.AreLimits l) = none refl refl
+speech Call.Nothing = none refl refl
 
 pub unsaid : (a : Answer) → isMessage a ≡ false → saidIn a ≡ []
 unsaid a q = by a (speech a) q
   where
     by : (a : Answer) → Speech a → isMessage a ≡ false → saidIn a ≡ []
-    by a (none e) q = e
+    by a (none e n) q = e
     by a (some m) q = absurd (true≢false q)
 
 quiet-tells : (c : Call) (s : State) → isMessage (answer s c) ≡ false → Muted (s .runner) → Tells (s .runner) (next s c .runner) (saidIn (answer s c))

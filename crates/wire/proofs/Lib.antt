@@ -2,3 +2,5 @@
 pub mod Outs
 pub mod Ends
 pub mod Order
+pub mod Read
+pub mod Wire

@@ -47,14 +47,14 @@ said-terminal : (a : Answer) → any terminalMessage (saidIn a) ≡ true → isT
 said-terminal a h = by a (speech a) h
   where
     by : (a : Answer) → Speech a → any terminalMessage (saidIn a) ≡ true → isTerminal a ≡ true
-    by a (Ends.none e) h = absurd (false≢true (sym (ap (any terminalMessage) e) ∙ h))
+    by a (Ends.none e n) h = absurd (false≢true (sym (ap (any terminalMessage) e) ∙ h))
     by a (Ends.some m) h = or-none (terminalMessage m) h
 
 one-final : (a : Answer) → Final (saidIn a)
 one-final a = by a (speech a)
   where
     by : (a : Answer) → Speech a → Final (saidIn a)
-    by a (Ends.none e) = subst⁻¹ Final e tt
+    by a (Ends.none e n) = subst⁻¹ Final e tt
     by a (Ends.some m) = (λ e. refl, tt)
 
 call-finishes : (c : Call) (s : State) → Finishes (s .runner) (next s c .runner) (saidIn (answer s c))

@@ -2,7 +2,7 @@
 -- peer has of that. A wire says what is to be heard of a message (`speaks`).
 use mathlib.Core.Bool.{Bool, true, false, cond}
 use mathlib.Core.List.{List, [], _∷_, _++_}
-use Prim.Native.Nat.{ℕ, _+_}
+use Prim.Native.Nat.{ℕ, suc}
 use Rattle.exec.specs.declared.Status.{Status}
 use Rattle.exec.specs.declared.Stream.{Stream}
 use Rattle.exec.specs.Each.{Each}
@@ -71,7 +71,7 @@ joined f (a ∷ rest) = f a ++ joined f rest
 -- how many are so
 abbrev pub count : {A : Type 0} → (A → Bool) → List A → ℕ
 count p [] = 0
-count p (a ∷ rest) = cond (p a) 1 0 + count p rest
+count p (a ∷ rest) = cond (p a) (suc (count p rest)) (count p rest)
 
 -- ---- the wire
 
