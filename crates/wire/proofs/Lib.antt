@@ -2,5 +2,7 @@
 pub mod Outs
 pub mod Ends
 pub mod Order
+pub mod Follows
 pub mod Read
+pub mod Counts
 pub mod Wire

@@ -62,6 +62,7 @@ use Rattle.wire.specs.Messages.{saidIn}
 use Rattle.wire.specs.Heard.{Heard, Window, Bytes, Eof, Exit, Close, toldBy}
 use Rattle.wire.specs.Channel.{packet, packets, written, onWire, hear, heard, exitOf, speaks}
 use Rattle.wire.specs.Claim.{OfChannel}
+use Rattle.wire.proofs.Follows.{map-append}
 use Rattle.wire.proofs.Ends.{Muted, ends, at, end-untold}
 
 -- ---- one record
@@ -104,10 +105,6 @@ module _ (channel : ℕ) where
       ap (heard channel) (some-packet b (subst⁻¹ (λ (s : List ℕ). 0 < length s) (sym (q .0)) (f .1)))
       ∙ rw (ap (λ (s : List ℕ). getD s 0 0) (sym (q .0)) ∙ f .0, e) refl
 
-  pub heard-append : (bs cs : List (List ℕ)) → heard channel (bs ++ cs) ≡ heard channel bs ++ heard channel cs
-  heard-append [] cs = refl
-  heard-append (b ∷ bs) cs = ap (λ (hs : List Heard). hear channel b ∷ hs) (heard-append bs cs)
-
   -- what stands before CLOSE, and CLOSE
   exit-heard : (x : MaybeStatus) (b : List ℕ) → Tells channel x b → heard channel (packet b) ≡ exitOf x
   exit-heard MaybeStatus.None b e = rw e refl
@@ -119,7 +116,7 @@ module _ (channel : ℕ) where
         ≡ (exitOf x ++ (Close ∷ [])) ++ []
     ending-heard x rest u =
         let q = ended-reads channel x rest known u in
-        heard-append (packet (take (length (ending channel x) - 5) (ending channel x ++ rest))) _
+        map-append (hear channel) (packet (take (length (ending channel x) - 5) (ending channel x ++ rest))) _
         ∙ ap (λ (hs : List Heard). hs ++ heard channel (packet (take 5 (drop (length (ending channel x) - 5) (ending channel x ++ rest))))) (exit-heard x _ (q .0))
         ∙ ap (λ (hs : List Heard). exitOf x ++ hs) (record-heard Record.Close _ (q .1))
         ∙ sym (append-nil (exitOf x ++ (Close ∷ [])))

@@ -1,7 +1,7 @@
 -- A channel of RFC 4254 as a wire: the records that stand on it, what its peer's readers make of them, and what is to be heard
 -- of a message. The peer has the bytes, and no message, length or answer.
 use mathlib.Core.Bool.{Bool, cond}
-use mathlib.Core.List.{List, [], _∷_, _++_}
+use mathlib.Core.List.{List, [], _∷_, _++_, map}
 use Prim.Native.Nat.{ℕ, _-_}
 use lib.Dec.{eqb}
 use lib.ListN.{length, take, drop, getD}
@@ -78,8 +78,7 @@ abbrev pub hear : (channel : ℕ) → List ℕ → Heard
 hear channel b = cond (eqb (getD b 0 0) 98) (asRequest (Exits.read channel b)) (asRecord (Codec.read channel b) b)
 
 abbrev pub heard : (channel : ℕ) → List (List ℕ) → List Heard
-heard channel [] = []
-heard channel (b ∷ bs) = hear channel b ∷ heard channel bs
+heard channel bs = map (hear channel) bs
 
 -- ---- what is to be heard of a message
 

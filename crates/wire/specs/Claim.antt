@@ -15,7 +15,7 @@ use Rattle.account.specs.Claim.{messages, isTerminal, terminalMessage}
 use Rattle.account.specs.Records.{Entry, call, readRecord, writeRecord, nextEntry, answerEntry, afterEntries, runEntries}
 use Rattle.account.specs.TurnClaim.{takenIn, sentIn}
 use Rattle.wire.specs.Messages.{saidFrom, isEnd, any, noEnds}
-use Rattle.wire.specs.Heard.{Heard, Close, bytesIn, unitsIn, isEof, isClose, isUnread, joined, count, wire, toldBy}
+use Rattle.wire.specs.Heard.{Heard, Close, AllOf, bytesIn, unitsIn, isEof, isClose, isUnread, joined, count, wire, toldBy}
 use Rattle.wire.specs.Channel.{onWire, heard, exitOf, speaks}
 
 -- limits of a channel, in u32 as open takes them, and a channel's number
@@ -30,10 +30,6 @@ abbrev pub Lone : (channel : ℕ) → Entry → Type 0
 Lone channel (call c) = messages (c ∷ []) ≡ 0
 Lone channel (readRecord now other b) = Unit
 Lone channel (writeRecord other buffer) = other ≡ channel
-
-abbrev pub AllLone : (channel : ℕ) → List Entry → Type 0
-AllLone channel [] = Unit
-AllLone channel (e ∷ es) = Lone channel e × AllLone channel es
 
 -- the units of a Credit
 abbrev pub creditIn : Message → List ℕ
@@ -57,23 +53,23 @@ heardOf conf now bytes lengths channel es = heard channel (wire onWire (opened c
 -- WHAT THE PEER KNOWS, for a runner that open answered ok, stores of any content, and every list whose messages all go to the channel
 pub record Wire (conf : Conf) (now : ℕ) (bytes lengths : List ℕ) (channel : ℕ) : Type 0 where
   -- record by record it heard what was told, message by message: nothing else, nothing less, and in that order
-  pub follows : (es : List Entry) → AllLone channel es → heardOf conf now bytes lengths channel es ≡ toldBy speaks noEnds (said conf now bytes lengths es)
+  pub follows : (es : List Entry) → AllOf (Lone channel) es → heardOf conf now bytes lengths channel es ≡ toldBy speaks noEnds (said conf now bytes lengths es)
   -- so it read every record
-  pub unread : (es : List Entry) → AllLone channel es → count isUnread (heardOf conf now bytes lengths channel es) ≡ 0
+  pub unread : (es : List Entry) → AllOf (Lone channel) es → count isUnread (heardOf conf now bytes lengths channel es) ≡ 0
   -- what it has of a stream is what was sent of it: 94 carries stdout, 95 stderr
-  pub sent : (es : List Entry) (x : Stream) → AllLone channel es
+  pub sent : (es : List Entry) (x : Stream) → AllOf (Lone channel) es
       → joined (bytesIn x) (heardOf conf now bytes lengths channel es) ≡ sentIn x (runEntries (opened conf now bytes lengths) es)
   -- each 93 is a Credit, with its units
-  pub windows : (es : List Entry) → AllLone channel es
+  pub windows : (es : List Entry) → AllOf (Lone channel) es
       → joined unitsIn (heardOf conf now bytes lengths channel es) ≡ joined creditIn (said conf now bytes lengths es)
   -- one 96 where the End of each stream was told, and none before
-  pub eofs : (es : List Entry) → AllLone channel es
+  pub eofs : (es : List Entry) → AllOf (Lone channel) es
       → count isEof (heardOf conf now bytes lengths channel es) ≡ once (everyStream (λ (x : Stream). any (isEnd x) (said conf now bytes lengths es)))
   -- and no bytes behind it
-  pub mute : (es ds : List Entry) (x : Stream) → AllLone channel (es ++ ds) → count isEof (heardOf conf now bytes lengths channel es) ≡ 1
+  pub mute : (es ds : List Entry) (x : Stream) → AllOf (Lone channel) (es ++ ds) → count isEof (heardOf conf now bytes lengths channel es) ≡ 1
       → joined (bytesIn x) (heardOf conf now bytes lengths channel (es ++ ds)) ≡ joined (bytesIn x) (heardOf conf now bytes lengths channel es)
   -- one 97 where Terminal was told, and none before
-  pub closes : (es : List Entry) → AllLone channel es
+  pub closes : (es : List Entry) → AllOf (Lone channel) es
       → count isClose (heardOf conf now bytes lengths channel es) ≡ once (any terminalMessage (said conf now bytes lengths es))
   -- right before it the status, exactly where the outcome has one: after any list
   pub exits : (es : List Entry) (buffer : List ℕ) (o : Outcome)
@@ -83,6 +79,6 @@ pub record Wire (conf : Conf) (now : ℕ) (bytes lengths : List ℕ) (channel : 
   pub last : (es : List Entry) (e : Entry) (ds : List Entry) → isTerminal (answerEntry (afterEntries (opened conf now bytes lengths) es) e) ≡ true
       → wire onWire (nextEntry (afterEntries (opened conf now bytes lengths) es) e) ds ≡ []
   -- of a stream that Terminal reports untruncated the peer has every byte that the program handed over
-  pub whole : (es : List Entry) (e : Entry) (o : Outcome) (x : Stream) → AllLone channel es
+  pub whole : (es : List Entry) (e : Entry) (o : Outcome) (x : Stream) → AllOf (Lone channel) es
       → answerEntry (afterEntries (opened conf now bytes lengths) es) e ≡ Call.Says (Call.Terminal o) → isTruncated o x ≡ false
       → joined (bytesIn x) (heardOf conf now bytes lengths channel es) ≡ takenIn x (runEntries (opened conf now bytes lengths) es)

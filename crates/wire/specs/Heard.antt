@@ -75,6 +75,11 @@ count p (a ∷ rest) = cond (p a) (suc (count p rest)) (count p rest)
 
 -- ---- the wire
 
+-- every entry of a list is so
+abbrev pub AllOf : (Entry → Type 0) → List Entry → Type 0
+AllOf P [] = Unit
+AllOf P (e ∷ es) = P e × AllOf P es
+
 -- the records of a list, where onWire has those of an entry
 abbrev pub wire : (State → Entry → List (List ℕ)) → State → List Entry → List (List ℕ)
 wire onWire s [] = []
