@@ -6,3 +6,4 @@ pub mod Follows
 pub mod Read
 pub mod Counts
 pub mod Wire
+pub mod Session
