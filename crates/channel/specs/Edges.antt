@@ -4,6 +4,7 @@ use mathlib.Core.Path.{_≡_, refl}
 use mathlib.Core.Bool.{true, false}
 use mathlib.Core.List.{List, [], _∷_}
 use Prim.Native.Nat.{ℕ, zero, suc, _-_, _^_}
+use native.Mathlib.Omega.{arith}
 use Rattle.exec.specs.declared.Cause.the-variants.{Cancelled}
 use Rattle.exec.specs.declared.Deadline.the-variants.{Never, At}
 use Rattle.exec.specs.declared.Key.{Key}
@@ -49,6 +50,7 @@ use Rattle.channel.specs.Calls as Channel
 use Rattle.channel.specs.Calls.{room}
 use Rattle.octets.specs.Bytes.{be32At, numberAt}
 use Rattle.codec.specs.Codec.{header, bytesOf, kinded, fitting, checked, read}
+use Rattle.codec.specs.Edges.{kind-over}
 
 -- ---- the runners of the table
 -- (to unfold one of them is to unfold what its line names: the definitions that its calls compute with)
@@ -245,6 +247,17 @@ foreign : (frame44 .lengths ≡ 4 ∷ 4 ∷ [])
     × (number Refusal.StateOutOfRange ≡ 12)
 unfolding written Calls.tick Range.stop
 foreign = (refl, refl, refl, refl, refl, refl)
+
+-- ---- what the codec refuses is refused so, of every runner that is not refused before; so 98 inbound is still 21
+
+pub unread : (r : Runner) (at channel : ℕ) (s store lengths : List ℕ) (x : Refusal) → Channel.admitted r (Calls.storesDo r store lengths) ≡ Reply.Ok
+    → read channel s ≡ Parsed.Refused x → Channel.readRecord r at channel s store lengths ≡ Channel.readAfter (Channel.unread x r) store lengths
+unfolding Channel.readRecord Channel.admittedRead Channel.parsedRead
+unread r at channel s store lengths x g e = rw (g, e) refl
+
+pub inbound : (r : Runner) (at channel : ℕ) (s store lengths : List ℕ) → Channel.admitted r (Calls.storesDo r store lengths) ≡ Reply.Ok
+    → Channel.readRecord r at channel (98 ∷ s) store lengths ≡ Channel.readAfter (Channel.unread Refusal.UnknownKind r) store lengths
+inbound r at channel s store lengths g = unread r at channel (98 ∷ s) store lengths Refusal.UnknownKind g (kind-over channel 98 s (omega arith))
 
 -- ---- 02, A1: "25 asks for the larger of chunk + 13 and 43", for every message
 

@@ -1,6 +1,6 @@
 -- Document 02's A1 as literal bytes: what writer and reader share, no round trip pins. Every number and name stands here as 02 spells
 -- it, and is computed from the definitions.
-use mathlib.Core.Bool.{Bool, true, false, _||_}
+use mathlib.Core.Bool.{Bool, true, false, cond, _&&_, _||_}
 use mathlib.Core.List.{List, [], _∷_, _++_}
 use mathlib.Core.Path.{_≡_, refl}
 use Prim.Native.Nat.{ℕ, zero, suc, _+_, _*_, _^_, _≤_, _<_}
@@ -8,21 +8,23 @@ use native.Mathlib.Omega.{arith}
 use lib.Dec.{eqb}
 use lib.IntN.{pos, negsuc}
 use lib.ListN.{length, take}
-use borrow.Author.Tests.{lt-ltb, le-ltb, ne-eqb}
+use borrow.Author.Tests.{lt-ltb, le-ltb, lt-leb, ne-eqb}
 use Rattle.exec.specs.declared.MaybeStatus.{MaybeStatus}
 use Rattle.exec.specs.declared.MaybeStatus.the-variants as MaybeStatus
 use Rattle.exec.specs.declared.Refusal.the-variants.{BadLength, UnknownKind, OtherChannel, BufferShort, UntoldStatus, BadRequest}
+use Rattle.exec.specs.declared.Status.{Status}
 use Rattle.exec.specs.declared.Status.the-variants.{Exited, Signaled}
 use Rattle.exec.specs.Refusal.{number}
+use Rattle.ring.specs.Flags.{and-l, and-r}
 use Rattle.octets.specs.Bytes.{be32At, numberAt}
-use Rattle.octets.specs.Text.{bytes, same}
+use Rattle.octets.specs.Text.{bytes, same, same-is}
 use Rattle.codec.specs.declared.Written.the-variants as Written
 use Rattle.codec.specs.Codec.{header, bytesOf, WrittenAfter, writtenAfter}
 use Rattle.exits.specs.declared.Told.{Told}
 use Rattle.exits.specs.declared.Told.the-variants as Told
 use Rattle.exits.specs.Signals.{signals, find, isNumber, nameOf, signalOf, signalNamed, signalFor}
 use Rattle.exits.specs.SignalLaws.{find-any}
-use Rattle.exits.specs.Exit.{request, isTold, isUntold, ending, closed, close, guess, matching, read}
+use Rattle.exits.specs.Exit.{request, isTold, isUntold, ending, closed, close, guess, matching, isMine, read}
 
 -- ---- the bytes
 
@@ -137,6 +139,11 @@ room : (closed-in 42 MaybeStatus.None ≡ writtenAfter (Written.Refused BufferSh
 unfolding closed-in term-on-5 int-on-5 close-on-5
 room = (refl, refl, refl, refl, refl, refl, refl, refl, refl)
 
+-- so too in any buffer that is shorter
+pub short : (channel : ℕ) (status : MaybeStatus) (b : List ℕ) → length b < 43 → close channel status b ≡ writtenAfter (Written.Refused BufferShort) b
+unfolding close
+short channel status b h = simp (lt-leb 43 (length b) h)
+
 -- ---- the reader, for channel 5: 20 (empty), 21, 22 from 5 bytes on, 41
 
 reads : List ℕ → Told
@@ -174,7 +181,28 @@ pub other-kind : (channel k : ℕ) (s : List ℕ) → (k ≡ 98 → ⊥) → rea
 unfolding read
 other-kind channel k s h = simp (ne-eqb (length (k ∷ s)) 0 (omega arith), ne-eqb k 98 h)
 
--- "a wrong length, a code no status holds", and every byte that 6.10 fixes
+-- "22, which fewer than 5 bytes skip": from 5 bytes on bytes for another channel are 22, whatever stands behind it
+pub other-channel : (channel : ℕ) (s : List ℕ) → 5 ≤ length (98 ∷ s) → (numberAt (98 ∷ s) 1 ≡ channel → ⊥) → read channel (98 ∷ s) ≡ Told.Refused OtherChannel
+unfolding read
+other-channel channel s h n =
+    simp (ne-eqb (length (98 ∷ s)) 0 (omega arith), le-ltb (length (98 ∷ s)) 5 h, ne-eqb (numberAt (98 ∷ s) 1) channel n)
+
+unless : (b : Bool) (x y : Told) → (b ≡ true → ⊥) → cond b x y ≡ y
+unless true x y h = absurd (h refl)
+unless false x y h = refl
+
+-- "bytes of kind 98 that are neither form": all that are no request of a status that is told are 41, of whatever length
+pub neither : (channel : ℕ) (s : List ℕ) → isMine channel (98 ∷ s) ≡ true
+    → ((status : Status) → isTold status ≡ true → request channel status ≡ 98 ∷ s → ⊥) → read channel (98 ∷ s) ≡ Told.Refused BadRequest
+unfolding read matching
+neither channel s mine none =
+    let g = guess (98 ∷ s) in
+    let same-bytes = same (request channel g) (98 ∷ s) in
+    rw (ne-eqb (length (98 ∷ s)) 0 (omega arith), mine)
+    (unless (isTold g && same-bytes) (Told.Status g) (Told.Refused BadRequest)
+    (λ e. none g (and-l (isTold g) same-bytes e) (same-is (request channel g) (98 ∷ s) (and-r (isTold g) same-bytes e))))
+
+-- "a wrong length, a code no status holds", and bytes that 6.10 fixes
 forms : (reads (status-with 5 0 0 7) ≡ Told.Status (Exited (pos 7)))
     × (reads (status-with 5 0 127 255) ≡ Told.Status (Exited (pos (127 * 2 ^ 24 + 255))))
     × (reads (status-with 5 0 128 0) ≡ Told.Refused BadRequest)
