@@ -11,7 +11,7 @@ use lib.ListN.{length}
 use Rattle.calls.specs.Call as Call
 use Rattle.calls.specs.Call.{Call, Answer, Done, isRefused}
 use Rattle.account.specs.Step.{State, next, answer, after, run}
-use Rattle.account.specs.Refused.{among}
+use Rattle.account.specs.Records.{among}
 use Rattle.syntax.specs.Lines.{lineCall}
 use Rattle.syntax.specs.Answers.{lineText}
 use Rattle.grammar.specs.Feed.{Stage, First, Running, Over, Session, Step, Answered, isBack, remembered, later, answered, tooLong, isShort, answerOf, lineEnds, hold, eat, feeds, ends}
