@@ -48,8 +48,6 @@ use Rattle.runner.specs.Range.{inRange, bytesDo, lengthsDo, stop, openStop, fre
 use Rattle.runner.specs.State.{creditAt, putCredit, withFlow, withInput}
 use Rattle.runner.specs.Streams as Streams
 use Rattle.output.specs.Output.{outputFits}
-use Rattle.codec.specs.declared.Parsed.{Parsed}
-use Rattle.codec.specs.declared.Parsed.the-variants as Parsed
 use Rattle.codec.specs.declared.Record.{Record}
 use Rattle.codec.specs.declared.Written.the-variants as Written
 use Rattle.codec.specs.Codec as Codec
@@ -66,7 +64,7 @@ use Rattle.calls.specs.Call.{Conf, Call, Answer, isRefused}
 use Rattle.account.specs.Step as Step
 use Rattle.account.specs.Step.{State, onRunner, replied, receivedAs, asks, waits}
 use Rattle.account.specs.Records.{Entry, call, readRecord, writeRecord, nextEntry, answerEntry, afterEntries, among, ofEntry}
-use Rattle.account.specs.Refused.{ofCalls, openAnswer, Unwritten, Refusals}
+use Rattle.account.specs.Refused.{ofCalls, Unwritten, Refusals}
 use Rattle.account.proofs.Plain as Plain
 use Rattle.account.proofs.Plain.{said}
 use Rattle.account.proofs.Flags.{either, or-right}

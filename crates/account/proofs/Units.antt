@@ -37,7 +37,7 @@ use Rattle.calls.specs.Call.{Conf, Call, Answer}
 use Rattle.account.specs.Claim.{Opens, isTerminal}
 use Rattle.account.specs.Step as Step
 use Rattle.account.specs.Step.{State, receivedAs}
-use Rattle.account.specs.Records.{Entry, runEntries, callsOf}
+use Rattle.account.specs.Records.{runEntries, callsOf}
 use Rattle.account.specs.Units.{unitsIn, isLate, lateCost, cleared, lostBy, lost, Units}
 use Rattle.account.proofs.Plain.{next, answer, begun}
 use Rattle.account.proofs.Range.{lent}

@@ -1,7 +1,7 @@
 -- Demand 1: a refusal carries its number and leaves state, stores and buffers unchanged. Over EVERY state, whether a list of
 -- calls from open reaches it or not. Stale and Late are answers and no refusals: Stale changes nothing either, a Late input is
 -- charged. Of the lines of a card crate `grammar` tells.
-use mathlib.Core.Bool.{Bool, true, cond, _&&_, _||_}
+use mathlib.Core.Bool.{true, cond, _&&_, _||_}
 use mathlib.Core.Path.{_≡_}
 use mathlib.Core.List.{List, [], _∷_}
 use Prim.Native.Nat.{ℕ}
@@ -60,9 +60,10 @@ pub record Refusals : Type 0 where
   pub unopened : (conf : Conf) (now : ℕ) (bytes lengths : List ℕ) (n : ℕ) → openAnswer conf now bytes lengths ≡ Call.Refused n
       → (store slots : List ℕ) (es : List Entry) (e : Entry)
       → answerEntry (afterEntries (record { runner = opened conf now bytes lengths .runner; bytes = store; lengths = slots }) es) e ≡ Call.Refused 10
-  -- the bytes of a record, without a runner: those that write them, and those that read them and change nothing
+  -- what writes the bytes of a record, without a runner
   pub write-kept : (channel : ℕ) (rec : Record) (payload buffer : List ℕ) → Unwritten (20 ∷ 25 ∷ []) (Codec.write channel rec payload buffer) buffer
   pub lay-kept : (channel : ℕ) (rec : Record) (buffer : List ℕ) → Unwritten (25 ∷ []) (Codec.lay channel rec buffer) buffer
   pub close-kept : (channel : ℕ) (status : MaybeStatus) (buffer : List ℕ) → Unwritten (25 ∷ 40 ∷ []) (Exit.close channel status buffer) buffer
+  -- and what reads them, which changes nothing
   pub read-number : (channel : ℕ) (bytes : List ℕ) (x : Refusal) → Codec.read channel bytes ≡ Parsed.Refused x → among (number x) (20 ∷ 21 ∷ 22 ∷ 23 ∷ []) ≡ true
   pub request-number : (channel : ℕ) (bytes : List ℕ) (x : Refusal) → Exit.read channel bytes ≡ Told.Refused x → among (number x) (20 ∷ 21 ∷ 22 ∷ 41 ∷ []) ≡ true

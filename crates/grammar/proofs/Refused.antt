@@ -1,5 +1,5 @@
 -- A refused line changes nothing: the card's refusals give back the stage, and a call that is refused leaves its state.
-use mathlib.Core.Bool.{Bool, true, false, cond, _&&_, _||_, false≢true}
+use mathlib.Core.Bool.{true, _&&_, _||_, false≢true}
 use mathlib.Core.Path.{_≡_, refl, ap, subst, subst⁻¹}
 use mathlib.Core.List.{List, [], _∷_}
 use mathlib.Core.Option.{Option, none, some}
@@ -15,30 +15,26 @@ use Rattle.account.specs.Step.{State, replied, next, answer}
 use Rattle.account.specs.Records.{among}
 use Rattle.account.specs.Refused.{ofCalls, openAnswer}
 use Rattle.account.proofs.Refused.{refusals}
-use Rattle.account.proofs.Flags.{either, or-right}
+use Rattle.account.proofs.Flags.{either}
 use Rattle.opening.specs.Open.{Opening, lineOpen}
 use Rattle.syntax.specs.Lines.{lineCall, zeros}
-use Rattle.grammar.specs.Feed.{Stage, Running, Over, Answered, bad, isBack, remembered, openedBy, first, later, answered, tooLong, isShort, answerOf}
-use Rattle.grammar.specs.Refused.{RefusedLines}
+use Rattle.grammar.specs.Feed.{Running, Over, Answered, bad, isBack, remembered, openedBy, first, later, answered, tooLong, isShort, answerOf}
+use Rattle.grammar.specs.Refused.{ofLines, RefusedLines}
 
 -- ---- once a runner is open
 
--- what is to be shown of a line's answer, and of the stage that it leaves
-record Kept (s : State) (last n : ℕ) (x : Stage) : Type 0 where
-  same : x ≡ Running s last
-  known : (among n (30 ∷ 31 ∷ []) || among n ofCalls) ≡ true
+abbrev Known : ℕ → Type 0
+Known n = (among n ofCalls || among n ofLines) ≡ true
 
+-- what is to be shown of what a line makes of the stage, and of its answer
 abbrev Safe : State → (last : ℕ) → Answered → Type 0
-Safe s last x = (n : ℕ) → x .answer ≡ Call.Refused n → Kept s last n (x .stage)
+Safe s last x = (n : ℕ) → x .answer ≡ Call.Refused n → (x .stage ≡ Running s last) × Known n
 
-own : (s : State) (last m : ℕ) → (among m (30 ∷ 31 ∷ []) || among m ofCalls) ≡ true → Safe s last (record { stage = Running s last; answer = Call.Refused m })
-own s last m h n e = let k : m ≡ n = cc in record { same = refl; known = subst (λ (x : ℕ). (among x (30 ∷ 31 ∷ []) || among x ofCalls) ≡ true) k h }
+own : (s : State) (last m : ℕ) → Known m → Safe s last (record { stage = Running s last; answer = Call.Refused m })
+own s last m h n e = let k : m ≡ n = cc in (refl, subst Known k h)
 
 called : (s : State) (last : ℕ) (c : Call) → Safe s last (record { stage = Running (next s c) (remembered (isRefused (answer s c)) (timeOf c) last); answer = answer s c })
-called s last c n e = record {
-  same = rw (refusals .call-kept s c n e, e) refl;
-  known = or-right (among n (30 ∷ 31 ∷ [])) (among n ofCalls) (refusals .call-number s c n e);
-}
+called s last c n e = (rw (refusals .call-kept s c n e, e) refl, rw (refusals .call-number s c n e) refl)
 
 later-safe : (c : Option Call) (s : State) (last : ℕ) → Safe s last (later c s last)
 unfolding later
@@ -51,12 +47,15 @@ line-safe s last line = either (Safe s last) (isShort line) _ _ (later-safe (lin
 
 -- ---- the first line
 
--- an answer that is ok, or refused by 10, 11 or 30
-abbrev First : Answer → Type 0
-First a = (n : ℕ) → a ≡ Call.Refused n → among n (10 ∷ 11 ∷ 30 ∷ []) ≡ true
+abbrev IsFirst : ℕ → Type 0
+IsFirst n = among n (10 ∷ 11 ∷ 30 ∷ []) ≡ true
 
-refused-first : (m : ℕ) → among m (10 ∷ 11 ∷ 30 ∷ []) ≡ true → First (Call.Refused m)
-refused-first m h n e = let k : m ≡ n = cc in subst (λ (x : ℕ). among x (10 ∷ 11 ∷ 30 ∷ []) ≡ true) k h
+-- an answer that is no refusal, or one by such a number
+abbrev First : Answer → Type 0
+First a = (n : ℕ) → a ≡ Call.Refused n → IsFirst n
+
+refused-first : (m : ℕ) → IsFirst m → First (Call.Refused m)
+refused-first m h n e = let k : m ≡ n = cc in subst IsFirst k h
 
 ok-first : First Call.Ok
 ok-first n e = absurd (false≢true (ap isRefused e))
@@ -68,7 +67,7 @@ open-first o =
     (either First (isValid l) _ _ (either First (bytesDo l (zeros 65536) && lengthsDo l (zeros 1024)) _ _ ok-first (refused-first 11 refl)) (refused-first 10 refl))
 
 abbrev Unopened : Answered → Type 0
-Unopened x = (n : ℕ) → x .answer ≡ Call.Refused n → (x .stage ≡ Over) × (among n (10 ∷ 11 ∷ 30 ∷ []) ≡ true)
+Unopened x = (n : ℕ) → x .answer ≡ Call.Refused n → (x .stage ≡ Over) × IsFirst n
 
 bad-first : Unopened (bad Over)
 bad-first n e = (refl, refused-first 30 refl n e)
@@ -87,8 +86,8 @@ first-safe (some o) =
 pub refused-lines : RefusedLines
 unfolding answerOf answered tooLong
 refused-lines = record {
-  kept = λ s last line n e. line-safe s last line n e .same;
-  numbered = λ s last line n e. line-safe s last line n e .known;
+  kept = λ s last line n e. line-safe s last line n e .0;
+  numbered = λ s last line n e. line-safe s last line n e .1;
   unopened = λ line. either Unopened (isShort line) _ _ (first-safe (lineOpen line)) bad-first;
   over = λ line. either (λ (x : Answered). x ≡ bad Over) (isShort line) _ _ refl refl;
 }

@@ -1,5 +1,5 @@
 -- Demand 1, of the lines of a card: one that is refused changes nothing but the count of lines.
-use mathlib.Core.Bool.{Bool, true, _||_}
+use mathlib.Core.Bool.{true, _||_}
 use mathlib.Core.Path.{_≡_}
 use mathlib.Core.List.{List, [], _∷_}
 use Prim.Native.Nat.{ℕ}
@@ -9,13 +9,17 @@ use Rattle.account.specs.Records.{among}
 use Rattle.account.specs.Refused.{ofCalls}
 use Rattle.grammar.specs.Feed.{First, Running, Over, bad, answerOf}
 
+-- what the card refuses a line by
+abbrev pub ofLines : List ℕ
+ofLines = 30 ∷ 31 ∷ []
+
 -- for every runner, stores and last time, line, and number
 pub record RefusedLines : Type 0 where
   -- once a runner is open, a line that is refused, by the card or by its call, leaves runner, stores and last time as they were
   pub kept : (s : State) (last : ℕ) (line : List ℕ) (n : ℕ) → answerOf (Running s last) line .answer ≡ Call.Refused n
       → answerOf (Running s last) line .stage ≡ Running s last
   pub numbered : (s : State) (last : ℕ) (line : List ℕ) (n : ℕ) → answerOf (Running s last) line .answer ≡ Call.Refused n
-      → (among n (30 ∷ 31 ∷ []) || among n ofCalls) ≡ true
+      → (among n ofCalls || among n ofLines) ≡ true
   -- a first line that is refused leaves no runner
   pub unopened : (line : List ℕ) (n : ℕ) → answerOf First line .answer ≡ Call.Refused n
       → (answerOf First line .stage ≡ Over) × (among n (10 ∷ 11 ∷ 30 ∷ []) ≡ true)
