@@ -120,6 +120,7 @@ handedIn conf now bytes lengths es = handed (opened conf now bytes lengths) (cal
 abbrev pub broughtIn : Conf → ℕ → (bytes lengths : List ℕ) → List Entry → List ℕ
 broughtIn conf now bytes lengths es = brought (donesOf conf (runEntries (opened conf now bytes lengths) es))
 
+-- for a runner that open answered ok, stores of any content, and every list of calls and records
 pub record InputFifo (conf : Conf) (now : ℕ) (bytes lengths : List ℕ) : Type 0 where
   -- what was handed over is a prefix of what was brought
   pub joined : (es : List Entry) → IsPrefix (handedIn conf now bytes lengths es) (broughtIn conf now bytes lengths es)

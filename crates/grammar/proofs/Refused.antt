@@ -19,7 +19,8 @@ use Rattle.account.proofs.Flags.{either}
 use Rattle.opening.specs.Open.{Opening, lineOpen}
 use Rattle.syntax.specs.Lines.{lineCall, zeros}
 use Rattle.grammar.specs.Feed.{Running, Over, Answered, bad, isBack, remembered, openedBy, first, later, answered, tooLong, isShort, answerOf}
-use Rattle.grammar.specs.Refused.{ofLines, RefusedLines}
+use Rattle.grammar.specs.Calls.{ofLines}
+use Rattle.grammar.specs.Refused.{RefusedLines}
 
 -- ---- once a runner is open
 

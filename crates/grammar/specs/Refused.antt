@@ -1,4 +1,5 @@
--- Demand 1, of the lines of a card: one that is refused changes nothing but the count of lines.
+-- Demand 1, of the lines of a card: once a runner is open, a line that is refused changes nothing; where the first is refused there
+-- is none.
 use mathlib.Core.Bool.{true, _||_}
 use mathlib.Core.Path.{_≡_}
 use mathlib.Core.List.{List, [], _∷_}
@@ -8,10 +9,7 @@ use Rattle.account.specs.Step.{State}
 use Rattle.account.specs.Records.{among}
 use Rattle.account.specs.Refused.{ofCalls}
 use Rattle.grammar.specs.Feed.{First, Running, Over, bad, answerOf}
-
--- what the card refuses a line by
-abbrev pub ofLines : List ℕ
-ofLines = 30 ∷ 31 ∷ []
+use Rattle.grammar.specs.Calls.{ofLines}
 
 -- for every runner, stores and last time, line, and number
 pub record RefusedLines : Type 0 where
