@@ -2,10 +2,13 @@
 use mathlib.Core.Bool.{Bool, true, false, cond, _&&_, false≢true}
 use mathlib.Core.Path.{_≡_, refl, sym, ap, _∙_, subst⁻¹}
 use mathlib.Core.List.{List, [], _∷_, _++_}
-use Prim.Native.Nat.{ℕ, _≤_}
+use mathlib.Core.Option.{some}
+use Prim.Native.Nat.{ℕ, _+_, _^_, _≤_, _<_}
 use native.Mathlib.Omega.{arith}
 use lib.ListN.{length}
 use borrow.Author.Tests.{le-leb}
+use Rattle.exec.specs.declared.Cause.{Cause}
+use Rattle.exec.specs.declared.Key.{Key}
 use Rattle.exec.specs.declared.Limits.{Limits}
 use Rattle.exec.specs.declared.Refusal.{Refusal}
 use Rattle.exec.specs.declared.Reply.{Reply}
@@ -26,8 +29,8 @@ use Rattle.calls.specs.Call.{Conf, Call, Done}
 use Rattle.account.specs.Step as Step
 use Rattle.account.specs.Step.{State}
 use Rattle.account.specs.Account.{Account, start, account, tallyOf, cut, tickA}
-use Rattle.account.specs.LateClaim.{LateAny}
-use Rattle.account.specs.Claim.{Demand3, Opens, IsPrefix, Silent, accountOf, isStop, isTerminal, anyTerminal}
+use Rattle.account.specs.LateClaim.{tickOf}
+use Rattle.account.specs.Claim.{Demand3, Opens, IsPrefix, Silent, accountOf, isStop, isTerminal, anyTerminal, messages}
 use Rattle.account.proofs.Plain.{enough, next, answer, afterAll, run, begun}
 use Rattle.account.proofs.Guarded.{next-is, answer-is, not-stopped}
 use Rattle.account.proofs.Range.{Lent, lent, in-range}
@@ -167,8 +170,11 @@ module _ (conf : Conf) (now : ℕ) (bytes lengths : List ℕ) (op : Opens conf n
       let t : State = next (afterAll (begun conf now bytes lengths) cs) c in
       ap (λ (s : State). Step.run s ds) (same-next cs c) ∙ run-same ds t (fine-next c (afterAll (begun conf now bytes lengths) cs) (fs cs))
 
-  pub late-any : LateAny conf now bytes lengths
-  late-any cs ds es t n k c call e l m i v =
+  -- the bound after every call that ticks
+  pub late-call : (cs ds es : List Call) (t n : ℕ) (k : Key) (c : Cause) (call : Call) → Step.answer (Step.after (Step.opened conf now bytes lengths) cs) (Call.cancel t k c) ≡ Call.Applied
+      → t + conf .timers .grace + conf .timers .settlement < 2 ^ 64 → t + conf .timers .grace + conf .timers .settlement ≤ n → tickOf conf call ≡ some n → 5 ≤ messages es
+      → anyTerminal (Step.run (Step.opened conf now bytes lengths) (cs ++ (Call.cancel t k c ∷ (ds ++ (call ∷ es))))) ≡ true
+  late-call cs ds es t n k c call e l m i v =
       subst⁻¹ (λ (ds : List Done). anyTerminal ds ≡ true) (same-run (cs ++ (Call.cancel t k c ∷ (ds ++ (call ∷ es)))))
       (Late.any conf now bytes lengths cs ds es t n k c call (sym (same-answer cs _) ∙ e) l m i v)
 
@@ -180,7 +186,7 @@ module _ (conf : Conf) (now : ℕ) (bytes lengths : List ℕ) (op : Opens conf n
         (Lists.marks-at _ _ c o (Lists.open-course conf now bytes lengths lt cs) (sym (same-answer cs c) ∙ e));
     first = λ cs t k c e. (let p = Five.first t k c (afterAll (begun conf now bytes lengths) cs) (sym (same-answer cs _) ∙ e) in
         subst⁻¹ (λ (a : Account). tickA t a .rep .begun ≡ false) (same-account cs) (Lists.course-begun t _ _ (p .0) (Lists.open-course conf now bytes lengths lt cs) ∙ p .1));
-    late = λ cs ds es t n k c e l m v. late-any cs ds es t n k c (Call.tick n) e l m refl v;
+    late = λ cs ds es t n k c e l m v. late-call cs ds es t n k c (Call.tick n) e l m refl v;
     ranged = λ cs c. subst⁻¹ (λ (s : State). isStop (Step.answer s c) ≡ false) (same-after cs)
         (not-stopped (afterAll (begun conf now bytes lengths) cs) c (goes (afterAll (begun conf now bytes lengths) cs) c (fs cs)));
   }

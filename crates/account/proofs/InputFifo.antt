@@ -46,7 +46,8 @@ use Rattle.calls.specs.Call.{Conf, Call, Answer}
 use Rattle.account.specs.Claim.{Opens, IsPrefix}
 use Rattle.account.specs.Step as Step
 use Rattle.account.specs.Step.{State, receivedAs}
-use Rattle.account.specs.InputClaim.{isApplied, front, handedBy, handed, broughtBy, brought, InputFifo}
+use Rattle.account.specs.Records.{Entry, afterEntries, runEntries, callsOf}
+use Rattle.account.specs.InputClaim.{isApplied, front, handedBy, handed, broughtBy, brought, handedIn, broughtIn, InputFifo}
 use Rattle.account.proofs.Plain.{next, answer, begun}
 use Rattle.account.proofs.Rings.{ring-split}
 use Rattle.account.proofs.Streams.{keeps-less}
@@ -55,6 +56,7 @@ use Rattle.account.proofs.Range.{lent, in-range}
 use Rattle.account.proofs.Finish.{framed, framed-conf}
 use Rattle.account.proofs.EachCall.{kept-room}
 use Rattle.account.proofs.Demand.{Fine, fine-next, next-same, answer-same, fine-open, opens-by, open-same, same-after, same-answer}
+use Rattle.account.proofs.Records.{same-dones, good-open, to-calls}
 use Rattle.account.proofs.InputMoves.{Moves, same, shut, close, ticks, launches, exits, detaches, cancels}
 use Rattle.account.proofs.Flags.{and-l, and-r}
 use lib.Seq.{take-length}
@@ -324,8 +326,15 @@ module _ (conf : Conf) (now : ℕ) (bytes lengths : List ℕ) (op : Opens conf n
   unfolding answer
   is-shown cs = same-answer conf now bytes lengths op cs Call.pendingInput ∙ ap (λ (x : State). Call.Pending (pendingOf (x .runner) (x .bytes))) (sym (same-after conf now bytes lengths op cs))
 
+  -- and so over the calls of a list with records
+  seen-in : (es : List Entry) → IsPrefix (handedIn conf now bytes lengths es ++ pendingOf (afterEntries o es .runner) (afterEntries o es .bytes)) (broughtIn conf now bytes lengths es)
+  seen-in es = rw (to-calls conf now bytes lengths op es, same-dones conf es o (good-open conf now bytes lengths op)) (all-seen (callsOf conf (runEntries o es)))
+
+  shown-in : (es : List Entry) → Step.answer (afterEntries o es) Call.pendingInput ≡ Call.Pending (pendingOf (afterEntries o es .runner) (afterEntries o es .bytes))
+  shown-in es = rw (to-calls conf now bytes lengths op es) (is-shown (callsOf conf (runEntries o es)))
+
   pub input-fifo : InputFifo conf now bytes lengths
   input-fifo = record {
-    joined = λ cs. front-of (handed o cs) _ _ (all-seen cs);
-    shown = λ cs b e. subst (λ (x : List ℕ). IsPrefix (handed o cs ++ x) (brought (Step.run o cs))) (ap bytesOf (sym (is-shown cs) ∙ e)) (all-seen cs);
+    joined = λ es. front-of (handedIn conf now bytes lengths es) _ _ (seen-in es);
+    shown = λ es b e. subst (λ (x : List ℕ). IsPrefix (handedIn conf now bytes lengths es ++ x) (broughtIn conf now bytes lengths es)) (ap bytesOf (sym (shown-in es) ∙ e)) (seen-in es);
   }

@@ -16,7 +16,8 @@ use Rattle.exec.specs.declared.Pool.the-variants as Pool
 use Rattle.exec.specs.declared.Received.{Received}
 use Rattle.exec.specs.declared.Received.the-variants as Received
 use Rattle.exec.specs.declared.Receipt.the-variants as Receipt
-use Rattle.exec.specs.declared.Refusal.the-variants.{NotAChannel, BufferShort, UntoldStatus}
+use Rattle.exec.specs.declared.Refusal.{Refusal}
+use Rattle.exec.specs.declared.Refusal.the-variants.{NotAChannel, BadLength, UnknownKind, OtherChannel, BadType}
 use Rattle.exec.specs.declared.Reply.{Reply}
 use Rattle.exec.specs.declared.Reply.the-variants as Reply
 use Rattle.exec.specs.declared.Stream.{Stream}
@@ -50,15 +51,16 @@ use Rattle.account.specs.Step.{State, replied, receivedAs, says}
 use Rattle.account.specs.Account as Accounts
 use Rattle.account.specs.Account.{Account, account, tallyOf, cut, tickA}
 use Rattle.account.specs.Claim.{Demand3, Opens, IsPrefix, Silent, isMessage, isTerminal, anyTerminal, isStop, accountOf}
-use Rattle.account.specs.Records.{Entry, call, readRecord, writeRecord, nextEntry, readAs, wroteAs, answerEntry, afterEntries, runEntries, callOf, roomy, isUntaken, made, consCall, callsOf, consDone, donesOf, entryAccount, anyTerminalIn, SilentIn, Whole}
-use Rattle.account.specs.Refused.{among, ofReads, ofWrites, ofEntry}
+use Rattle.account.specs.Records.{Entry, call, readRecord, writeRecord, nextEntry, readAs, wroteAs, answerEntry, afterEntries, runEntries, callOf, roomy, isUntaken, made, consCall, callsOf, consDone, donesOf, entryAccount, anyTerminalIn, SilentIn, among, ofReads, ofWrites, ofEntry, Whole}
+use Rattle.account.specs.LateClaim.{LateAny}
 use Rattle.account.proofs.Plain as Plain
 use Rattle.runner.specs.MessageLaws.{payload-length}
 use Rattle.runner.specs.TerminalLaws.{still}
 use Rattle.account.proofs.Finish.{framed, framed-conf, ends, ends-answer}
 use Rattle.account.proofs.Lives.{confOf}
-use Rattle.account.proofs.Demand.{Fine, goes, fine-next, next-same, answer-same, fine-open, open-same, opens-by, demand3}
+use Rattle.account.proofs.Demand.{Fine, goes, fine-next, next-same, answer-same, fine-open, open-same, opens-by, late-call, demand3}
 use Rattle.account.proofs.Range.{lent}
+use Rattle.account.proofs.Flags.{either}
 
 -- ---- a refusal of the record's own: no call was made
 
@@ -88,32 +90,33 @@ noted-as (Reply.Refused x) = refl
 abbrev leaves : ReadAfter → State
 leaves x = record { runner = x .reading .runner; bytes = x .bytes; lengths = x .lengths }
 
--- the reader's refusals are its own
-OwnRefusal : Parsed → Type 0
-OwnRefusal (Parsed.Read rec) = Unit
-OwnRefusal (Parsed.Refused x) = among (number x) ofReads ≡ true
+-- what is so of every refusal of the reader's own is so of what it reads
+abbrev pub RefusedBy : (Refusal → Type 0) → Parsed → Type 0
+RefusedBy P (Parsed.Read rec) = Unit
+RefusedBy P (Parsed.Refused x) = P x
 
-either : (b : Bool) (p q : Parsed) → OwnRefusal p → OwnRefusal q → OwnRefusal (cond b p q)
-either true p q hp hq = hp
-either false p q hp hq = hq
+module _ (P : Refusal → Type 0) (bad-length : P BadLength) (unknown : P UnknownKind) (other : P OtherChannel) (bad-type : P BadType) where
+  checked-by : (channel : ℕ) (s : List ℕ) (p : Parsed) → RefusedBy P p → RefusedBy P (checked channel s p)
+  unfolding checked fitting
+  checked-by channel s (Parsed.Read rec) h =
+      either (RefusedBy P) (eqb (length s) (start rec + size rec)) _ _
+      (either (RefusedBy P) (eqb _ channel) _ _ (either (RefusedBy P) (isTyped rec s) _ _ tt bad-type) other) bad-length
+  checked-by channel s (Parsed.Refused x) h = h
 
-own-checked : (channel : ℕ) (s : List ℕ) (p : Parsed) → OwnRefusal p → OwnRefusal (checked channel s p)
-unfolding OwnRefusal checked fitting
-own-checked channel s (Parsed.Read rec) h =
-    either (eqb (length s) (start rec + size rec)) _ _ (either (eqb _ channel) _ _ (either (isTyped rec s) _ _ tt refl) refl) refl
-own-checked channel s (Parsed.Refused x) h = h
+  pub reads-by : (channel : ℕ) (s : List ℕ) → RefusedBy P (read channel s)
+  unfolding read kinded
+  reads-by channel s =
+      let kind = getD s 0 0 in
+      let or : (n : ℕ) (p q : Parsed) → RefusedBy P p → RefusedBy P q → RefusedBy P (cond (eqb kind n) p q) = λ n. either (RefusedBy P) (eqb kind n) in
+      let k : RefusedBy P (kinded kind s) = or 93 _ _ tt (or 94 _ _ tt (or 95 _ _ tt (or 96 _ _ tt (or 97 _ _ tt unknown)))) in
+      either (RefusedBy P) (eqb (length s) 0) _ _ bad-length (checked-by channel s (kinded kind s) k)
 
-own-read : (channel : ℕ) (s : List ℕ) → OwnRefusal (read channel s)
-unfolding OwnRefusal read kinded
-own-read channel s =
-    let kind = getD s 0 0 in
-    let k : OwnRefusal (kinded kind s) =
-    either (eqb kind 93) _ _ tt (either (eqb kind 94) _ _ tt (either (eqb kind 95) _ _ tt (either (eqb kind 96) _ _ tt (either (eqb kind 97) _ _ tt refl)))) in
-    either (eqb (length s) 0) _ _ refl (own-checked channel s (kinded kind s) k)
+abbrev pub Among : List ℕ → Refusal → Type 0
+Among numbers x = among (number x) numbers ≡ true
 
-parsed-does : (p : Parsed) (s : State) (now channel : ℕ) (b : List ℕ) → OwnRefusal p
+parsed-does : (p : Parsed) (s : State) (now channel : ℕ) (b : List ℕ) → RefusedBy (Among ofReads) p
     → Does (readRecord now channel b) (callOf (confOf (s .runner)) now b p) s (leaves (parsedRead p (s .runner) now b (s .bytes) (s .lengths))) (readAs (parsedRead p (s .runner) now b (s .bytes) (s .lengths) .reading .answer))
-unfolding OwnRefusal Does callOf parsedRead Channel.made Step.next Step.answer
+unfolding Does callOf parsedRead Channel.made Step.next Step.answer
 parsed-does (Parsed.Read (Record.Adjust units)) s now channel b h = (refl, heard-as (Calls.credit (s .runner) (s .runner .key) Pool.Output units .received))
 parsed-does (Parsed.Read (Record.Data n)) s now channel b h =
     (refl, heard-as (Calls.input (s .runner) (s .runner .key) (drop 9 b) (s .bytes) (s .lengths) .hearing .received))
@@ -132,7 +135,7 @@ pub read-by : (channels : Bool) (s : State) (now channel : ℕ) (b : List ℕ)
     (leaves (admittedRead (cond channels Reply.Ok (Reply.Refused NotAChannel)) (s .runner) now channel b (s .bytes) (s .lengths)))
     (readAs (admittedRead (cond channels Reply.Ok (Reply.Refused NotAChannel)) (s .runner) now channel b (s .bytes) (s .lengths) .reading .answer))
 unfolding Does admittedRead
-read-by true s now channel b = parsed-does (read channel b) s now channel b (own-read channel b)
+read-by true s now channel b = parsed-does (read channel b) s now channel b (reads-by (Among ofReads) refl refl refl refl channel b)
 read-by false s now channel b = record { kept = refl; refusal = 13; answered = refl; own = refl }
 
 -- ---- a record written
@@ -392,9 +395,10 @@ unfolding Does
 terminal-made x none s after a d h = absurd (false≢true (sym (ap isTerminal (d .answered)) ∙ h))
 terminal-made x (some c) s after a d h = (c, d .0, d .1, refl)
 
-unmade-as : (x : Entry) (m : Option Call) (s after : State) (a : Answer) → m ≡ none → Does x m s after a → (after ≡ s) × ((n : ℕ) × (a ≡ Call.Refused n))
+unmade-as : (x : Entry) (m : Option Call) (s after : State) (a : Answer) → m ≡ none → Does x m s after a
+    → (after ≡ s) × ((n : ℕ) × (a ≡ Call.Refused n) × (among n (ofEntry x) ≡ true))
 unfolding Does
-unmade-as x m s after a e d = let u : Unmade x s after a = rw e at d in (u .kept, (u .refusal, u .answered))
+unmade-as x m s after a e d = let u : Unmade x s after a = rw e at d in (u .kept, (u .refusal, u .answered, u .own))
 
 -- the records' own refusals are none of 10, 11 and 12
 abbrev IsCalm : ℕ → Type 0
@@ -438,7 +442,7 @@ module _ (conf : Conf) (now : ℕ) (bytes lengths : List ℕ) (op : Opens conf n
   abbrev pub calls : List Entry → List Call
   calls es = callsOf conf (runEntries (Step.opened conf now bytes lengths) es)
 
-  to-calls : (es : List Entry) → afterEntries (Step.opened conf now bytes lengths) es ≡ Step.after (Step.opened conf now bytes lengths) (calls es)
+  pub to-calls : (es : List Entry) → afterEntries (Step.opened conf now bytes lengths) es ≡ Step.after (Step.opened conf now bytes lengths) (calls es)
   to-calls es = same-after conf es (Step.opened conf now bytes lengths) good-open
 
   -- THE LIST WITH RECORDS HAS THE ACCOUNT OF THE LIST OF ITS CALLS
@@ -463,17 +467,30 @@ module _ (conf : Conf) (now : ℕ) (bytes lengths : List ℕ) (op : Opens conf n
   unfolding answerEntry
   cancel-at es t k c e = ap (λ (s : State). Step.answer s (Call.cancel t k c)) (sym (to-calls es)) ∙ e
 
-  late-calls : (cs ds es : List Entry) (a b : Call) (s : State)
-      → callsOf conf (runEntries s (cs ++ (call a ∷ (ds ++ (call b ∷ es)))))
-      ≡ callsOf conf (runEntries s cs)
-      ++ (a ∷ (callsOf conf (runEntries (nextEntry (afterEntries s cs) (call a)) ds)
-      ++ (b ∷ callsOf conf (runEntries (nextEntry (afterEntries (nextEntry (afterEntries s cs) (call a)) ds) (call b)) es))))
+  -- the calls of a list, with those of two of its entries told
+  late-calls : (cs ds es : List Entry) (a e : Entry) (s : State)
+      → let u = nextEntry (afterEntries s cs) a in
+      callsOf conf (runEntries s (cs ++ (a ∷ (ds ++ (e ∷ es)))))
+      ≡ callsOf conf (runEntries s cs) ++ consCall (made conf a (answerEntry (afterEntries s cs) a))
+      (callsOf conf (runEntries u ds) ++ consCall (made conf e (answerEntry (afterEntries u ds) e)) (callsOf conf (runEntries (nextEntry (afterEntries u ds) e) es)))
+  late-calls cs ds es a e s =
+      calls-append conf cs (a ∷ (ds ++ (e ∷ es))) s
+      ∙ ap (λ (xs : List Call). callsOf conf (runEntries s cs) ++ consCall (made conf a (answerEntry (afterEntries s cs) a)) xs)
+      (calls-append conf ds (e ∷ es) (nextEntry (afterEntries s cs) a))
+
+  pub late-any : LateAny conf now bytes lengths
   unfolding made
-  late-calls cs ds es a b s =
-      calls-append conf cs (call a ∷ (ds ++ (call b ∷ es))) s
-      ∙ ap (λ (xs : List Call). callsOf conf (runEntries s cs) ++ (a ∷ xs)) (calls-append conf ds (call b ∷ es) (nextEntry (afterEntries s cs) (call a)))
+  late-any cs ds es t n k c e ticks h below past m i five =
+      let o : State = Step.opened conf now bytes lengths in
+      let s : State = nextEntry (afterEntries o cs) (call (Call.cancel t k c)) in
+      let rest : List Call = callsOf conf (runEntries (nextEntry (afterEntries s ds) e) es) in
+      same-any conf (cs ++ (call (Call.cancel t k c) ∷ (ds ++ (e ∷ es)))) o good-open
+      ∙ ap (λ (xs : List Call). anyTerminal (Step.run o xs)) (late-calls cs ds es (call (Call.cancel t k c)) e o)
+      ∙ ap (λ (x : Option Call). anyTerminal (Step.run o (calls cs ++ (Call.cancel t k c ∷ (callsOf conf (runEntries s ds) ++ consCall x rest))))) m
+      ∙ late-call conf now bytes lengths op (calls cs) (callsOf conf (runEntries s ds)) rest t n k c ticks (cancel-at cs t k c h) below past i five
 
   pub whole : Whole conf now bytes lengths
+  unfolding made
   whole = record {
     joined = λ es x. subst⁻¹ (λ (a : Account). IsPrefix (tallyOf x a .sent) (tallyOf x a .taken)) (same-account es) (d3 .joined (calls es) x);
     once = λ es e ds h. (let q = at-terminal es e h in
@@ -484,12 +501,7 @@ module _ (conf : Conf) (now : ℕ) (bytes lengths : List ℕ) (op : Opens conf n
         subst⁻¹ (λ (a : Account). (x : Stream) → isTruncated out x ≡ cut (tallyOf x a)) (same-account es)
         (d3 .marks (calls es) (q .0) out (sym (q .2) ∙ h)));
     first = λ es t k c h. subst⁻¹ (λ (a : Account). tickA t a .rep .begun ≡ false) (same-account es) (d3 .first (calls es) t k c (cancel-at es t k c h));
-    late = λ cs ds es t n k c h below past five. (
-        let s : State = nextEntry (afterEntries (Step.opened conf now bytes lengths) cs) (call (Call.cancel t k c)) in
-        let u : State = nextEntry (afterEntries s ds) (call (Call.tick n)) in
-        same-any conf (cs ++ (call (Call.cancel t k c) ∷ (ds ++ (call (Call.tick n) ∷ es)))) _ good-open
-        ∙ ap (λ (xs : List Call). anyTerminal (Step.run (Step.opened conf now bytes lengths) xs)) (late-calls cs ds es (Call.cancel t k c) (Call.tick n) (Step.opened conf now bytes lengths))
-        ∙ d3 .late (calls cs) (callsOf conf (runEntries s ds)) (callsOf conf (runEntries u es)) t n k c (cancel-at cs t k c h) below past five);
+    late = λ cs ds es t n k c h below past five. late-any cs ds es t n k c (call (Call.tick n)) (Call.tick n) h below past refl refl five;
     ranged = λ es e. ranged-by e (made conf e _) _ _ _ (does conf e _ (good-at es)) (λ c. ap (λ (s : State). isStop (Step.answer s c)) (to-calls es) ∙ d3 .ranged (calls es) c);
     refused = λ es e h. unmade-as e (made conf e _) _ _ _ h (does conf e _ (good-at es));
     untold = λ es channel buffer e. left-untold _ channel buffer (good-at es .fine) (ap isUntaken e);

@@ -1,17 +1,20 @@
 -- Refusals change nothing: by 12, 10 and 11 the guard gives back what it was given, and behind it only credit, input, end_input
--- and cancel refuse, and only these answer Stale; of the records' own refusals `Records` tells.
+-- and cancel refuse, and only these answer Stale; of the records' own refusals `Records` tells. Then those of open, and of what
+-- writes and reads the bytes of a record.
 use mathlib.Core.Bool.{Bool, true, false, cond, not, _&&_, _||_, false≢true}
 use mathlib.Core.Path.{_≡_, refl, sym, ap, _∙_, subst}
-use mathlib.Core.List.{List, []}
+use mathlib.Core.List.{List, [], _∷_}
 use mathlib.Core.Option.{Option, none, some}
-use Prim.Native.Nat.{ℕ}
-use lib.Dec.{ltb, eqb}
-use lib.ListN.{length}
+use Prim.Native.Nat.{ℕ, _+_}
+use native.Mathlib.Omega.{arith}
+use lib.Dec.{leb, ltb, eqb}
+use lib.ListN.{length, getD}
 use Rattle.exec.specs.declared.Admission.{Admission}
 use Rattle.exec.specs.declared.Admission.the-variants as Admission
 use Rattle.exec.specs.declared.Cause.{Cause}
 use Rattle.exec.specs.declared.Key.{Key}
 use Rattle.exec.specs.declared.Limits.{Limits}
+use Rattle.exec.specs.declared.MaybeStatus.{MaybeStatus}
 use Rattle.exec.specs.declared.Pool.{Pool}
 use Rattle.exec.specs.declared.Pool.the-variants as Pool
 use Rattle.exec.specs.declared.PoolIndex.{PoolIndex}
@@ -23,8 +26,9 @@ use Rattle.exec.specs.declared.Refusal.{Refusal}
 use Rattle.exec.specs.declared.Refusal.the-variants as Refusal
 use Rattle.exec.specs.declared.Reply.{Reply}
 use Rattle.exec.specs.declared.Reply.the-variants as Reply
+use Rattle.exec.specs.declared.Timers.{Timers}
 use Rattle.exec.specs.Key.{admits}
-use Rattle.exec.specs.Limits.{isValid, outputPool}
+use Rattle.exec.specs.Limits.{bytesWith, isValid, noLimits, outputPool}
 use Rattle.exec.specs.Refusal.{number}
 use Rattle.credit.specs.declared.sender.Credit.{Credit}
 use Rattle.credit.specs.Sender.{grantable, grant}
@@ -37,26 +41,36 @@ use Rattle.runner.specs.declared.message.Wish.{Wish}
 use Rattle.runner.specs.declared.message.Wish.the-variants as Wish
 use Rattle.runner.specs.declared.runner.Runner.{Runner}
 use Rattle.runner.specs.Calls as Calls
-use Rattle.runner.specs.Calls.{askedFor, storesDo}
+use Rattle.runner.specs.Calls.{askedFor, storesDo, openBy}
 use Rattle.runner.specs.Life.{isLate, ticked, cancelAnswer, cancelNext}
 use Rattle.runner.specs.Message.{choose, wish}
-use Rattle.runner.specs.Range.{inRange, bytesDo, stop}
+use Rattle.runner.specs.Range.{inRange, bytesDo, lengthsDo, stop, openStop, fresh}
 use Rattle.runner.specs.State.{creditAt, putCredit, withFlow, withInput}
 use Rattle.runner.specs.Streams as Streams
+use Rattle.output.specs.Output.{outputFits}
+use Rattle.codec.specs.declared.Record.{Record}
+use Rattle.codec.specs.declared.Written.the-variants as Written
+use Rattle.codec.specs.Codec as Codec
+use Rattle.codec.specs.Codec.{start, size, WrittenAfter, writtenAfter}
+use Rattle.exits.specs.declared.Told.{Told}
+use Rattle.exits.specs.declared.Told.the-variants as Told
+use Rattle.exits.specs.Exit as Exit
+use Rattle.exits.specs.Exit.{isTold, isUntold, request, isMine, guess}
+use Rattle.octets.specs.Text.{same}
 use Rattle.channel.specs.Calls as Channel
 use Rattle.channel.specs.Calls.{WriteAfter, admitted, admittedRead, admittedWrite}
 use Rattle.calls.specs.Call as Call
-use Rattle.calls.specs.Call.{Call, Answer, isRefused}
+use Rattle.calls.specs.Call.{Conf, Call, Answer, isRefused}
 use Rattle.account.specs.Step as Step
-use Rattle.account.specs.Step.{State, onRunner, receivedAs, asks, waits}
-use Rattle.account.specs.Records.{Entry, call, readRecord, writeRecord, nextEntry, answerEntry}
-use Rattle.account.specs.Refused.{among, ofCalls, ofEntry, Refusals}
+use Rattle.account.specs.Step.{State, onRunner, replied, receivedAs, asks, waits}
+use Rattle.account.specs.Records.{Entry, call, readRecord, writeRecord, nextEntry, answerEntry, afterEntries, among, ofEntry}
+use Rattle.account.specs.Refused.{ofCalls, Unwritten, Refusals}
 use Rattle.account.proofs.Plain as Plain
 use Rattle.account.proofs.Plain.{said}
 use Rattle.account.proofs.Flags.{either, or-right}
 use Rattle.account.proofs.Guarded.{next-is, answer-is}
 use Rattle.channel.specs.Ended.{Writes, elsewhere, short, left, taken, tells, writes}
-use Rattle.account.proofs.Records.{Does, told-as, answers, read-does, write-does}
+use Rattle.account.proofs.Records.{RefusedBy, reads-by, Among, Does, told-as, answers, read-does, write-does}
 
 -- ---- what is to be shown of a call that leaves the state t and has the answer a
 
@@ -422,9 +436,89 @@ unfolding Channel.writeRecord admittedWrite
 record-buffer Reply.Ok s channel buffer g = write-buffer s channel buffer g _ _ (writes (s .runner) channel (s .bytes) buffer g)
 record-buffer (Reply.Refused x) s channel buffer g = rw (admitted-not (s .runner) (bytesDo (s .runner .limits) (s .bytes)) x g) refl
 
+-- ---- open
+
+module _ (conf : Conf) (now : ℕ) where
+  open-by : (valid stores : Bool) → replied (openBy (cond (not valid) (Reply.Refused Refusal.NoLimits) (cond (not stores) (Reply.Refused Refusal.StoreShort) Reply.Ok)) (conf .key) (conf .limits) (conf .timers) now .reply)
+      ≡ cond valid (cond stores Call.Ok (Call.Refused 11)) (Call.Refused 10)
+  open-by true true = refl
+  open-by true false = refl
+  open-by false stores = refl
+
+  -- one that is refused gives a runner without limits
+  open-none : (met : Reply) (n : ℕ) → replied (openBy met (conf .key) (conf .limits) (conf .timers) now .reply) ≡ Call.Refused n
+      → openBy met (conf .key) (conf .limits) (conf .timers) now .runner ≡ fresh (conf .key) noLimits (conf .timers) now
+  open-none Reply.Ok n e = absurd (false≢true (ap isRefused e))
+  open-none (Reply.Refused x) n e = refl
+
+abbrev Unlimited : Runner → Type 0
+Unlimited r = (stores : Bool) → stop r stores ≡ Reply.Refused Refusal.NoLimits
+
+none-unlimited : (k : Key) (t : Timers) (now : ℕ) → Unlimited (fresh k noLimits t now)
+unfolding stop inRange fresh outputFits bytesWith
+none-unlimited k t now stores = refl
+
+unlimited-entry : (s : State) → Unlimited (s .runner) → (e : Entry) → answerEntry s e ≡ Call.Refused 10
+unfolding answerEntry Channel.readRecord Channel.writeRecord admittedRead admittedWrite
+unlimited-entry s g (call c) = stopped s c Refusal.NoLimits (g (Plain.enough s c)) .1
+unlimited-entry s g (readRecord now channel b) = rw (admitted-not (s .runner) (storesDo (s .runner) (s .bytes) (s .lengths)) Refusal.NoLimits (g _)) refl
+unlimited-entry s g (writeRecord channel buffer) = rw (admitted-not (s .runner) (bytesDo (s .runner .limits) (s .bytes)) Refusal.NoLimits (g _)) refl
+
+unlimited-list : (es : List Entry) (s : State) → Unlimited (s .runner) → (e : Entry) → answerEntry (afterEntries s es) e ≡ Call.Refused 10
+unlimited-list [] s g e = unlimited-entry s g e
+unlimited-list (x ∷ es) s g e = rw (kept s x 10 (unlimited-entry s g x) .same) (unlimited-list es s g e)
+
+-- ---- the bytes of a record, without a runner
+
+same-refusal : (x y : Refusal) → Written.Refused x ≡ Written.Refused y → x ≡ y
+same-refusal x y e = cc
+
+module _ (numbers : List ℕ) (buffer : List ℕ) where
+  wrote-bytes : (n : ℕ) (b : List ℕ) → Unwritten numbers (writtenAfter (Written.Bytes n) b) buffer
+  wrote-bytes n b x e = let z : _≡_ {A = ℕ} 0 1 = cc in absurd (omega arith)
+
+  wrote-none : (y : Refusal) → Among numbers y → Unwritten numbers (writtenAfter (Written.Refused y) buffer) buffer
+  wrote-none y h x e = (subst (Among numbers) (same-refusal y x e) h, refl)
+
+  wrote-if : (b : Bool) (v w : WrittenAfter) → Unwritten numbers v buffer → Unwritten numbers w buffer → Unwritten numbers (cond b v w) buffer
+  wrote-if = either (λ (w : WrittenAfter). Unwritten numbers w buffer)
+
+write-kept : (channel : ℕ) (rec : Record) (payload buffer : List ℕ) → Unwritten (20 ∷ 25 ∷ []) (Codec.write channel rec payload buffer) buffer
+unfolding Codec.write
+write-kept channel rec payload buffer =
+    let ns : List ℕ = 20 ∷ 25 ∷ [] in
+    wrote-if ns buffer (leb (start rec + size rec) (length buffer)) _ _
+    (wrote-if ns buffer (eqb (length payload) (size rec)) _ _ (wrote-bytes ns buffer _ _) (wrote-none ns buffer Refusal.BadLength refl))
+    (wrote-none ns buffer Refusal.BufferShort refl)
+
+lay-kept : (channel : ℕ) (rec : Record) (buffer : List ℕ) → Unwritten (25 ∷ []) (Codec.lay channel rec buffer) buffer
+unfolding Codec.lay
+lay-kept channel rec buffer =
+    let ns : List ℕ = 25 ∷ [] in
+    wrote-if ns buffer (leb (13 + size rec) (length buffer)) _ _ (wrote-bytes ns buffer _ _) (wrote-none ns buffer Refusal.BufferShort refl)
+
+close-kept : (channel : ℕ) (status : MaybeStatus) (buffer : List ℕ) → Unwritten (25 ∷ 40 ∷ []) (Exit.close channel status buffer) buffer
+unfolding Exit.close Exit.closed
+close-kept channel status buffer =
+    let ns : List ℕ = 25 ∷ 40 ∷ [] in
+    wrote-if ns buffer (leb 43 (length buffer)) _ _
+    (wrote-if ns buffer (isUntold status) _ _ (wrote-none ns buffer Refusal.UntoldStatus refl) (wrote-bytes ns buffer _ _))
+    (wrote-none ns buffer Refusal.BufferShort refl)
+
+-- what is so of every refusal of a request's reader
+abbrev Untold : Told → Type 0
+Untold (Told.Status status) = Unit
+Untold (Told.Refused x) = Among (20 ∷ 21 ∷ 22 ∷ 41 ∷ []) x
+
+request-by : (channel : ℕ) (s : List ℕ) → Untold (Exit.read channel s)
+unfolding Exit.read Exit.matching
+request-by channel s =
+    let form = either Untold (isTold (guess s) && same (request channel (guess s)) s) (Told.Status (guess s)) (Told.Refused Refusal.BadRequest) tt refl in
+    either Untold (eqb (length s) 0) _ _ refl (either Untold (eqb (getD s 0 0) 98) _ _ (either Untold (isMine channel s) _ _ form refl) refl)
+
 -- DEMAND 1, OF REFUSALS
 pub refusals : Refusals
-unfolding answerEntry
+unfolding answerEntry Calls.«open»
 refusals = record {
   call-kept = λ s c n e. refused s c n e .same;
   message-kept = λ s buffer n e.
@@ -438,4 +532,12 @@ refusals = record {
   entry-number = λ s e n a. kept s e n a .known;
   stale-kept = stale;
   stale-read = stale-entry;
+  open-number = λ conf now bytes lengths. open-by conf now (isValid (conf .limits)) (bytesDo (conf .limits) bytes && lengthsDo (conf .limits) lengths);
+  unopened = λ conf now bytes lengths n h store slots es e. unlimited-list es _
+      (rw (open-none conf now (openStop (conf .limits) (bytesDo (conf .limits) bytes && lengthsDo (conf .limits) lengths)) n h) (none-unlimited (conf .key) (conf .timers) now)) e;
+  write-kept = write-kept;
+  lay-kept = lay-kept;
+  close-kept = close-kept;
+  read-number = λ channel b x e. (let own = Among (20 ∷ 21 ∷ 22 ∷ 23 ∷ []) in subst (RefusedBy own) e (reads-by own refl refl refl refl channel b));
+  request-number = λ channel b x e. subst Untold e (request-by channel b);
 }

@@ -37,11 +37,13 @@ use Rattle.calls.specs.Call.{Conf, Call, Answer}
 use Rattle.account.specs.Claim.{Opens, isTerminal}
 use Rattle.account.specs.Step as Step
 use Rattle.account.specs.Step.{State, receivedAs}
+use Rattle.account.specs.Records.{runEntries, callsOf}
 use Rattle.account.specs.Units.{unitsIn, isLate, lateCost, cleared, lostBy, lost, Units}
 use Rattle.account.proofs.Plain.{next, answer, begun}
 use Rattle.account.proofs.Range.{lent}
 use Rattle.account.proofs.Finish.{framed, framed-conf, fin-stays, ends, ends-by, ends-fin}
 use Rattle.account.proofs.Demand.{Fine, fine-next, next-same, answer-same, fine-open, opens-by, open-same}
+use Rattle.account.proofs.Records.{to-calls}
 use Rattle.account.proofs.InputMoves.{Moves, same, shut, Keeps, close, ticks, launches, exits, detaches, cancels}
 use Rattle.account.proofs.InputRange.{HeldIn, paid}
 
@@ -219,9 +221,16 @@ none-yet : (u : Kinds.Unit) (size : ℕ) → 0 + size + inboxHeld u newInbox ≡
 none-yet Bytes size = omega arith
 none-yet Frames size = omega arith
 
-pub units : (conf : Conf) (now : ℕ) (bytes lengths : List ℕ) → Opens conf now bytes lengths → Units conf now bytes lengths
-unfolding fresh
-units conf now bytes lengths op cs =
-    rw (open-same conf now bytes lengths op)
-    (units-list cs (begun conf now bytes lengths) false refl (fine-open conf now bytes lengths (lent (conf .limits) bytes lengths (opens-by conf now bytes lengths op)))
-    ∙ none-yet (conf .limits .input .unit) (conf .limits .input .size))
+module _ (conf : Conf) (now : ℕ) (bytes lengths : List ℕ) (op : Opens conf now bytes lengths) where
+  abbrev o : State
+  o = Step.opened conf now bytes lengths
+
+  units-calls : (cs : List Call) → unitsIn (conf .limits) (Step.after o cs .runner .input) + lost false o cs ≡ conf .limits .input .size
+  unfolding fresh
+  units-calls cs =
+      rw (open-same conf now bytes lengths op)
+      (units-list cs (begun conf now bytes lengths) false refl (fine-open conf now bytes lengths (lent (conf .limits) bytes lengths (opens-by conf now bytes lengths op)))
+      ∙ none-yet (conf .limits .input .unit) (conf .limits .input .size))
+
+  pub units : Units conf now bytes lengths
+  units es = rw (to-calls conf now bytes lengths op es) (units-calls (callsOf conf (runEntries o es)))

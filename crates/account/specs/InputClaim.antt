@@ -1,5 +1,6 @@
--- The workload's input is a queue: over every list of calls the bytes that input_written hands to the workload and those that
--- pending_input shows next, joined, are a prefix of the bytes of the inputs answered Applied, joined.
+-- The workload's input is a queue: over every list of calls and records the bytes that input_written hands to the workload and
+-- those that pending_input shows next, joined, are a prefix of the bytes of the inputs answered Applied, joined, whether a call
+-- brought them or a record that was read.
 use mathlib.Core.Bool.{Bool, true, false, cond}
 use mathlib.Core.Path.{_≡_}
 use mathlib.Core.List.{List, [], _∷_, _++_}
@@ -10,8 +11,9 @@ use Rattle.ring.specs.Ring.{ringRead}
 use Rattle.inbox.specs.Inbox.{inboxBase}
 use Rattle.input.specs.declared.Input.{Input}
 use Rattle.calls.specs.Call.{Conf, Done, Call, key, limits, credit, input, endInput, cancel, launched, readAllowance, output, discarded, outputClosed, outputFailed, outputHungUp, pendingInput, inputWritten, inputClosed, exited, settled, dropped, reset, disconnect, tick, deadline, nextRequest, nextMessage, isFinished, isDetached, awaitsSettlement, memoryBound, buffered, highWater, Answer, Ok, Applied, Stale, Late, Refused, Taken, Pending, Value, Time, Truth, Asks, Says, IsKey, AreLimits, Nothing}
-use Rattle.account.specs.Step.{State, next, answer, opened, after, run}
+use Rattle.account.specs.Step.{State, next, answer, opened}
 use Rattle.account.specs.Claim.{IsPrefix}
+use Rattle.account.specs.Records.{Entry, afterEntries, runEntries, callsOf, donesOf}
 
 abbrev pub isApplied : Answer → Bool
 isApplied Ok = false
@@ -111,10 +113,17 @@ abbrev pub brought : List Done → List ℕ
 brought [] = []
 brought (d ∷ ds) = broughtBy (d .call) (d .answer) ++ brought ds
 
--- for every list of calls from a runner just opened
+-- over a list of calls and records from a runner just opened, those of the calls that it makes
+abbrev pub handedIn : Conf → ℕ → (bytes lengths : List ℕ) → List Entry → List ℕ
+handedIn conf now bytes lengths es = handed (opened conf now bytes lengths) (callsOf conf (runEntries (opened conf now bytes lengths) es))
+
+abbrev pub broughtIn : Conf → ℕ → (bytes lengths : List ℕ) → List Entry → List ℕ
+broughtIn conf now bytes lengths es = brought (donesOf conf (runEntries (opened conf now bytes lengths) es))
+
+-- for a runner that open answered ok, stores of any content, and every list of calls and records
 pub record InputFifo (conf : Conf) (now : ℕ) (bytes lengths : List ℕ) : Type 0 where
   -- what was handed over is a prefix of what was brought
-  pub joined : (cs : List Call) → IsPrefix (handed (opened conf now bytes lengths) cs) (brought (run (opened conf now bytes lengths) cs))
+  pub joined : (es : List Entry) → IsPrefix (handedIn conf now bytes lengths es) (broughtIn conf now bytes lengths es)
   -- and what pending_input shows comes right behind it
-  pub shown : (cs : List Call) (b : List ℕ) → answer (after (opened conf now bytes lengths) cs) pendingInput ≡ Pending b
-      → IsPrefix (handed (opened conf now bytes lengths) cs ++ b) (brought (run (opened conf now bytes lengths) cs))
+  pub shown : (es : List Entry) (b : List ℕ) → answer (afterEntries (opened conf now bytes lengths) es) pendingInput ≡ Pending b
+      → IsPrefix (handedIn conf now bytes lengths es ++ b) (broughtIn conf now bytes lengths es)

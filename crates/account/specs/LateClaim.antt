@@ -1,4 +1,4 @@
--- Demand 3's bound after every call that ticks, not only after tick itself.
+-- Demand 3's bound after every call that ticks, not only after tick itself, and after every record that makes such a call.
 use mathlib.Core.Bool.{true}
 use mathlib.Core.Path.{_≡_}
 use mathlib.Core.List.{List, _∷_, _++_}
@@ -10,8 +10,9 @@ use Rattle.exec.specs.declared.Cause.{Cause}
 use Rattle.exec.specs.declared.Key.{Key}
 use Rattle.exec.specs.Key.{admits}
 use Rattle.calls.specs.Call.{Conf, Call, key, limits, credit, input, endInput, cancel, launched, readAllowance, output, discarded, outputClosed, outputFailed, outputHungUp, pendingInput, inputWritten, inputClosed, exited, settled, dropped, reset, disconnect, tick, deadline, nextRequest, nextMessage, isFinished, isDetached, awaitsSettlement, memoryBound, buffered, highWater, Applied}
-use Rattle.account.specs.Step.{answer, opened, after, run}
-use Rattle.account.specs.Claim.{anyTerminal, messages}
+use Rattle.account.specs.Step.{opened}
+use Rattle.account.specs.Claim.{messages}
+use Rattle.account.specs.Records.{Entry, call, nextEntry, answerEntry, afterEntries, runEntries, made, callsOf, anyTerminalIn}
 
 -- a cancellation ticks only for the execution's own key
 abbrev pub ownTick : Admission → ℕ → Option ℕ
@@ -53,9 +54,14 @@ tickOf conf memoryBound = none
 tickOf conf buffered = none
 tickOf conf highWater = none
 
--- after a cancel Applied at t, Terminal has come by the fifth next_message after a call that ticks at or past t + grace + settlement
+-- after a cancel Applied at t, Terminal has come by the fifth message asked for, by call or by record, after an entry whose call
+-- ticks at or past t + grace + settlement: a call, or a CLOSE that is read, which disconnects
 abbrev pub LateAny : Conf → ℕ → (bytes lengths : List ℕ) → Type 0
 LateAny conf now bytes lengths =
-    (cs ds es : List Call) (t n : ℕ) (k : Key) (c : Cause) (call : Call) → answer (after (opened conf now bytes lengths) cs) (cancel t k c) ≡ Applied
-    → t + conf .timers .grace + conf .timers .settlement < 2 ^ 64 → t + conf .timers .grace + conf .timers .settlement ≤ n → tickOf conf call ≡ some n → 5 ≤ messages es
-    → anyTerminal (run (opened conf now bytes lengths) (cs ++ (cancel t k c ∷ (ds ++ (call ∷ es))))) ≡ true
+    (cs ds es : List Entry) (t n : ℕ) (k : Key) (c : Cause) (e : Entry) (ticks : Call)
+    → let cancelled = nextEntry (afterEntries (opened conf now bytes lengths) cs) (call (cancel t k c)) in
+    let before = afterEntries cancelled ds in
+    answerEntry (afterEntries (opened conf now bytes lengths) cs) (call (cancel t k c)) ≡ Applied
+    → t + conf .timers .grace + conf .timers .settlement < 2 ^ 64 → t + conf .timers .grace + conf .timers .settlement ≤ n
+    → made conf e (answerEntry before e) ≡ some ticks → tickOf conf ticks ≡ some n → 5 ≤ messages (callsOf conf (runEntries (nextEntry before e) es))
+    → anyTerminalIn (runEntries (opened conf now bytes lengths) (cs ++ (call (cancel t k c) ∷ (ds ++ (e ∷ es))))) ≡ true

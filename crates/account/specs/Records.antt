@@ -153,6 +153,24 @@ abbrev pub donesOf : Conf → List EntryDone → List Done
 donesOf conf [] = []
 donesOf conf (d ∷ ds) = consDone (made conf (d .entry) (d .answer)) (d .answer) (donesOf conf ds)
 
+-- ---- refusals of a record's own
+
+abbrev pub among : ℕ → List ℕ → Bool
+among n [] = false
+among n (x ∷ xs) = eqb n x || among n xs
+
+-- what a record that is read, or written, is refused by where it makes no call
+abbrev pub ofReads : List ℕ
+ofReads = 13 ∷ 20 ∷ 21 ∷ 22 ∷ 23 ∷ 24 ∷ []
+
+abbrev pub ofWrites : List ℕ
+ofWrites = 13 ∷ 25 ∷ 40 ∷ []
+
+abbrev pub ofEntry : Entry → List ℕ
+ofEntry (call c) = []
+ofEntry (readRecord now channel b) = ofReads
+ofEntry (writeRecord channel buffer) = ofWrites
+
 -- ---- the demand
 
 -- the account after a list, from its entries and their answers
@@ -188,10 +206,10 @@ pub record Whole (conf : Conf) (now : ℕ) (bytes lengths : List ℕ) : Type 0 w
       → anyTerminalIn (runEntries (opened conf now bytes lengths) (cs ++ (call (Call.cancel t k c) ∷ (ds ++ (call (Call.tick n) ∷ es))))) ≡ true
   -- from open on no entry is refused by 10, 11 or 12
   pub ranged : (es : List Entry) (e : Entry) → isStop (answerEntry (afterEntries (opened conf now bytes lengths) es) e) ≡ false
-  -- an entry that makes no call is refused, and leaves runner and stores as they were
+  -- an entry that makes no call is refused by a number of its own, and leaves runner and stores as they were
   pub refused : (es : List Entry) (e : Entry) → made conf e (answerEntry (afterEntries (opened conf now bytes lengths) es) e) ≡ none
       → (nextEntry (afterEntries (opened conf now bytes lengths) es) e ≡ afterEntries (opened conf now bytes lengths) es)
-      × ((n : ℕ) × (answerEntry (afterEntries (opened conf now bytes lengths) es) e ≡ Call.Refused n))
+      × ((n : ℕ) × (answerEntry (afterEntries (opened conf now bytes lengths) es) e ≡ Call.Refused n) × (among n (ofEntry e) ≡ true))
   -- a write answered 40 leaves the Terminal with the runner: next_message gives it, into any buffer, and its status is one that no
   -- request tells
   pub untold : (es : List Entry) (channel : ℕ) (buffer : List ℕ) → answerEntry (afterEntries (opened conf now bytes lengths) es) (writeRecord channel buffer) ≡ Call.Refused 40

@@ -1,5 +1,6 @@
--- The units of the input's window: after every list open + returnable + held + lost = size. Lost are those charged by an input
--- answered Late, counted from arguments and answers, and those of an inbox that was cleared as the input closed.
+-- The units of the input's window: after every list of calls and records open + returnable + held + lost = size. Lost are those
+-- charged by an input answered Late, counted from arguments and answers, and those of an inbox that was cleared as the input
+-- closed.
 use mathlib.Core.Bool.{Bool, true, false, cond, not, _&&_, _||_}
 use mathlib.Core.Path.{_≡_}
 use mathlib.Core.List.{List, [], _∷_}
@@ -11,8 +12,9 @@ use Rattle.inbox.specs.Inbox.{inboxHeld}
 use Rattle.input.specs.declared.Input.{Input}
 use Rattle.runner.specs.declared.runner.Runner.{Runner}
 use Rattle.calls.specs.Call.{Conf, Call, key, limits, credit, input, endInput, cancel, launched, readAllowance, output, discarded, outputClosed, outputFailed, outputHungUp, pendingInput, inputWritten, inputClosed, exited, settled, dropped, reset, disconnect, tick, deadline, nextRequest, nextMessage, isFinished, isDetached, awaitsSettlement, memoryBound, buffered, highWater, Answer, Ok, Applied, Stale, Late, Refused, Taken, Pending, Value, Time, Truth, Asks, Says, IsKey, AreLimits, Nothing}
-use Rattle.account.specs.Step.{State, next, answer, opened, after}
+use Rattle.account.specs.Step.{State, next, answer, opened}
 use Rattle.account.specs.Claim.{isTerminal}
+use Rattle.account.specs.Records.{Entry, afterEntries, runEntries, callsOf}
 
 -- open + returnable + held
 abbrev pub unitsIn : Limits → Input → ℕ
@@ -81,7 +83,8 @@ abbrev pub lost : (over : Bool) → State → List Call → ℕ
 lost over s [] = 0
 lost over s (c ∷ cs) = lostBy over s c + lost (over || isTerminal (answer s c)) (next s c) cs
 
--- 01: open + returnable + units held in the inbox + units lost = size
+-- 01: open + returnable + units held in the inbox + units lost = size; a record loses what the call that it makes does
 abbrev pub Units : Conf → ℕ → (bytes lengths : List ℕ) → Type 0
 Units conf now bytes lengths =
-    (cs : List Call) → unitsIn (conf .limits) (after (opened conf now bytes lengths) cs .runner .input) + lost false (opened conf now bytes lengths) cs ≡ conf .limits .input .size
+    (es : List Entry) → unitsIn (conf .limits) (afterEntries (opened conf now bytes lengths) es .runner .input)
+    + lost false (opened conf now bytes lengths) (callsOf conf (runEntries (opened conf now bytes lengths) es)) ≡ conf .limits .input .size

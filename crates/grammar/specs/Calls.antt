@@ -11,7 +11,7 @@ use lib.ListN.{length}
 use Rattle.calls.specs.Call as Call
 use Rattle.calls.specs.Call.{Call, Answer, Done, isRefused}
 use Rattle.account.specs.Step.{State, next, answer, after, run}
-use Rattle.account.specs.Refused.{among}
+use Rattle.account.specs.Records.{among}
 use Rattle.syntax.specs.Lines.{lineCall}
 use Rattle.syntax.specs.Answers.{lineText}
 use Rattle.grammar.specs.Feed.{Stage, First, Running, Over, Session, Step, Answered, isBack, remembered, later, answered, tooLong, isShort, answerOf, lineEnds, hold, eat, feeds, ends}
@@ -129,9 +129,12 @@ lines-printed x (b ∷ bs) = ap (λ (t : List ℕ). eat x b .printed ++ t) (line
     by true h = rw h refl
     by false h = rw h refl
 
--- refused by 30 or 31
+-- what the card itself refuses a line by
+abbrev pub ofLines : List ℕ
+ofLines = 30 ∷ 31 ∷ []
+
 abbrev pub IsBad : Answer → Type 0
-IsBad a = (n : ℕ) × (a ≡ Call.Refused n) × (among n (30 ∷ 31 ∷ []) ≡ true)
+IsBad a = (n : ℕ) × (a ≡ Call.Refused n) × (among n ofLines ≡ true)
 
 -- what a line of a session with a runner is answered: as its call, or by 30 or 31 where it makes none
 pub record Answers (s : State) (l : Line) : Type 0 where

@@ -1,4 +1,5 @@
--- The session card: a session that is fed bytes, the calls that it makes, and lines by where it stands.
+-- The session card: a session that is fed bytes, the calls that it makes, lines by where it stands, and refused ones.
 pub mod Feed
 pub mod Calls
 pub mod Table
+pub mod Refused

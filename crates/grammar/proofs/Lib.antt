@@ -1,0 +1,2 @@
+-- The proof of what is claimed of refused lines.
+pub mod Refused
