@@ -1,5 +1,5 @@
 -- Demand 3, whole: the theorems of the calls without refusals 10, 11 and 12, carried to the calls as they are.
-use mathlib.Core.Bool.{Bool, true, false, cond, _&&_, false≢true}
+use mathlib.Core.Bool.{true, false, _&&_}
 use mathlib.Core.Path.{_≡_, refl, sym, ap, _∙_, subst⁻¹}
 use mathlib.Core.List.{List, [], _∷_, _++_}
 use mathlib.Core.Option.{some}
@@ -10,7 +10,6 @@ use borrow.Author.Tests.{le-leb}
 use Rattle.exec.specs.declared.Cause.{Cause}
 use Rattle.exec.specs.declared.Key.{Key}
 use Rattle.exec.specs.declared.Limits.{Limits}
-use Rattle.exec.specs.declared.Refusal.{Refusal}
 use Rattle.exec.specs.declared.Reply.{Reply}
 use Rattle.exec.specs.declared.Reply.the-variants as Reply
 use Rattle.exec.specs.declared.Stream.{Stream}
@@ -20,7 +19,6 @@ use Rattle.exec.specs.Limits.{isValid}
 use Rattle.exec.specs.Outcome.{isTruncated}
 use Rattle.inbox.specs.Need.{byteNeed, lengthNeedAs, lengthNeed}
 use Rattle.input.specs.declared.Input.{Input}
-use Rattle.runner.specs.declared.runner.Runner.{Runner}
 use Rattle.runner.specs.Calls as Calls
 use Rattle.runner.specs.Range.{bytesDo, lengthsDo, stop, openStop, fresh}
 use Rattle.runner.specs.RangeLaws.{unstopped}

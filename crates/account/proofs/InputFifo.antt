@@ -1,10 +1,10 @@
 -- The workload's input is a queue: what a call hands over comes off the front of the inbox, what it brings goes behind it, and an
 -- inbox that is cleared belongs to an input that is closed from then on.
-use mathlib.Core.Bool.{Bool, true, false, cond, not, _&&_, _||_, false≢true, or-true}
+use mathlib.Core.Bool.{Bool, true, false, cond, _&&_, _||_, false≢true, or-true}
 use mathlib.Core.Path.{_≡_, refl, sym, ap, _∙_, subst, subst⁻¹}
 use mathlib.Core.List.{List, [], _∷_, _++_, append-assoc, append-nil}
 use mathlib.Core.Logic.{inr}
-use Prim.Native.Nat.{ℕ, _+_, _*_, _≤_, _<_, min}
+use Prim.Native.Nat.{ℕ, _+_, _≤_, _<_, min}
 use native.Mathlib.Omega.{arith}
 use lib.Dec.{leb}
 use lib.ListN.{length, drop, take-append-drop}
@@ -21,7 +21,6 @@ use Rattle.inbox.specs.Inbox as Inbox
 use Rattle.inbox.specs.Inbox.{inboxBase}
 use Rattle.inbox.specs.Range.{inboxFits}
 use Rattle.inbox.specs.RangeLaws as Fits
-use Rattle.credit.specs.Sender.{creditFits}
 use Rattle.exec.specs.declared.Receipt.the-variants as Receipt
 use Rattle.exec.specs.declared.Received.{Received}
 use Rattle.exec.specs.declared.Received.the-variants as Received

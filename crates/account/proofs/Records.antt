@@ -8,7 +8,7 @@ use native.Mathlib.Omega.{arith}
 use lib.Dec.{leb, eqb}
 use lib.ListN.{length, take, drop, getD, length-append}
 use lib.Seq.{drop-at, length-take-le, take-append-le}
-use borrow.Author.Tests.{leb-true, eqb-true}
+use borrow.Author.Tests.{eqb-true}
 use Rattle.exec.specs.declared.Cause.{Cause}
 use Rattle.exec.specs.declared.Key.{Key}
 use Rattle.exec.specs.declared.Outcome.{Outcome}
@@ -39,7 +39,7 @@ use Rattle.codec.specs.declared.Parsed.the-variants as Parsed
 use Rattle.codec.specs.declared.Record.{Record}
 use Rattle.codec.specs.declared.Record.the-variants as Record
 use Rattle.channel.specs.Calls as Channel
-use Rattle.channel.specs.Calls.{ReadAfter, WriteAfter, isChannel, admitted, heardAs, notedAs, parsedRead, admittedRead, admittedWrite, room, roomyWrite, writeAfter, unwritten, asked, isLeft, sent, told, wrote, wroteBuffer, sentAs, sentBuffer, partBack, hasEnded}
+use Rattle.channel.specs.Calls.{ReadAfter, WriteAfter, isChannel, admitted, heardAs, notedAs, parsedRead, admittedRead, room, asked, isLeft, sent, told, wrote, wroteBuffer, sentAs, sentBuffer, partBack, hasEnded}
 use Rattle.codec.specs.Codec.{start, size, kinded, isTyped, fitting, checked, read, laidRecord}
 use Rattle.codec.specs.RoundTrip.{payload-back, laid-front}
 use Rattle.channel.specs.Ended.{Writes, elsewhere, short, left, taken, tells, writes, choice-left, write-left}

@@ -15,7 +15,7 @@ use Rattle.account.specs.Claim.{terminalMessage}
 use Rattle.account.specs.TurnClaim.{carriedBy}
 use Rattle.account.proofs.Flags.{either}
 use Rattle.wire.specs.Messages.{any, endsBy}
-use Rattle.wire.specs.Heard.{Heard, Window, Bytes, Eof, Exit, Close, Unread, bytesIn, unitsIn, isEof, isClose, isUnread, joined, count, toldBy}
+use Rattle.wire.specs.Heard.{Heard, Eof, Close, bytesIn, unitsIn, isEof, isClose, isUnread, joined, count, toldBy}
 use Rattle.wire.specs.Channel.{exitOf, speaks}
 use Rattle.wire.specs.Claim.{creditIn, once}
 use Rattle.wire.proofs.Ends.{endsAll, OnceAt, Once}

@@ -1,7 +1,7 @@
 -- Which ends were told: each once, and no message of a stream comes after its End.
 use mathlib.Core.Bool.{Bool, true, false, cond, not, _&&_, _||_, or-assoc, true≢false, false≢true}
 use mathlib.Core.Path.{_≡_, refl, sym, ap, _∙_, subst, subst⁻¹}
-use mathlib.Core.List.{List, [], _∷_, _++_, append-assoc}
+use mathlib.Core.List.{List, [], _∷_, _++_}
 use Prim.Native.Nat.{ℕ, min}
 use native.Mathlib.Omega.{arith}
 use lib.Dec.{ltb}

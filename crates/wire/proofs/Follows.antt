@@ -1,6 +1,6 @@
 -- Over whatever wire: where each entry is heard as its messages are told, so is a list; and what the peer has of it is what the
 -- messages give.
-use mathlib.Core.Bool.{Bool, false, _||_}
+use mathlib.Core.Bool.{Bool, false}
 use mathlib.Core.Path.{_≡_, refl, sym, ap, _∙_}
 use mathlib.Core.List.{List, [], _∷_, _++_, map, append-nil, append-assoc}
 use Prim.Native.Nat.{ℕ}

@@ -5,7 +5,7 @@ use mathlib.Core.List.{List, [], _∷_, _++_}
 use mathlib.Core.Option.{Option, none, some}
 use Prim.Native.Nat.{ℕ}
 use Rattle.exec.specs.declared.Stream.{Stream}
-use Rattle.exec.specs.Each.{Each, one}
+use Rattle.exec.specs.Each.{one}
 use Rattle.runner.specs.declared.runner.Runner.{Runner}
 use Rattle.runner.specs.Range.{fresh}
 use Rattle.runner.specs.State.{outOf}
@@ -22,7 +22,7 @@ use Rattle.account.proofs.Finish.{fin-stays, no-more, ends-fin}
 use Rattle.account.proofs.Records.{Does, Good, does, good-entry, good-open, good-at}
 use Rattle.account.proofs.Sides.{out-alike}
 use Rattle.output.specs.Output.{newOutput}
-use Rattle.wire.specs.Messages.{saidIn, saidFrom, isEnd, isOf, any, noEnds, Ordered}
+use Rattle.wire.specs.Messages.{saidIn, saidFrom, isEnd, any, noEnds, Ordered}
 use Rattle.wire.proofs.Ends as Ends
 use Rattle.wire.proofs.Ends.{Muted, ends, at, endsAll, Tells, Speech, speech, unsaid, call-tells, ends-so, any-append, tells-on}
 

@@ -1,10 +1,9 @@
 -- A record that is written, at the peer: it is heard as what is to be heard of the message that was told.
-use mathlib.Core.Bool.{Bool, true, false, cond, _||_, false≢true}
+use mathlib.Core.Bool.{Bool, true, false, cond, false≢true}
 use mathlib.Core.Path.{_≡_, refl, sym, ap, _∙_, subst⁻¹}
 use mathlib.Core.List.{List, [], _∷_, _++_, append-nil}
 use Prim.Native.Nat.{ℕ, _+_, _-_, _^_, _≤_, _<_}
 use native.Mathlib.Omega.{arith}
-use lib.Dec.{eqb}
 use lib.IntN.{pos, negsuc}
 use lib.ListN.{length, take, drop, getD, length-append}
 use lib.Seq.{take-at}
@@ -20,12 +19,10 @@ use Rattle.exec.specs.declared.Stream.the-variants.{Stdout, Stderr}
 use Rattle.exec.specs.declared.Unit as Units
 use Rattle.exec.specs.declared.Unit.the-variants as Unit
 use Rattle.exec.specs.Each.{Each, onOne, every}
-use Rattle.exec.specs.Stream.{anyStream}
 use Rattle.inbox.specs.Need.{byteNeed}
 use Rattle.choice.specs.declared.Choice.{Choice}
 use Rattle.choice.specs.declared.Choice.the-variants as Choice
 use Rattle.input.specs.declared.Input.{Input}
-use Rattle.runner.specs.declared.answer.Said.the-variants as Said
 use Rattle.runner.specs.declared.runner.Runner.{Runner}
 use Rattle.runner.specs.Calls as Calls
 use Rattle.runner.specs.Life.{outcomeOf}
@@ -45,12 +42,12 @@ use Rattle.exits.specs.declared.Told.the-variants as Told
 use Rattle.exits.specs.Exit as Exits
 use Rattle.exits.specs.Exit.{request, isTold, isUntold, ending}
 use Rattle.exits.specs.RoundTrip.{Tells, forth, ended-reads}
-use Rattle.channel.specs.Calls.{WriteAfter, isChannel, room, wrote, wroteBuffer, sentAs, sentBuffer, partBack, hasEnded, asked, told, isLeft}
+use Rattle.channel.specs.Calls.{WriteAfter, wrote, wroteBuffer, sentAs, sentBuffer, partBack, hasEnded, asked, told, isLeft}
 use Rattle.channel.specs.Ended.{Writes, elsewhere, short, left, taken, tells, writes}
 use Rattle.calls.specs.Call as Call
 use Rattle.calls.specs.Call.{Answer}
 use Rattle.account.specs.Step.{State}
-use Rattle.account.specs.Records.{Entry, writeRecord, answerEntry, wroteAs}
+use Rattle.account.specs.Records.{writeRecord, answerEntry}
 use Rattle.account.proofs.Plain as Plain
 use Rattle.account.proofs.Plain.{said}
 use Rattle.account.proofs.Demand.{Fine, goes, answer-same}
@@ -60,7 +57,7 @@ use Rattle.account.proofs.InputRange.{HeldIn}
 use Rattle.account.proofs.Records.{Does, answers, told-does, part-in, part-long}
 use Rattle.wire.specs.Messages.{saidIn}
 use Rattle.wire.specs.Heard.{Heard, Window, Bytes, Eof, Exit, Close, toldBy}
-use Rattle.wire.specs.Channel.{packet, packets, written, onWire, hear, heard, exitOf, speaks}
+use Rattle.wire.specs.Channel.{packet, written, onWire, hear, heard, exitOf, speaks}
 use Rattle.wire.specs.Claim.{OfChannel}
 use Rattle.wire.proofs.Follows.{map-append}
 use Rattle.wire.proofs.Ends.{Muted, ends, at, end-untold}

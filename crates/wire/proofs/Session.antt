@@ -27,7 +27,7 @@ use Rattle.channel.specs.Calls as Channel
 use Rattle.account.specs.Step as Step
 use Rattle.account.specs.Records.{Entry, nextEntry}
 use Rattle.account.proofs.TurnSession.{channel, zeros, written, records, zero-status, zero-closes, complete, channel-opens, channel-terminal, channel-taken}
-use Rattle.wire.specs.Heard.{Heard, Window, Bytes, Eof, Exit, Close, AllOf, bytesIn, joined, wire}
+use Rattle.wire.specs.Heard.{Window, Bytes, Eof, Exit, Close, AllOf, bytesIn, joined, wire}
 use Rattle.wire.specs.Channel.{onWire, heard}
 use Rattle.wire.specs.Claim.{OfChannel, Lone, heardOf}
 use Rattle.wire.proofs.Wire.{wired}

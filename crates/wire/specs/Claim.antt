@@ -10,7 +10,7 @@ use Rattle.exec.specs.Stream.{everyStream}
 use Rattle.channel.specs.Calls.{isChannel}
 use Rattle.calls.specs.Call as Call
 use Rattle.calls.specs.Call.{Conf, Message}
-use Rattle.account.specs.Step.{State, opened}
+use Rattle.account.specs.Step.{opened}
 use Rattle.account.specs.Claim.{messages, isTerminal, terminalMessage}
 use Rattle.account.specs.Records.{Entry, call, readRecord, writeRecord, nextEntry, answerEntry, afterEntries, runEntries}
 use Rattle.account.specs.TurnClaim.{takenIn, sentIn}
