@@ -4,10 +4,11 @@ use mathlib.Core.Path.{_≡_, refl, sym, ap, _∙_, subst⁻¹}
 use mathlib.Core.List.{List, [], _∷_, _++_, append-nil}
 use Prim.Native.Nat.{ℕ, _+_, _-_, _^_, _≤_, _<_}
 use native.Mathlib.Omega.{arith}
+use lib.Dec.{eqb}
 use lib.IntN.{pos, negsuc}
 use lib.ListN.{length, take, drop, getD, length-append}
 use lib.Seq.{take-at}
-use borrow.Author.Tests.{leb-true, ne-eqb}
+use borrow.Author.Tests.{leb-true, eq-eqb, ne-eqb}
 use Rattle.exec.specs.declared.Limits.{Limits}
 use Rattle.exec.specs.declared.MaybeStatus.{MaybeStatus}
 use Rattle.exec.specs.declared.MaybeStatus.the-variants as MaybeStatus
@@ -19,6 +20,7 @@ use Rattle.exec.specs.declared.Stream.the-variants.{Stdout, Stderr}
 use Rattle.exec.specs.declared.Unit as Units
 use Rattle.exec.specs.declared.Unit.the-variants as Unit
 use Rattle.exec.specs.Each.{Each, onOne, every}
+use Rattle.octets.specs.Bytes.{numberAt}
 use Rattle.inbox.specs.Need.{byteNeed}
 use Rattle.choice.specs.declared.Choice.{Choice}
 use Rattle.choice.specs.declared.Choice.the-variants as Choice
@@ -76,12 +78,16 @@ asHeard Record.Eof b = Eof
 asHeard Record.Close b = Close
 
 module _ (channel : ℕ) where
+  mine : {rec : Record} (b : List ℕ) → Holds channel b rec → eqb (numberAt b 1) channel ≡ true
+  mine b h = eq-eqb (numberAt b 1) channel (h .mine)
+
   by-kind : (rec : Record) (b : List ℕ) → Codec.read channel b ≡ Parsed.Read rec → Holds channel b rec → hear channel b ≡ asHeard rec b
-  by-kind (Record.Adjust units) b e h = rw (h .kind .0, e, h .kind .0, h .kind .1) refl
-  by-kind (Record.Data n) b e h = rw (h .kind .0, e, h .kind .0) refl
-  by-kind (Record.Extended n) b e h = rw (h .kind .0, e, h .kind .0) refl
-  by-kind Record.Eof b e h = rw (h .kind, e, h .kind) refl
-  by-kind Record.Close b e h = rw (h .kind, e, h .kind) refl
+  by-kind (Record.Adjust units) b e h = rw (h .kind .0, e, h .kind .0, mine b h, h .kind .1) refl
+  by-kind (Record.Data n) b e h = rw (h .kind .0, e, h .kind .0, mine b h, eq-eqb (numberAt b 5) (length b - 9) (omega (arith, h .whole, h .kind .1))) refl
+  by-kind (Record.Extended n) b e h =
+      rw (h .kind .0, e, h .kind .0, mine b h, h .typed, eq-eqb (numberAt b 9) (length b - 13) (omega (arith, h .whole, h .kind .1))) refl
+  by-kind Record.Eof b e h = rw (h .kind, e, h .kind, mine b h) refl
+  by-kind Record.Close b e h = rw (h .kind, e, h .kind, mine b h) refl
 
   record-heard : (rec : Record) (b : List ℕ) → Codec.read channel b ≡ Parsed.Read rec → heard channel (packet b) ≡ asHeard rec b ∷ []
   record-heard rec b e =

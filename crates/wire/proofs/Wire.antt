@@ -2,8 +2,10 @@
 use mathlib.Core.Bool.{Bool, true, false, _||_, true≢false}
 use mathlib.Core.Path.{_≡_, refl, sym, ap, _∙_, subst, subst⁻¹}
 use mathlib.Core.List.{List, [], _∷_, _++_, append-nil}
-use Prim.Native.Nat.{ℕ}
+use Prim.Native.Nat.{ℕ, _+_, _≤_}
 use native.Mathlib.Omega.{arith}
+use lib.ListN.{length, take, drop}
+use borrow.Author.Tests.{le-leb}
 use Rattle.exec.specs.declared.Outcome.{Outcome}
 use Rattle.exec.specs.declared.Receipt.the-variants as Receipt
 use Rattle.exec.specs.declared.Stream.{Stream}
@@ -19,15 +21,16 @@ use Rattle.calls.specs.Call as Call
 use Rattle.calls.specs.Call.{Conf, Call, Answer, Message}
 use Rattle.account.specs.Step as Step
 use Rattle.account.specs.Step.{State}
-use Rattle.account.specs.Claim.{Opens, messages, isMessage}
-use Rattle.account.specs.Records.{Entry, call, readRecord, writeRecord, nextEntry, readAs, wroteAs, answerEntry, afterEntries, runEntries, SilentIn}
-use Rattle.account.specs.TurnClaim.{carriedBy, sentIn}
+use Rattle.account.specs.Claim.{Opens, IsPrefix, messages, isMessage}
+use Rattle.account.specs.Records.{Entry, call, readRecord, writeRecord, nextEntry, readAs, wroteAs, answerEntry, afterEntries, runEntries, isUntaken, roomy, made, SilentIn}
+use Rattle.account.specs.TurnClaim.{carriedBy, takenIn, sentIn}
 use Rattle.account.proofs.Plain.{answer}
 use Rattle.account.proofs.Demand.{answer-same}
 use Rattle.account.proofs.Finish as Finish
 use Rattle.account.proofs.Finish.{Kind, kind}
-use Rattle.account.proofs.Records.{Good, good-open, good-at, whole}
+use Rattle.account.proofs.Records.{Does, Good, does, good-open, good-at, whole}
 use Rattle.account.proofs.Sides.{one-per, every-same}
+use Rattle.account.proofs.Told.{taken-told, sent-told}
 use Rattle.account.proofs.Turn.{turn}
 use Rattle.wire.specs.Messages.{saidIn, saidFrom, isEnd, any, noEnds}
 use Rattle.wire.specs.Heard.{Close, AllOf, bytesIn, unitsIn, isEof, isClose, isUnread, joined, count, wire, toldBy}
@@ -108,6 +111,12 @@ module _ (conf : Conf) (now : ℕ) (bytes lengths : List ℕ) (channel : ℕ) (o
   sent-at : (es : List Entry) (x : Stream) → AllOf (Lone channel) es → joined (bytesIn x) (heardOf conf now bytes lengths channel es) ≡ sentIn x (runEntries begins es)
   sent-at es x l = has es x l ∙ sym (sent-said x (runEntries begins es))
 
+  front-at : (es : List Entry) (x : Stream) → AllOf (Lone channel) es
+      → IsPrefix (joined (bytesIn x) (heardOf conf now bytes lengths channel es)) (takenIn x (runEntries begins es))
+  front-at es x l =
+      let p = whole conf now bytes lengths op .joined es x in
+      (p .0, sym (taken-told conf now bytes lengths op es x) ∙ p .1 ∙ ap (λ (b : List ℕ). b ++ p .0) (sent-told conf now bytes lengths op es x ∙ sym (sent-at es x l)))
+
   -- the streams whose End was told
   told-ends : (es : List Entry) (x : Stream) → one x (endsAll (said conf now bytes lengths es) noEnds) ≡ any (isEnd x) (said conf now bytes lengths es)
   told-ends es x =
@@ -148,12 +157,22 @@ module _ (conf : Conf) (now : ℕ) (bytes lengths : List ℕ) (channel : ℕ) (o
       ∙ ap (λ (a : Answer). toldBy speaks (ends (s .runner)) (saidIn a)) e
       ∙ append-nil (exitOf (t .status) ++ (Close ∷ []))
 
+  asks-at : (es : List Entry) (buffer : List ℕ) → conf .limits .chunk + 13 ≤ length buffer → 43 ≤ length buffer
+      → isUntaken (answerEntry (afterEntries begins es) (writeRecord channel buffer)) ≡ false
+      → answerEntry (afterEntries begins es) (writeRecord channel buffer) ≡ Step.answer (afterEntries begins es) (Call.nextMessage (take (conf .limits .chunk) (drop 13 buffer)))
+  unfolding Does made
+  asks-at es buffer h k u =
+      let r : roomy conf buffer ≡ true = le-leb (Channel.room (conf .limits)) (length buffer) (omega arith) in
+      (rw (o .limits, r, u) at (does conf (writeRecord channel buffer) (afterEntries begins es) (good-at conf now bytes lengths op es))) .1
+
   -- WHAT THE PEER KNOWS
   pub wired : Wire conf now bytes lengths channel
   wired = record {
     follows = follows;
+    asks = asks-at;
     unread = λ es l. ap (count isUnread) (follows es l) ∙ unread-none noEnds (said conf now bytes lengths es);
     sent = sent-at;
+    front = front-at;
     windows = λ es l. ap (joined unitsIn) (follows es l) ∙ joined-told speaks unitsIn creditIn units-told noEnds (said conf now bytes lengths es);
     eofs = eofs-at;
     mute = mute-at;

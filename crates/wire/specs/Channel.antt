@@ -1,6 +1,6 @@
--- A channel of RFC 4254 as a wire: the records that stand on it, what its peer's readers make of them, and what is to be heard
--- of a message. The peer has the bytes, and no message, length or answer.
-use mathlib.Core.Bool.{Bool, cond}
+-- A channel of RFC 4254 as a wire: the records that the sender puts on it, what its peer's readers make of them, and what is to be
+-- heard of a message. The sender cuts what a write left by its answer; the peer has the bytes, and no message, length or answer.
+use mathlib.Core.Bool.{Bool, cond, _&&_}
 use mathlib.Core.List.{List, [], _∷_, _++_, map}
 use Prim.Native.Nat.{ℕ, _-_}
 use lib.Dec.{eqb}
@@ -33,7 +33,7 @@ use Rattle.wire.specs.Heard.{Heard, Window, Bytes, Eof, Exit, Close, Unr
 abbrev pub packet : List ℕ → List (List ℕ)
 packet b = cond (eqb (length b) 0) [] (b ∷ [])
 
--- the n bytes that a message left at the buffer's start: of a Terminal the last 5 are a record of their own
+-- the n bytes that a message left at the buffer's start, as the sender cuts them: of a Terminal the last 5 are a record of their own
 abbrev pub packets : Messages.Message → (n : ℕ) → (buffer : List ℕ) → List (List ℕ)
 packets (Message.Credit units) n buffer = packet (take n buffer)
 packets Message.Started n buffer = packet (take n buffer)
@@ -56,18 +56,23 @@ onWire s (writeRecord channel buffer) =
 
 -- ---- what its peer hears
 
--- a record that the codec's reader reads, by its first byte: the units of 93 stand at 5, the payload of 94 at 9, that of 95 at 13
-abbrev pub byKind : (kind : ℕ) → List ℕ → Heard
-byKind kind b =
-    cond (eqb kind 93) (Window (numberAt b 5))
-    (cond (eqb kind 94) (Bytes Stdout (drop 9 b))
-    (cond (eqb kind 95) (Bytes Stderr (drop 13 b))
-    (cond (eqb kind 96) Eof
-    (cond (eqb kind 97) Close Unread))))
+abbrev pub readIf : Bool → Heard → Heard
+readIf b h = cond b h Unread
 
-abbrev pub asRecord : Parsed → List ℕ → Heard
-asRecord (Parsed.Read rec) b = byKind (getD b 0 0) b
-asRecord (Parsed.Refused x) b = Unread
+-- a record that the codec's reader accepts, by its first byte and by RFC 4254's places: the channel stands at 1; of a 93 the units at
+-- 5; of a 94 the payload's length at 5 and the payload at 9; of a 95 the type, 1, at 5, the length at 9 and the payload at 13
+abbrev pub byKind : (channel kind : ℕ) → List ℕ → Heard
+byKind channel kind b =
+    readIf (eqb (numberAt b 1) channel)
+    (cond (eqb kind 93) (Window (numberAt b 5))
+    (cond (eqb kind 94) (readIf (eqb (numberAt b 5) (length b - 9)) (Bytes Stdout (drop 9 b)))
+    (cond (eqb kind 95) (readIf (eqb (numberAt b 5) 1 && eqb (numberAt b 9) (length b - 13)) (Bytes Stderr (drop 13 b)))
+    (cond (eqb kind 96) Eof
+    (cond (eqb kind 97) Close Unread)))))
+
+abbrev pub asRecord : (channel : ℕ) → Parsed → List ℕ → Heard
+asRecord channel (Parsed.Read rec) b = byKind channel (getD b 0 0) b
+asRecord channel (Parsed.Refused x) b = Unread
 
 -- 98, by the reader of the exit requests
 abbrev pub asRequest : Told → Heard
@@ -75,7 +80,7 @@ asRequest (Told.Status s) = Exit s
 asRequest (Told.Refused x) = Unread
 
 abbrev pub hear : (channel : ℕ) → List ℕ → Heard
-hear channel b = cond (eqb (getD b 0 0) 98) (asRequest (Exits.read channel b)) (asRecord (Codec.read channel b) b)
+hear channel b = cond (eqb (getD b 0 0) 98) (asRequest (Exits.read channel b)) (asRecord channel (Codec.read channel b) b)
 
 abbrev pub heard : (channel : ℕ) → List (List ℕ) → List Heard
 heard channel bs = map (hear channel) bs

@@ -1,8 +1,10 @@
--- What a peer can know from the bytes of a channel alone.
+-- What a peer can know from the bytes of a channel. That a stream is truncated is not among them: RFC 4254 has no word for it, and the
+-- same bytes may stand for both (`proofs/Session`, `blind`).
 use mathlib.Core.Bool.{Bool, true, false, cond}
 use mathlib.Core.Path.{_≡_}
 use mathlib.Core.List.{List, [], _∷_, _++_}
-use Prim.Native.Nat.{ℕ, _^_, _<_}
+use Prim.Native.Nat.{ℕ, _+_, _^_, _≤_, _<_}
+use lib.ListN.{length, take, drop}
 use Rattle.exec.specs.declared.Outcome.{Outcome}
 use Rattle.exec.specs.declared.Stream.{Stream}
 use Rattle.exec.specs.Outcome.{isTruncated}
@@ -10,9 +12,9 @@ use Rattle.exec.specs.Stream.{everyStream}
 use Rattle.channel.specs.Calls.{isChannel}
 use Rattle.calls.specs.Call as Call
 use Rattle.calls.specs.Call.{Conf, Message}
-use Rattle.account.specs.Step.{opened}
-use Rattle.account.specs.Claim.{messages, isTerminal, terminalMessage}
-use Rattle.account.specs.Records.{Entry, call, readRecord, writeRecord, nextEntry, answerEntry, afterEntries, runEntries}
+use Rattle.account.specs.Step.{answer, opened}
+use Rattle.account.specs.Claim.{IsPrefix, messages, isTerminal, terminalMessage}
+use Rattle.account.specs.Records.{Entry, call, readRecord, writeRecord, nextEntry, answerEntry, afterEntries, runEntries, isUntaken}
 use Rattle.account.specs.TurnClaim.{takenIn, sentIn}
 use Rattle.wire.specs.Messages.{saidFrom, isEnd, any, noEnds}
 use Rattle.wire.specs.Heard.{Heard, Close, AllOf, bytesIn, unitsIn, isEof, isClose, isUnread, joined, count, wire, toldBy}
@@ -54,11 +56,20 @@ heardOf conf now bytes lengths channel es = heard channel (wire onWire (opened c
 pub record Wire (conf : Conf) (now : ℕ) (bytes lengths : List ℕ) (channel : ℕ) : Type 0 where
   -- record by record it heard what was told, message by message: nothing else, nothing less, and in that order
   pub follows : (es : List Entry) → AllOf (Lone channel) es → heardOf conf now bytes lengths channel es ≡ toldBy speaks noEnds (said conf now bytes lengths es)
+  -- and what is told is what next_message tells, after any list: a write into chunk + 13 bytes, and 43, answers as that call does in
+  -- its part of the buffer, or leaves a Terminal by 40
+  pub asks : (es : List Entry) (buffer : List ℕ) → conf .limits .chunk + 13 ≤ length buffer → 43 ≤ length buffer
+      → isUntaken (answerEntry (afterEntries (opened conf now bytes lengths) es) (writeRecord channel buffer)) ≡ false
+      → answerEntry (afterEntries (opened conf now bytes lengths) es) (writeRecord channel buffer)
+      ≡ answer (afterEntries (opened conf now bytes lengths) es) (Call.nextMessage (take (conf .limits .chunk) (drop 13 buffer)))
   -- so it read every record
   pub unread : (es : List Entry) → AllOf (Lone channel) es → count isUnread (heardOf conf now bytes lengths channel es) ≡ 0
   -- what it has of a stream is what was sent of it: 94 carries stdout, 95 stderr
   pub sent : (es : List Entry) (x : Stream) → AllOf (Lone channel) es
       → joined (bytesIn x) (heardOf conf now bytes lengths channel es) ≡ sentIn x (runEntries (opened conf now bytes lengths) es)
+  -- and so the first bytes that the program handed over
+  pub front : (es : List Entry) (x : Stream) → AllOf (Lone channel) es
+      → IsPrefix (joined (bytesIn x) (heardOf conf now bytes lengths channel es)) (takenIn x (runEntries (opened conf now bytes lengths) es))
   -- each 93 is a Credit, with its units
   pub windows : (es : List Entry) → AllOf (Lone channel) es
       → joined unitsIn (heardOf conf now bytes lengths channel es) ≡ joined creditIn (said conf now bytes lengths es)
@@ -68,7 +79,7 @@ pub record Wire (conf : Conf) (now : ℕ) (bytes lengths : List ℕ) (channel : 
   -- and no bytes behind it
   pub mute : (es ds : List Entry) (x : Stream) → AllOf (Lone channel) (es ++ ds) → count isEof (heardOf conf now bytes lengths channel es) ≡ 1
       → joined (bytesIn x) (heardOf conf now bytes lengths channel (es ++ ds)) ≡ joined (bytesIn x) (heardOf conf now bytes lengths channel es)
-  -- one 97 where Terminal was told, and none before
+  -- one 97 where Terminal was told, and none before (nor where it is left by 40: then no record tells the end)
   pub closes : (es : List Entry) → AllOf (Lone channel) es
       → count isClose (heardOf conf now bytes lengths channel es) ≡ once (any terminalMessage (said conf now bytes lengths es))
   -- right before it the status, exactly where the outcome has one: after any list
@@ -78,7 +89,7 @@ pub record Wire (conf : Conf) (now : ℕ) (bytes lengths : List ℕ) (channel : 
   -- and nothing behind it, whatever is called
   pub last : (es : List Entry) (e : Entry) (ds : List Entry) → isTerminal (answerEntry (afterEntries (opened conf now bytes lengths) es) e) ≡ true
       → wire onWire (nextEntry (afterEntries (opened conf now bytes lengths) es) e) ds ≡ []
-  -- of a stream that Terminal reports untruncated the peer has every byte that the program handed over
+  -- where Terminal, on the runner's side, reports a stream untruncated, the peer has every byte of it that the program handed over
   pub whole : (es : List Entry) (e : Entry) (o : Outcome) (x : Stream) → AllOf (Lone channel) es
       → answerEntry (afterEntries (opened conf now bytes lengths) es) e ≡ Call.Says (Call.Terminal o) → isTruncated o x ≡ false
       → joined (bytesIn x) (heardOf conf now bytes lengths channel es) ≡ takenIn x (runEntries (opened conf now bytes lengths) es)
