@@ -35,7 +35,7 @@ abbrev pub saidBy : List EntryDone → List Message
 saidBy [] = []
 saidBy (d ∷ ds) = saidIn (d .answer) ++ saidBy ds
 
--- from a state on, and after a list from open
+-- by a list from a state on
 abbrev pub saidFrom : State → List Entry → List Message
 saidFrom s es = saidBy (runEntries s es)
 
