@@ -77,17 +77,17 @@ Does e (some c) s after a = (after ≡ Step.next s c) × (a ≡ Step.answer s c)
 
 -- ---- a record read
 
-heard-as : (x : Received) → readAs (heardAs x) ≡ receivedAs x
+pub heard-as : (x : Received) → readAs (heardAs x) ≡ receivedAs x
 heard-as (Received.Receipt Receipt.Applied) = refl
 heard-as (Received.Receipt Receipt.Stale) = refl
 heard-as (Received.Receipt Receipt.Late) = refl
 heard-as (Received.Refused x) = refl
 
-noted-as : (x : Reply) → readAs (notedAs x) ≡ replied x
+pub noted-as : (x : Reply) → readAs (notedAs x) ≡ replied x
 noted-as Reply.Ok = refl
 noted-as (Reply.Refused x) = refl
 
-abbrev leaves : ReadAfter → State
+abbrev pub leaves : ReadAfter → State
 leaves x = record { runner = x .reading .runner; bytes = x .bytes; lengths = x .lengths }
 
 -- what is so of every refusal of the reader's own is so of what it reads

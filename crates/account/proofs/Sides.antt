@@ -1,6 +1,6 @@
 -- The streams side by side: what one of them has after a change of each, or of one.
 use mathlib.Core.Bool.{Bool, true, false, cond, _&&_, _||_, true≢false}
-use mathlib.Core.Path.{_≡_, refl, sym, _∙_}
+use mathlib.Core.Path.{_≡_, refl, sym, ap, _∙_}
 use mathlib.Core.List.{List, [], _∷_}
 use mathlib.Core.Logic.{_⊎_, inl, inr}
 use Prim.Native.Nat.{ℕ, _+_, _≤_}
@@ -12,6 +12,7 @@ use Rattle.exec.specs.Stream.{sameStream, everyStream, anyStream, sumOfStreams}
 use Rattle.output.specs.declared.Output.{Output}
 use Rattle.output.specs.Outputs.{eachOutput, outputIn, putOutput}
 use Rattle.runner.specs.State.{base}
+use Rattle.account.proofs.Flags.{or-false-l, or-false-r}
 
 pub same-self : (x : Stream) → sameStream x x ≡ true
 same-self Stdout = refl
@@ -61,6 +62,18 @@ last-of Stderr e h = rw h (rest (e .stdout))
 -- what holds of each holds of all
 pub of-every : (p : Stream → Bool) → ((x : Stream) → p x ≡ true) → everyStream p ≡ true
 of-every p h = rw (h Stdout, h Stderr) refl
+
+-- and what holds of none
+pub of-none : (p : Stream → Bool) → ((x : Stream) → p x ≡ false) → anyStream p ≡ false
+of-none p h = rw (h Stdout, h Stderr) refl
+
+pub none-of : (p : Stream → Bool) → anyStream p ≡ false → (x : Stream) → p x ≡ false
+none-of p h Stdout = or-false-l (p Stdout) (p Stderr) h
+none-of p h Stderr = or-false-r (p Stdout) (p Stderr) h
+
+-- each changed alike by two that agree on it
+pub each-same : (f g : Output → Output) (os : List Output) → ((x : Stream) → f (outputIn x os) ≡ g (outputIn x os)) → eachOutput f os ≡ eachOutput g os
+each-same f g os h = ap (λ (o : Output). o ∷ f (outputIn Stderr os) ∷ []) (h Stdout) ∙ ap (λ (o : Output). g (outputIn Stdout os) ∷ o ∷ []) (h Stderr)
 
 -- ---- one changed: a claim on each stream holds if it holds of that one, and held of the others
 

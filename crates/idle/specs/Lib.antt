@@ -1,0 +1,3 @@
+-- Idle ticks: that they make no difference, and how often a host has to tick.
+pub mod IdleClaim
+pub mod PollClaim
