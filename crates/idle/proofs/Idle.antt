@@ -2,7 +2,8 @@
 use mathlib.Core.Bool.{true, false}
 use mathlib.Core.Path.{_≡_, refl, sym, _∙_, ap, subst}
 use mathlib.Core.List.{List, [], _∷_}
-use Prim.Native.Nat.{ℕ}
+use Prim.Native.Nat.{ℕ, _≤_, _<_}
+use native.Mathlib.Omega.{arith}
 use borrow.Author.Tests.{ltb-true, lt-ltb, lt-leb, leb-false}
 use Rattle.exec.specs.declared.Deadline.{Deadline}
 use Rattle.exec.specs.declared.Deadline.the-variants.{Never, At}
@@ -79,6 +80,10 @@ reported-later t s = by (stop (s .runner) true) refl
     by Reply.Ok e = answered (stop (ticked (s .runner) t) true) (deadlineOf (ticked (s .runner) t)) (tick-later t (s .runner))
     by (Reply.Refused x) e = rw e refl
 
+told-otherwise : (t d : ℕ) (s : State) → d ≤ t → reported (next s (Call.tick t)) ≡ At d → ⊥
+told-otherwise t d s l e =
+    let b = subst (λ (x : Deadline). isBefore t x ≡ true) e (reported-later t s) in let k : t < d = ltb-true t d b in omega arith
+
 -- ---- a list: s in the first run, t in the second
 
 pub idle-answers : (ws : List Woven) (s t : State) → calmS s ≡ calmS t → AllIdle t ws → amid t ws ≡ runEntries s (alone ws)
@@ -127,4 +132,5 @@ module _ (conf : Conf) (now : ℕ) (bytes lengths : List ℕ) where
     stores = λ ws a. (ap (λ (x : State). x .bytes) (alike-ends ws a), ap (λ (x : State). x .lengths) (alike-ends ws a));
     buffers = λ ws channel buffer a. (alike-message _ (afterEntries begins (alone ws)) (alike-ends ws a) buffer, alike-record _ (afterEntries begins (alone ws)) (alike-ends ws a) channel buffer);
     whose = λ ws. (spared-idle ws begins begins refl, idle-spared ws begins begins refl);
+    sharp = λ es d t r l e. told-otherwise t d (afterEntries begins es) l e;
   }

@@ -6,3 +6,4 @@ pub mod Records
 pub mod Ticks
 pub mod Idle
 pub mod Polls
+pub mod Session

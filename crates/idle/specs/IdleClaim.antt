@@ -3,7 +3,7 @@
 use mathlib.Core.Bool.{Bool, true}
 use mathlib.Core.Path.{_≡_}
 use mathlib.Core.List.{List, [], _∷_}
-use Prim.Native.Nat.{ℕ}
+use Prim.Native.Nat.{ℕ, _≤_}
 use lib.Dec.{ltb}
 use Rattle.exec.specs.declared.Deadline.{Deadline}
 use Rattle.exec.specs.declared.Deadline.the-variants.{Never, At}
@@ -111,3 +111,6 @@ pub record IdleTicks (conf : Conf) (now : ℕ) (bytes lengths : List ℕ) : Type
   pub whose : (ws : List Woven)
       → (AllSpared (opened conf now bytes lengths) ws → AllIdle (opened conf now bytes lengths) ws)
       × (AllIdle (opened conf now bytes lengths) ws → AllSpared (opened conf now bytes lengths) ws)
+  -- and no other tick is idle: after one at the deadline or behind it, another is reported
+  pub sharp : (es : List Entry) (d t : ℕ) → reported (afterEntries (opened conf now bytes lengths) es) ≡ At d → d ≤ t
+      → reported (next (afterEntries (opened conf now bytes lengths) es) (Call.tick t)) ≡ At d → ⊥

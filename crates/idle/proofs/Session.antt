@@ -1,0 +1,132 @@
+-- Idle ticks, computed from the definitions: so the claims are not of lists that cannot be, and none of their conditions can be spared.
+use mathlib.Core.Bool.{true, false}
+use mathlib.Core.Path.{_≡_, refl, sym, _∙_, ap}
+use mathlib.Core.List.{List, [], _∷_, map}
+use Prim.Native.Nat.{ℕ}
+use native.Mathlib.Omega.{arith}
+use Rattle.exec.specs.declared.Cause.the-variants as Cause
+use Rattle.exec.specs.declared.Deadline.the-variants.{Never, At}
+use Rattle.exec.specs.declared.LaunchResult.the-variants as LaunchResult
+use Rattle.exec.specs.declared.MaybeDuration.{MaybeDuration}
+use Rattle.exec.specs.declared.MaybeDuration.the-variants as MaybeDuration
+use Rattle.exec.specs.declared.MaybeStatus.the-variants as MaybeStatus
+use Rattle.exec.specs.declared.Settlement as Settlements
+use Rattle.exec.specs.declared.Settlement.the-variants as Settlement
+use Rattle.exec.specs.declared.Stream.the-variants.{Stdout, Stderr}
+use Rattle.exec.specs.Key.{admits}
+use Rattle.exec.specs.Limits.{cost, bytesWith, bytesWindow, limitsFor}
+use Rattle.ring.specs.Ring.{wrap, ringRead, ringFrom, ringWrite}
+use Rattle.ring.specs.Runs.{copied}
+use Rattle.choice.specs.Order.{ifElse, order}
+use Rattle.output.specs.Output.{outputFits}
+use Rattle.runner.specs.Calls as Calls
+use Rattle.runner.specs.Life as Life
+use Rattle.runner.specs.Message as Message
+use Rattle.runner.specs.Range as Range
+use Rattle.runner.specs.Streams as Streams
+use Rattle.calls.specs.Call as Call
+use Rattle.calls.specs.Call.{Conf, Call, Answer}
+use Rattle.account.specs.Step as Step
+use Rattle.account.specs.Step.{State}
+use Rattle.account.specs.Records.{Entry, EntryDone, call, nextEntry, answerEntry, afterEntries, runEntries}
+use Rattle.idle.specs.IdleClaim.{Woven, made, idle, alone, woven, amid, AllIdle}
+use Rattle.idle.specs.PollClaim.{Beat, polled, AllPunctual, atEveryInstant}
+use Rattle.idle.proofs.Idle.{idleTicks}
+use Rattle.idle.proofs.Polls.{polls}
+
+-- chunks of one byte, windows of one byte
+abbrev timed : MaybeDuration → (grace settlement : ℕ) → Conf
+timed timeout grace settlement = record {
+  key = record { id = 7; generation = 2 };
+  limits = limitsFor 1 (bytesWindow 1) (bytesWindow 1) false;
+  timers = record { timeout = timeout; grace = grace; settlement = settlement };
+}
+
+-- opened at 0, with the three bytes that such limits need
+abbrev begins : Conf → State
+begins conf = Step.opened conf 0 (0 ∷ 0 ∷ 0 ∷ []) []
+
+abbrev answersOf : List EntryDone → List Answer
+answersOf ds = map (λ (d : EntryDone). d .answer) ds
+
+-- ---- ticks put in, between two answers and at the edge of the deadline
+
+-- the timeout comes at 10
+abbrev short : Conf
+short = timed (MaybeDuration.Some 10) 5 3
+
+abbrev between : List Woven
+between = idle 0
+    ∷ made (call (Call.launched LaunchResult.Started))
+    ∷ idle 9
+    ∷ made (call (Call.output Stdout (97 ∷ 98 ∷ [])))
+    ∷ idle 9
+    ∷ idle 3
+    ∷ made (call Call.deadline)
+    ∷ made (call Call.buffered)
+    ∷ []
+
+pub between-idle : AllIdle (begins short) between
+    × (answersOf (amid (begins short) between) ≡ Call.Ok ∷ Call.Taken 1 ∷ Call.Time (At 10) ∷ Call.Value 1 ∷ [])
+unfolding Step.next Step.answer nextEntry answerEntry Calls.«open» Calls.launched Calls.output Calls.tick Calls.deadline Calls.buffered Range.fresh Range.stop Range.inRange outputFits bytesWith wrap ringWrite copied Life.passGrace Life.passTimeout Life.passSettlement Life.passGiveUp Life.passAbandonment Life.fire Life.ticked Life.deadlineOf Life.noteStarted Life.noteLaunch Life.launchedNext Streams.outputTaken Streams.outputNext Streams.outputStore Streams.outputTook
+between-idle = ((refl, (refl, (refl, (refl, tt)))), refl)
+
+-- and the first run, without them
+pub between-alone : answersOf (runEntries (begins short) (alone between)) ≡ Call.Ok ∷ Call.Taken 1 ∷ Call.Time (At 10) ∷ Call.Value 1 ∷ []
+between-alone = ap answersOf (sym (idleTicks short 0 (0 ∷ 0 ∷ 0 ∷ []) [] .answers between (between-idle .0))) ∙ between-idle .1
+
+-- ---- what a tick put in may move: two timers that no answer shows, so that the two runs do not end in the same state
+
+abbrev none : Conf
+none = timed MaybeDuration.None 0 0
+
+abbrev ended : Settlements.Settlement → List Woven → List Woven
+ended result ws = made (call (Call.launched LaunchResult.Started))
+    ∷ made (call (Call.exited 0 MaybeStatus.None))
+    ∷ made (call (Call.settled result))
+    ∷ made (call (Call.outputClosed Stdout))
+    ∷ made (call (Call.outputClosed Stderr))
+    ∷ ws
+
+-- an abandonment that finds nothing to abandon
+abbrev fenced : List Woven
+fenced = ended Settlement.Failed (idle 0 ∷ [])
+
+-- a give-up that finds all cleaned up
+abbrev clean : List Woven
+clean = ended Settlement.Settled (made (call (Call.cancel 0 (record { id = 7; generation = 2 }) Cause.Cancelled)) ∷ idle 0 ∷ [])
+
+pub moves-unseen : (AllIdle (begins none) fenced
+    × (afterEntries (begins none) (alone fenced) .runner .clocks .«abandon_at» ≡ At 0)
+    × (afterEntries (begins none) (woven fenced) .runner .clocks .«abandon_at» ≡ Never))
+    × (AllIdle (begins none) clean
+    × (afterEntries (begins none) (alone clean) .runner .clocks .«give_up_at» ≡ At 0)
+    × (afterEntries (begins none) (woven clean) .runner .clocks .«give_up_at» ≡ Never))
+unfolding Step.next Step.answer nextEntry Calls.«open» Calls.launched Calls.exited Calls.settled Calls.outputClosed Calls.cancel Calls.tick Calls.deadline Range.fresh Range.stop Range.inRange outputFits bytesWith admits Life.closeRunnerInput Life.endGrace Life.beginTermination Life.terminate Life.abandonOpenStreams Life.passGrace Life.passTimeout Life.passSettlement Life.giveUpUnlessClean Life.passGiveUp Life.dropLaunch Life.dropStreams Life.passAbandonment Life.fire Life.ticked Life.deadlineOf Life.cancelNext Life.noteStarted Life.noteLaunch Life.launchedNext Life.noteExit Life.noteExitOnce Life.exitedNext Life.settledNext Streams.closedNext
+moves-unseen = (((refl, tt), refl, refl), ((refl, tt), refl, refl))
+
+-- ---- a host that ticks at the reported deadlines alone: timeout, end of grace, give-up
+
+abbrev seen : List ℕ → (clock : ℕ) → List Beat
+seen ticks clock = record { ticks = ticks; clock = clock; entry = call Call.deadline }
+    ∷ record { ticks = []; clock = clock; entry = call Call.nextRequest }
+    ∷ []
+
+abbrev told : List ℕ → (clock : ℕ) → List Answer
+told ticks clock = answersOf (amid (begins short) (polled (seen ticks clock)))
+
+pub at-deadlines : AllPunctual (begins short) (seen (10 ∷ 15 ∷ 18 ∷ []) 100) × (told (10 ∷ 15 ∷ 18 ∷ []) 100 ≡ Call.Time Never ∷ Call.Asks (Call.Terminate Cause.TimedOut) ∷ [])
+unfolding Step.next Step.answer nextEntry answerEntry Calls.«open» Calls.tick Calls.deadline Calls.nextRequest Range.fresh Range.stop Range.inRange outputFits bytesWith Life.endGrace Life.giveUp Life.abandonLaunch Life.abandonOpenStreams Life.beginTermination Life.terminate Life.passGrace Life.passTimeout Life.passSettlement Life.giveUpUnlessClean Life.passGiveUp Life.dropLaunch Life.dropStreams Life.passAbandonment Life.fire Life.ticked Life.deadlineOf Message.wishFor Message.wish Message.wishEffect
+at-deadlines = ((((omega arith, refl, (omega arith, refl, (omega arith, refl, refl)))), (refl, tt)), refl)
+
+-- so that is what one hears who ticks at every instant from 0 to 100
+pub at-instants : answersOf (amid (begins short) (polled (atEveryInstant (seen (10 ∷ 15 ∷ 18 ∷ []) 100)))) ≡ Call.Time Never ∷ Call.Asks (Call.Terminate Cause.TimedOut) ∷ []
+at-instants = ap answersOf (sym (polls short 0 (0 ∷ 0 ∷ 0 ∷ []) [] .answers (seen (10 ∷ 15 ∷ 18 ∷ []) 100) (at-deadlines .0))) ∙ at-deadlines .1
+
+-- ---- and what is not idle: a tick at the deadline, and one behind it
+
+-- before it (9) nothing changes, at it (10) the timeout has come and grace ends at 15, one instant behind it (11) at 16
+pub edges : (told [] 9 ≡ Call.Time (At 10) ∷ Call.Nothing ∷ []) × (told (9 ∷ []) 9 ≡ Call.Time (At 10) ∷ Call.Nothing ∷ [])
+    × (told (10 ∷ []) 11 ≡ Call.Time (At 15) ∷ Call.Asks (Call.Terminate Cause.TimedOut) ∷ []) × (told (11 ∷ []) 11 ≡ Call.Time (At 16) ∷ Call.Asks (Call.Terminate Cause.TimedOut) ∷ [])
+unfolding Step.next Step.answer nextEntry answerEntry Calls.«open» Calls.tick Calls.deadline Calls.nextRequest Range.fresh Range.stop Range.inRange outputFits bytesWith Life.beginTermination Life.terminate Life.passGrace Life.passTimeout Life.passSettlement Life.passGiveUp Life.passAbandonment Life.fire Life.ticked Life.deadlineOf Message.wishFor Message.wish Message.wishEffect
+edges = (refl, refl, refl, refl)
