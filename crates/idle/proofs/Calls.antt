@@ -36,16 +36,15 @@ use Rattle.runner.specs.declared.message.Wish.the-variants as Wish
 use Rattle.runner.specs.declared.runner.Runner.{Runner}
 use Rattle.runner.specs.Calls as Calls
 use Rattle.runner.specs.Calls.{noting, hearing, storesDo, inputBy, outputBy, pendingBy, writtenBy, requestBy, messageBy, whenBy}
-use Rattle.runner.specs.Life.{awaitsLaunch, isCleanedUp, closeRunnerInput, noteStarted, noteLaunch, launchedNext, settledNext, deadlineOf, isReady, outcomeOf, cancelAnswer, cancelNext, ticked, exitedNext, detachNext}
+use Rattle.runner.specs.Life.{awaitsLaunch, isCleanedUp, closeRunnerInput, noteStarted, noteLaunch, launchedNext, settledNext, deadlineOf, isReady, outcomeOf, cancelAnswer, cancelNext}
 use Rattle.runner.specs.Message.{MessageAfter, sendableOf, choose, outputPaid, outputSent, effect, payload, bufferAfter, saidFor, wish, handed, wishEffect}
 use Rattle.runner.specs.Range.{inRange, stop, bytesDo, lengthsDo}
 use Rattle.runner.specs.State.{at, outOf}
 use Rattle.runner.specs.Streams.{InputAfter, isShut, room, received, outputTook, outputTaken, outputNext, outputStore, readAllowanceOf, discardedNext, closedNext, failedNext, hungUpNext, creditIn, creditAnswer, creditNext, inputAnswer, inputNext, inputStore, inputLengths, endAnswer, endNext, pendingOf, writtenNext, writtenLengths}
 use Rattle.calls.specs.Call as Call
 use Rattle.calls.specs.Call.{Call, Answer}
-use Rattle.account.specs.Step.{State, onRunner, next, answer, replied, receivedAs, took, asks, fires, says, waits}
-use Rattle.account.proofs.Flags.{or-right}
-use Rattle.idle.proofs.Calm.{isMoot, swap, unless, giveUpShown, abandonShown, calm, calmS, plain, still, clean-awaits, moot-awaits, put-clean, put-moot, settle-sees}
+use Rattle.account.specs.Step.{State, onRunner, next, answer, replied, receivedAs, took, asks, fires, waits}
+use Rattle.idle.proofs.Calm.{unless, abandonShown, calm, calmS, plain, still, clean-awaits, moot-awaits, put-clean, put-moot, settle-sees}
 use Rattle.idle.proofs.Passes.{tick-sees, cancel-sees, cancel-shows, exited-sees, detach-sees}
 
 -- ---- launch and settlement

@@ -1,8 +1,7 @@
 -- The runner as far as it shows. Two timers may stand that nothing asks for any more: that of a give-up which finds all cleaned up, and
 -- that of an abandonment which finds nothing to abandon. Runners that are equal without them answer alike, and stay so.
-use mathlib.Core.Bool.{Bool, true, false, cond, not, _&&_, _||_, true≢false, false≢true}
+use mathlib.Core.Bool.{Bool, true, false, cond, not, _&&_, false≢true}
 use mathlib.Core.Path.{_≡_, refl, sym, _∙_, ap}
-use mathlib.Core.List.{List, [], _∷_}
 use Rattle.exec.specs.declared.Deadline.{Deadline}
 use Rattle.exec.specs.declared.Deadline.the-variants.{Never}
 use Rattle.exec.specs.declared.Stream.{Stream}
@@ -13,7 +12,7 @@ use Rattle.lifecycle.specs.Life.{launchKnown, exitKnown, isFenced, isSettled}
 use Rattle.lifecycle.specs.Setters.{setGiveUpAt, setAbandonAt, setSettling}
 use Rattle.output.specs.declared.Output.{Output}
 use Rattle.output.specs.Output.{isHeld}
-use Rattle.output.specs.Outputs.{outputIn, putOutput, eachOutput, allClosed, anyHeld}
+use Rattle.output.specs.Outputs.{putOutput, eachOutput, allClosed, anyHeld}
 use Rattle.runner.specs.declared.runner.Runner.{Runner}
 use Rattle.runner.specs.Life.{awaitsLaunch, isCleanedUp}
 use Rattle.runner.specs.State.{with, withLife, withOutputs, outOf}

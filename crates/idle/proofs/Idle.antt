@@ -20,8 +20,8 @@ use Rattle.calls.specs.Call.{Conf, Answer}
 use Rattle.account.specs.Step.{State, onRunner, next, answer, opened, fires}
 use Rattle.account.specs.Records.{Entry, EntryDone, call, nextEntry, answerEntry, afterEntries, runEntries}
 use Rattle.idle.specs.IdleClaim.{Woven, made, idle, alone, woven, amid, deadlineIn, reported, isBefore, AllIdle, AllSpared, messageBuffer, recordBuffer, IdleTicks}
-use Rattle.idle.proofs.Calm.{calm, calmS}
-use Rattle.idle.proofs.Calls.{message-sees, call-sees}
+use Rattle.idle.proofs.Calm.{calmS}
+use Rattle.idle.proofs.Calls.{message-sees}
 use Rattle.idle.proofs.Records.{record-sees, entry-sees}
 use Rattle.idle.proofs.Ticks.{tick-idle, tick-later}
 

@@ -10,7 +10,6 @@ use Rattle.exec.specs.declared.Cause.the-variants.{TimedOut}
 use Rattle.exec.specs.declared.Deadline.{Deadline}
 use Rattle.exec.specs.declared.Deadline.the-variants.{Never}
 use Rattle.exec.specs.declared.MaybeStatus.{MaybeStatus}
-use Rattle.exec.specs.declared.Stream.{Stream}
 use Rattle.exec.specs.Time.{after, earliest, due}
 use Rattle.lifecycle.specs.declared.life.Settling.{Settling}
 use Rattle.lifecycle.specs.declared.life.Settling.the-variants.{Idle, Requested, Settled, Fenced}
@@ -18,7 +17,6 @@ use Rattle.lifecycle.specs.Life.{launchKnown, exitKnown, isFenced, isSettled, e
 use Rattle.lifecycle.specs.Setters.{setGiveUpAt, setAbandonAt}
 use Rattle.output.specs.declared.Output.{Output}
 use Rattle.output.specs.Output.{abandoned}
-use Rattle.output.specs.Outputs.{eachOutput}
 use Rattle.runner.specs.declared.runner.Runner.{Runner}
 use Rattle.runner.specs.Life.{awaitsLaunch, isCleanedUp, closeRunnerInput, endGrace, giveUp, abandonLaunch, abandonOpenStreams, beginTermination, passGrace, terminate, passTimeout, passSettlement, giveUpUnlessClean, passGiveUp, dropLaunch, dropStreams, passAbandonment, fire, ticked, isLate, cancelAnswer, cancelNext, noteExit, isOver, noteExitOnce, timeoutCleared, exitedNext, silenced, giveUpSoon, cutOff, cutOffOnce, detachNext}
 use Rattle.runner.specs.State.{with, withClocks, outOf}

@@ -21,10 +21,10 @@ use Rattle.runner.specs.Calls.{storesDo}
 use Rattle.runner.specs.Message.{MessageAfter}
 use Rattle.runner.specs.Range.{inRange, stop, bytesDo}
 use Rattle.channel.specs.Calls as Channel
-use Rattle.channel.specs.Calls.{ReadAfter, WriteAfter, writeAfter, heardAs, notedAs, admitted, parsedRead, admittedRead, hasEnded, wrote, wroteBuffer, partBack, told, asked, isLeft, unwritten, sent, room, roomyWrite, admittedWrite}
+use Rattle.channel.specs.Calls.{ReadAfter, WriteAfter, writeAfter, heardAs, notedAs, admitted, parsedRead, admittedRead, hasEnded, wrote, partBack, told, asked, isLeft, unwritten, sent, room, roomyWrite, admittedWrite}
 use Rattle.calls.specs.Call as Call
 use Rattle.account.specs.Step.{State, onRunner, next, answer, replied, receivedAs}
-use Rattle.account.specs.Records.{Entry, call, readRecord, writeRecord, nextEntry, answerEntry, readAs, wroteAs}
+use Rattle.account.specs.Records.{Entry, call, readRecord, writeRecord, nextEntry, answerEntry, readAs}
 use Rattle.account.proofs.Records.{heard-as, noted-as, leaves}
 use Rattle.idle.proofs.Calm.{calm, calmS, still}
 use Rattle.idle.proofs.Calls.{Alike, Messages, message-sees, getting, call-sees}

@@ -1,10 +1,11 @@
 -- Idle ticks, computed from the definitions: so the claims are not of lists that cannot be, and none of their conditions can be spared.
-use mathlib.Core.Bool.{true, false}
+use mathlib.Core.Bool.{Bool, true, false, true≢false}
 use mathlib.Core.Path.{_≡_, refl, sym, _∙_, ap}
 use mathlib.Core.List.{List, [], _∷_, map}
 use Prim.Native.Nat.{ℕ}
 use native.Mathlib.Omega.{arith}
 use Rattle.exec.specs.declared.Cause.the-variants as Cause
+use Rattle.exec.specs.declared.Deadline.{Deadline}
 use Rattle.exec.specs.declared.Deadline.the-variants.{Never, At}
 use Rattle.exec.specs.declared.LaunchResult.the-variants as LaunchResult
 use Rattle.exec.specs.declared.MaybeDuration.{MaybeDuration}
@@ -17,18 +18,22 @@ use Rattle.exec.specs.Key.{admits}
 use Rattle.exec.specs.Limits.{cost, bytesWith, bytesWindow, limitsFor}
 use Rattle.ring.specs.Ring.{wrap, ringRead, ringFrom, ringWrite}
 use Rattle.ring.specs.Runs.{copied}
+use Rattle.octets.specs.Bytes.{numberAt, be32At}
 use Rattle.choice.specs.Order.{ifElse, order}
 use Rattle.output.specs.Output.{outputFits}
+use Rattle.codec.specs.Codec as Codec
 use Rattle.runner.specs.Calls as Calls
 use Rattle.runner.specs.Life as Life
 use Rattle.runner.specs.Message as Message
 use Rattle.runner.specs.Range as Range
 use Rattle.runner.specs.Streams as Streams
+use Rattle.channel.specs.Calls as Channel
 use Rattle.calls.specs.Call as Call
 use Rattle.calls.specs.Call.{Conf, Call, Answer}
 use Rattle.account.specs.Step as Step
 use Rattle.account.specs.Step.{State}
-use Rattle.account.specs.Records.{Entry, EntryDone, call, nextEntry, answerEntry, afterEntries, runEntries}
+use Rattle.account.specs.Records.{EntryDone, call, nextEntry, answerEntry, afterEntries, runEntries}
+use Rattle.account.proofs.TurnSession.{channel, zeros, written, adjust}
 use Rattle.idle.specs.IdleClaim.{Woven, made, idle, alone, woven, amid, AllIdle}
 use Rattle.idle.specs.PollClaim.{Beat, polled, AllPunctual, atEveryInstant}
 use Rattle.idle.proofs.Idle.{idleTicks}
@@ -75,6 +80,25 @@ between-idle = ((refl, (refl, (refl, (refl, tt)))), refl)
 pub between-alone : answersOf (runEntries (begins short) (alone between)) ≡ Call.Ok ∷ Call.Taken 1 ∷ Call.Time (At 10) ∷ Call.Value 1 ∷ []
 between-alone = ap answersOf (sym (idleTicks short 0 (0 ∷ 0 ∷ 0 ∷ []) [] .answers between (between-idle .0))) ∙ between-idle .1
 
+-- the same on a channel: a record read, and three written into 43 bytes; no deadline is reported
+abbrev onChannel : List Woven
+onChannel = made (call (Call.launched LaunchResult.Started))
+    ∷ made adjust
+    ∷ idle 1000
+    ∷ made (call (Call.output Stdout (97 ∷ 98 ∷ 99 ∷ [])))
+    ∷ made written
+    ∷ idle 7
+    ∷ made written
+    ∷ idle 2000
+    ∷ made written
+    ∷ []
+
+pub channel-idle : AllIdle (Step.opened channel 0 (zeros 16) []) onChannel
+    × (answersOf (amid (Step.opened channel 0 (zeros 16) []) onChannel)
+    ≡ Call.Ok ∷ Call.Applied ∷ Call.Taken 3 ∷ Call.Says (Call.Credit 8) ∷ Call.Says Call.Started ∷ Call.Says (Call.Output Stdout (97 ∷ 98 ∷ 99 ∷ [])) ∷ [])
+unfolding Step.next Step.answer nextEntry answerEntry Calls.«open» Calls.launched Calls.output Calls.tick Calls.deadline Calls.nextMessage Calls.credit Range.fresh Range.stop Range.inRange outputFits bytesWith admits cost wrap ringRead ringFrom ringWrite copied ifElse order Life.passGrace Life.passTimeout Life.passSettlement Life.passGiveUp Life.passAbandonment Life.fire Life.ticked Life.deadlineOf Life.noteStarted Life.noteLaunch Life.launchedNext Life.isReady Life.outcomeOf Message.sendableOf Message.choose Message.outputPaid Message.outputSent Message.effect Message.payload Message.bufferAfter Message.saidFor Streams.outputTaken Streams.outputNext Streams.outputStore Streams.outputTook Streams.creditIn Streams.creditAnswer Streams.creditNext numberAt be32At Channel.admitted Channel.made Channel.parsedRead Channel.admittedRead Channel.readRecord Channel.sentAs Channel.sentBuffer Channel.wrote Channel.wroteBuffer Channel.told Channel.asked Channel.isLeft Channel.sent Channel.roomyWrite Channel.admittedWrite Channel.writeRecord Codec.header Codec.bytesOf Codec.laidRecord Codec.kinded Codec.fitting Codec.checked Codec.read
+channel-idle = ((refl, (refl, (refl, tt))), refl)
+
 -- ---- what a tick put in may move: two timers that no answer shows, so that the two runs do not end in the same state
 
 abbrev none : Conf
@@ -96,14 +120,26 @@ fenced = ended Settlement.Failed (idle 0 ∷ [])
 abbrev clean : List Woven
 clean = ended Settlement.Settled (made (call (Call.cancel 0 (record { id = 7; generation = 2 }) Cause.Cancelled)) ∷ idle 0 ∷ [])
 
-pub moves-unseen : (AllIdle (begins none) fenced
+unseen : (AllIdle (begins none) fenced
     × (afterEntries (begins none) (alone fenced) .runner .clocks .«abandon_at» ≡ At 0)
     × (afterEntries (begins none) (woven fenced) .runner .clocks .«abandon_at» ≡ Never))
     × (AllIdle (begins none) clean
     × (afterEntries (begins none) (alone clean) .runner .clocks .«give_up_at» ≡ At 0)
     × (afterEntries (begins none) (woven clean) .runner .clocks .«give_up_at» ≡ Never))
 unfolding Step.next Step.answer nextEntry Calls.«open» Calls.launched Calls.exited Calls.settled Calls.outputClosed Calls.cancel Calls.tick Calls.deadline Range.fresh Range.stop Range.inRange outputFits bytesWith admits Life.closeRunnerInput Life.endGrace Life.beginTermination Life.terminate Life.abandonOpenStreams Life.passGrace Life.passTimeout Life.passSettlement Life.giveUpUnlessClean Life.passGiveUp Life.dropLaunch Life.dropStreams Life.passAbandonment Life.fire Life.ticked Life.deadlineOf Life.cancelNext Life.noteStarted Life.noteLaunch Life.launchedNext Life.noteExit Life.noteExitOnce Life.exitedNext Life.settledNext Streams.closedNext
-moves-unseen = (((refl, tt), refl, refl), ((refl, tt), refl, refl))
+unseen = (((refl, tt), refl, refl), ((refl, tt), refl, refl))
+
+abbrev isNever : Deadline → Bool
+isNever Never = true
+isNever (At d) = false
+
+-- equal states would be false, though every answer is alike
+pub moves-unseen : (AllIdle (begins none) fenced × (afterEntries (begins none) (woven fenced) ≡ afterEntries (begins none) (alone fenced) → ⊥))
+    × (AllIdle (begins none) clean × (afterEntries (begins none) (woven clean) ≡ afterEntries (begins none) (alone clean) → ⊥))
+moves-unseen = (
+  (unseen .0 .0, λ e. true≢false (ap isNever (sym (unseen .0 .2) ∙ ap (λ (s : State). s .runner .clocks .«abandon_at») e ∙ unseen .0 .1))),
+  (unseen .1 .0, λ e. true≢false (ap isNever (sym (unseen .1 .2) ∙ ap (λ (s : State). s .runner .clocks .«give_up_at») e ∙ unseen .1 .1))),
+)
 
 -- ---- a host that ticks at the reported deadlines alone: timeout, end of grace, give-up
 

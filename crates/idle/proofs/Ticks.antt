@@ -4,7 +4,7 @@ use mathlib.Core.Path.{_≡_, refl, sym, _∙_, ap}
 use Prim.Native.Nat.{ℕ}
 use native.Mathlib.Omega.{arith}
 use lib.Dec.{leb, ltb}
-use borrow.Author.Tests.{ltb-true, ltb-false, leb-true, lt-leb, le-leb}
+use borrow.Author.Tests.{ltb-true, ltb-false, leb-true, le-leb}
 use Rattle.exec.specs.declared.Deadline.{Deadline}
 use Rattle.exec.specs.declared.Deadline.the-variants.{Never, At}
 use Rattle.exec.specs.declared.Cause.the-variants.{TimedOut}
@@ -19,7 +19,7 @@ use Rattle.runner.specs.declared.runner.Runner.{Runner}
 use Rattle.runner.specs.Life.{awaitsLaunch, isCleanedUp, endGrace, giveUp, abandonLaunch, abandonOpenStreams, beginTermination, passGrace, terminate, passTimeout, passSettlement, giveUpUnlessClean, passGiveUp, dropLaunch, dropStreams, passAbandonment, fire, ticked, deadlineOf, timeoutCleared}
 use Rattle.runner.specs.State.{withClocks, withLife}
 use Rattle.account.proofs.Flags.{either, and-both}
-use Rattle.idle.proofs.Calm.{isMoot, calm, false-not}
+use Rattle.idle.proofs.Calm.{calm, false-not}
 use Rattle.idle.proofs.Passes.{given-clean, moot-drops, abandonment-sees}
 
 -- the earlier of two is due where one of them is
