@@ -1,10 +1,11 @@
 -- A host that misses no deadline is answered as one that ticks at every instant.
-use mathlib.Core.Bool.{Bool, true, false, true≢false}
+use mathlib.Core.Bool.{Bool, true, false, cond, true≢false}
 use mathlib.Core.Path.{_≡_, refl, sym, _∙_, ap, subst, subst⁻¹}
 use mathlib.Core.List.{List, [], _∷_}
 use Prim.Native.Nat.{ℕ, zero, suc, _+_, _≤_}
 use native.Mathlib.Omega.{arith}
-use borrow.Author.Tests.{ltb-true, ltb-false, lt-ltb, leb-true, le-leb}
+use lib.Dec.{leb}
+use borrow.Author.Tests.{ltb-true, ltb-false, lt-ltb, leb-true, leb-false, le-leb}
 use Rattle.exec.specs.declared.Deadline.{Deadline}
 use Rattle.exec.specs.declared.Deadline.the-variants.{Never, At}
 use Rattle.calls.specs.Call as Call
@@ -12,7 +13,7 @@ use Rattle.calls.specs.Call.{Conf, Answer}
 use Rattle.account.specs.Step.{State, next, opened}
 use Rattle.account.specs.Records.{Entry, EntryDone, call, nextEntry, answerEntry, afterEntries}
 use Rattle.idle.specs.IdleClaim.{Woven, made, woven, amid, reported, isBefore}
-use Rattle.idle.specs.PollClaim.{Beat, ticking, polled, afterTicks, isBy, Punctual, AllPunctual, instants, atEveryInstant, Polls}
+use Rattle.idle.specs.PollClaim.{Beat, ticking, polled, afterTicks, isBy, Punctual, AllPunctual, instants, atEveryInstant, ifDue, dues, duesOf, atDeadlines, Polls}
 use Rattle.idle.proofs.Calm.{calmS}
 use Rattle.idle.proofs.Idle.{alike-left, alike-answer, alike-reported, idle-still, reported-later}
 
@@ -26,6 +27,10 @@ next-by t (At d) h = le-leb (suc t) d (omega (arith, ltb-true t d h))
 by-before : (t : ℕ) (d : Deadline) → isBy (suc t) d ≡ true → isBefore t d ≡ true
 by-before t Never h = refl
 by-before t (At d) h = lt-ltb t d (omega (arith, leb-true (suc t) d h))
+
+by-less : (u t : ℕ) (d : Deadline) → u ≤ t → isBy t d ≡ true → isBy u d ≡ true
+by-less u t Never l h = refl
+by-less u t (At d) l h = le-leb u d (omega (arith, leb-true t d h))
 
 from-zero : (d : Deadline) → isBy 0 d ≡ true
 from-zero Never = refl
@@ -98,6 +103,23 @@ module _ (clock : ℕ) where
     every-punctual n (suc u) (next s (Call.tick u)) (next-by u (reported (next s (Call.tick u))) (reported-later u s)) (omega (arith, e)),
   )
 
+  -- nor does ticking at the deadlines that it has reached
+  due-at : (s : State) (d : ℕ) (ts : List ℕ) (b : Bool) → leb d clock ≡ b → reported s ≡ At d → Punctual clock (next s (Call.tick d)) ts → Punctual clock s (cond b (d ∷ ts) [])
+  due-at s d ts true k r p = (leb-true d clock k, ap (isBy d) r ∙ le-leb d d (omega arith), p)
+  due-at s d ts false k r p = ap (isBefore clock) r ∙ lt-ltb clock d (leb-false d clock k)
+
+  if-due : (s : State) (ts : ℕ → List ℕ) (x : Deadline) → reported s ≡ x → ((d : ℕ) → x ≡ At d → Punctual clock (next s (Call.tick d)) (ts d)) → Punctual clock s (ifDue x clock (λ (d : ℕ). d ∷ ts d))
+  if-due s ts Never r on = ap (isBefore clock) r
+  if-due s ts (At d) r on = due-at s d (ts d) (leb d clock) refl r (on d refl)
+
+  dues-punctual : (n u : ℕ) (s : State) → isBy u (reported s) ≡ true → suc clock ≤ u + n → Punctual clock s (dues n clock s)
+  dues-punctual zero u s b e = by-before clock (reported s) (by-less (suc clock) u (reported s) (omega (arith, e)) b)
+  dues-punctual (suc n) u s b e =
+      if-due s (λ (d : ℕ). dues n clock (next s (Call.tick d))) (reported s) refl
+      (λ d r.
+      dues-punctual n (suc d) (next s (Call.tick d)) (next-by d (reported (next s (Call.tick d))) (reported-later d s))
+      (omega (arith, e, leb-true u d (subst (λ (x : Deadline). isBy u x ≡ true) r b))))
+
 -- ---- a list
 
 ticking-amid : (ts : List ℕ) (ws : List Woven) (s : State) → amid s (ticking ts ws) ≡ amid (afterTicks s ts) ws
@@ -134,6 +156,17 @@ every-list [] s = tt
 every-list (b ∷ bs) s =
     (every-punctual (b .clock) (suc (b .clock)) 0 s (from-zero (reported s)) (omega arith), every-list bs (nextEntry (afterTicks s (upTo (b .clock))) (b .entry)))
 
+dues-list : (bs : List Beat) (s : State) → AllPunctual s (atDeadlines s bs)
+dues-list [] s = tt
+dues-list (b ∷ bs) s =
+    (dues-punctual (b .clock) (suc (b .clock)) 0 s (from-zero (reported s)) (omega arith), dues-list bs (nextEntry (afterTicks s (duesOf s b)) (b .entry)))
+
+-- who ticks at every instant ticks at the same ones, whatever the ticks were before
+every-same : (bs : List Beat) (s : State) → atEveryInstant (atDeadlines s bs) ≡ atEveryInstant bs
+every-same [] s = refl
+every-same (b ∷ bs) s =
+    ap (λ (cs : List Beat). record { ticks = upTo (b .clock); clock = b .clock; entry = b .entry } ∷ cs) (every-same bs (nextEntry (afterTicks s (duesOf s b)) (b .entry)))
+
 -- ---- from open
 
 module _ (conf : Conf) (now : ℕ) (bytes lengths : List ℕ) where
@@ -147,5 +180,8 @@ module _ (conf : Conf) (now : ℕ) (bytes lengths : List ℕ) where
     stores = λ bs p.
         let k = polls-list bs begins begins refl p .1 in (ap (λ (x : State). x .bytes) k, ap (λ (x : State). x .lengths) k);
     every = λ bs. every-list bs begins;
+    only = λ bs. dues-list bs begins;
+    both = λ bs.
+        polls-list (atDeadlines begins bs) begins begins refl (dues-list bs begins) .0 ∙ ap (λ (cs : List Beat). amid begins (polled cs)) (every-same bs begins);
     later = λ es t. reported-later t (afterEntries begins es);
   }

@@ -3,7 +3,6 @@ use mathlib.Core.Bool.{Bool, true, false, true≢false}
 use mathlib.Core.Path.{_≡_, refl, sym, _∙_, ap}
 use mathlib.Core.List.{List, [], _∷_, map}
 use Prim.Native.Nat.{ℕ}
-use native.Mathlib.Omega.{arith}
 use Rattle.exec.specs.declared.Cause.the-variants as Cause
 use Rattle.exec.specs.declared.Deadline.{Deadline}
 use Rattle.exec.specs.declared.Deadline.the-variants.{Never, At}
@@ -35,7 +34,7 @@ use Rattle.account.specs.Step.{State}
 use Rattle.account.specs.Records.{EntryDone, call, nextEntry, answerEntry, afterEntries, runEntries}
 use Rattle.account.proofs.TurnSession.{channel, zeros, written, adjust}
 use Rattle.idle.specs.IdleClaim.{Woven, made, idle, alone, woven, amid, AllIdle}
-use Rattle.idle.specs.PollClaim.{Beat, polled, AllPunctual, atEveryInstant}
+use Rattle.idle.specs.PollClaim.{Beat, polled, atEveryInstant, atDeadlines}
 use Rattle.idle.proofs.Idle.{idleTicks}
 use Rattle.idle.proofs.Polls.{polls}
 
@@ -151,13 +150,16 @@ seen ticks clock = record { ticks = ticks; clock = clock; entry = call Call.dead
 abbrev told : List ℕ → (clock : ℕ) → List Answer
 told ticks clock = answersOf (amid (begins short) (polled (seen ticks clock)))
 
-pub at-deadlines : AllPunctual (begins short) (seen (10 ∷ 15 ∷ 18 ∷ []) 100) × (told (10 ∷ 15 ∷ 18 ∷ []) 100 ≡ Call.Time Never ∷ Call.Asks (Call.Terminate Cause.TimedOut) ∷ [])
+pub at-deadlines : (atDeadlines (begins short) (seen [] 100) ≡ seen (10 ∷ 15 ∷ 18 ∷ []) 100)
+    × (told (10 ∷ 15 ∷ 18 ∷ []) 100 ≡ Call.Time Never ∷ Call.Asks (Call.Terminate Cause.TimedOut) ∷ [])
 unfolding Step.next Step.answer nextEntry answerEntry Calls.«open» Calls.tick Calls.deadline Calls.nextRequest Range.fresh Range.stop Range.inRange outputFits bytesWith Life.endGrace Life.giveUp Life.abandonLaunch Life.abandonOpenStreams Life.beginTermination Life.terminate Life.passGrace Life.passTimeout Life.passSettlement Life.giveUpUnlessClean Life.passGiveUp Life.dropLaunch Life.dropStreams Life.passAbandonment Life.fire Life.ticked Life.deadlineOf Message.wishFor Message.wish Message.wishEffect
-at-deadlines = ((((omega arith, refl, (omega arith, refl, (omega arith, refl, refl)))), (refl, tt)), refl)
+at-deadlines = (refl, refl)
 
 -- so that is what one hears who ticks at every instant from 0 to 100
-pub at-instants : answersOf (amid (begins short) (polled (atEveryInstant (seen (10 ∷ 15 ∷ 18 ∷ []) 100)))) ≡ Call.Time Never ∷ Call.Asks (Call.Terminate Cause.TimedOut) ∷ []
-at-instants = ap answersOf (sym (polls short 0 (0 ∷ 0 ∷ 0 ∷ []) [] .answers (seen (10 ∷ 15 ∷ 18 ∷ []) 100) (at-deadlines .0))) ∙ at-deadlines .1
+pub at-instants : answersOf (amid (begins short) (polled (atEveryInstant (seen [] 100)))) ≡ Call.Time Never ∷ Call.Asks (Call.Terminate Cause.TimedOut) ∷ []
+at-instants =
+    ap answersOf (sym (polls short 0 (0 ∷ 0 ∷ 0 ∷ []) [] .both (seen [] 100)))
+    ∙ ap (λ (bs : List Beat). answersOf (amid (begins short) (polled bs))) (at-deadlines .0) ∙ at-deadlines .1
 
 -- ---- and what is not idle: a tick at the deadline, and one behind it
 

@@ -71,7 +71,7 @@ abbrev pub isBefore : ℕ → Deadline → Bool
 isBefore t Never = true
 isBefore t (At d) = ltb t d
 
--- each tick put in is before the deadline that a run reports just then, in which such a tick leaves what is said
+-- each tick put in is before the deadline that a run reports just then; what such a tick leaves in that run is said
 abbrev pub AllBefore : (ticks : State → ℕ → State) → State → List Woven → Type 0
 AllBefore ticks s [] = Unit
 AllBefore ticks s (made e ∷ ws) = AllBefore ticks (nextEntry s e) ws

@@ -1,5 +1,5 @@
 -- How often a host has to tick: at each deadline that is reported, when it comes. It is then answered as one that ticks at every instant.
-use mathlib.Core.Bool.{Bool, true}
+use mathlib.Core.Bool.{Bool, true, cond}
 use mathlib.Core.Path.{_≡_}
 use mathlib.Core.List.{List, [], _∷_}
 use Prim.Native.Nat.{ℕ, zero, suc, _≤_}
@@ -55,9 +55,29 @@ abbrev pub instants : (first count : ℕ) → List ℕ
 instants first zero = []
 instants first (suc n) = first ∷ instants (suc first) n
 
+-- the same entries by the same clock
 abbrev pub atEveryInstant : List Beat → List Beat
 atEveryInstant [] = []
 atEveryInstant (b ∷ bs) = record { ticks = instants 0 (suc (b .clock)); clock = b .clock; entry = b .entry } ∷ atEveryInstant bs
+
+-- ---- and one that ticks at the reported deadlines alone
+
+abbrev pub ifDue : Deadline → (clock : ℕ) → (ℕ → List ℕ) → List ℕ
+ifDue Never clock ticks = []
+ifDue (At d) clock ticks = cond (leb d clock) (ticks d) []
+
+-- at each that the clock has reached, with the deadline's own time; each is later than the last
+abbrev pub dues : (most clock : ℕ) → State → List ℕ
+dues zero clock s = []
+dues (suc n) clock s = ifDue (reported s) clock (λ (d : ℕ). d ∷ dues n clock (next s (Call.tick d)))
+
+abbrev pub duesOf : State → Beat → List ℕ
+duesOf s b = dues (suc (b .clock)) (b .clock) s
+
+abbrev pub atDeadlines : State → List Beat → List Beat
+atDeadlines s [] = []
+atDeadlines s (b ∷ bs) =
+    record { ticks = duesOf s b; clock = b .clock; entry = b .entry } ∷ atDeadlines (nextEntry (afterTicks s (duesOf s b)) (b .entry)) bs
 
 -- ---- the claim
 
@@ -70,7 +90,11 @@ pub record Polls (conf : Conf) (now : ℕ) (bytes lengths : List ℕ) : Type 0 w
   pub stores : (bs : List Beat) → AllPunctual (opened conf now bytes lengths) bs
       → (afterEntries (opened conf now bytes lengths) (woven (polled bs)) .bytes ≡ afterEntries (opened conf now bytes lengths) (woven (polled (atEveryInstant bs))) .bytes)
       × (afterEntries (opened conf now bytes lengths) (woven (polled bs)) .lengths ≡ afterEntries (opened conf now bytes lengths) (woven (polled (atEveryInstant bs))) .lengths)
-  -- who ticks at every instant misses none
+  -- who ticks at every instant misses none, nor does who ticks at the reported deadlines alone
   pub every : (bs : List Beat) → AllPunctual (opened conf now bytes lengths) (atEveryInstant bs)
+  pub only : (bs : List Beat) → AllPunctual (opened conf now bytes lengths) (atDeadlines (opened conf now bytes lengths) bs)
+  -- so that these two are answered alike, whatever the entries and the clock
+  pub both : (bs : List Beat)
+      → amid (opened conf now bytes lengths) (polled (atDeadlines (opened conf now bytes lengths) bs)) ≡ amid (opened conf now bytes lengths) (polled (atEveryInstant bs))
   -- and one tick is enough: a deadline that is reported behind it is later
   pub later : (es : List Entry) (t : ℕ) → isBefore t (reported (next (afterEntries (opened conf now bytes lengths) es) (Call.tick t))) ≡ true
