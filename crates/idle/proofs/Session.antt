@@ -161,9 +161,9 @@ at-instants =
     ap answersOf (sym (polls short 0 (0 ∷ 0 ∷ 0 ∷ []) [] .both (seen [] 100)))
     ∙ ap (λ (bs : List Beat). answersOf (amid (begins short) (polled bs))) (at-deadlines .0) ∙ at-deadlines .1
 
--- ---- and what is not idle: a tick at the deadline, and one behind it
+-- ---- and what is not idle: a tick at the deadline, and one that is later
 
--- before it (9) nothing changes, at it (10) the timeout has come and grace ends at 15, one instant behind it (11) at 16
+-- before it (9) nothing changes, at it (10) the timeout has come and grace ends at 15, one instant later (11) at 16
 pub edges : (told [] 9 ≡ Call.Time (At 10) ∷ Call.Nothing ∷ []) × (told (9 ∷ []) 9 ≡ Call.Time (At 10) ∷ Call.Nothing ∷ [])
     × (told (10 ∷ []) 11 ≡ Call.Time (At 15) ∷ Call.Asks (Call.Terminate Cause.TimedOut) ∷ []) × (told (11 ∷ []) 11 ≡ Call.Time (At 16) ∷ Call.Asks (Call.Terminate Cause.TimedOut) ∷ [])
 unfolding Step.next Step.answer nextEntry answerEntry Calls.«open» Calls.tick Calls.deadline Calls.nextRequest Range.fresh Range.stop Range.inRange outputFits bytesWith Life.beginTermination Life.terminate Life.passGrace Life.passTimeout Life.passSettlement Life.passGiveUp Life.passAbandonment Life.fire Life.ticked Life.deadlineOf Message.wishFor Message.wish Message.wishEffect

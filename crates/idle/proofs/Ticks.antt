@@ -1,4 +1,4 @@
--- A tick before the deadline changes nothing that shows; and the deadline that is reported behind a tick is later.
+-- A tick before the deadline changes nothing that shows; and the deadline that is reported after a tick is later.
 use mathlib.Core.Bool.{Bool, true, false, cond, not, _&&_, _||_, true≢false}
 use mathlib.Core.Path.{_≡_, refl, sym, _∙_, ap}
 use Prim.Native.Nat.{ℕ}

@@ -111,6 +111,6 @@ pub record IdleTicks (conf : Conf) (now : ℕ) (bytes lengths : List ℕ) : Type
   pub whose : (ws : List Woven)
       → (AllSpared (opened conf now bytes lengths) ws → AllIdle (opened conf now bytes lengths) ws)
       × (AllIdle (opened conf now bytes lengths) ws → AllSpared (opened conf now bytes lengths) ws)
-  -- and no other tick is idle: after one at the deadline or behind it, another is reported
+  -- and no other tick is idle: after one at the deadline or later, another is reported
   pub sharp : (es : List Entry) (d t : ℕ) → reported (afterEntries (opened conf now bytes lengths) es) ≡ At d → d ≤ t
       → reported (next (afterEntries (opened conf now bytes lengths) es) (Call.tick t)) ≡ At d → ⊥

@@ -35,12 +35,12 @@ afterTicks s (t ∷ ts) = afterTicks (next s (Call.tick t)) ts
 
 -- ---- one that misses no deadline
 
--- not behind a deadline, if one was reported
+-- not later than a deadline, if one was reported
 abbrev pub isBy : ℕ → Deadline → Bool
 isBy t Never = true
 isBy t (At d) = leb t d
 
--- no tick is behind the clock, nor behind the deadline reported just then; and then none is left that the clock has reached
+-- no tick is later than the clock shows, nor than the deadline reported just then; and in the end the clock has reached none
 abbrev pub Punctual : (clock : ℕ) → State → List ℕ → Type 0
 Punctual clock s [] = isBefore clock (reported s) ≡ true
 Punctual clock s (t ∷ ts) = (t ≤ clock) × (isBy t (reported s) ≡ true) × Punctual clock (next s (Call.tick t)) ts
@@ -49,7 +49,7 @@ abbrev pub AllPunctual : State → List Beat → Type 0
 AllPunctual s [] = Unit
 AllPunctual s (b ∷ bs) = Punctual (b .clock) s (b .ticks) × AllPunctual (nextEntry (afterTicks s (b .ticks)) (b .entry)) bs
 
--- ---- one that ticks at every instant up to what its clock shows
+-- ---- one that ticks at every instant up to what its clock shows; from 0, as the clock may fall
 
 abbrev pub instants : (first count : ℕ) → List ℕ
 instants first zero = []
@@ -96,5 +96,5 @@ pub record Polls (conf : Conf) (now : ℕ) (bytes lengths : List ℕ) : Type 0 w
   -- so that these two are answered alike, whatever the entries and the clock
   pub both : (bs : List Beat)
       → amid (opened conf now bytes lengths) (polled (atDeadlines (opened conf now bytes lengths) bs)) ≡ amid (opened conf now bytes lengths) (polled (atEveryInstant bs))
-  -- and one tick is enough: a deadline that is reported behind it is later
+  -- and one tick is enough: a deadline that is reported after it is later
   pub later : (es : List Entry) (t : ℕ) → isBefore t (reported (next (afterEntries (opened conf now bytes lengths) es) (Call.tick t))) ≡ true
