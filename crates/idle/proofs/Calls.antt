@@ -93,6 +93,31 @@ output-sees x n r =
     let o : Output = intake (isShut x r) (outOf x r .discarding) (room x r) n (outOf x r) in
     plain r (outputNext r x n) refl refl (put-clean x o r (λ e. e)) (put-moot x o r (λ e. e))
 
+-- ---- the calls of the peer, by whether the key is the execution's own
+
+credit-shows : (a : Admission) (p : PoolIndex) (u : ℕ) (r : Runner) → creditAnswer a p (calm r) u ≡ creditAnswer a p r u
+unfolding creditAnswer creditIn
+credit-shows (Admission.Refused x) p u r = refl
+credit-shows Admission.Stale p u r = refl
+credit-shows Admission.Own (PoolIndex.Refused x) u r = refl
+credit-shows Admission.Own (PoolIndex.At i) u r = refl
+
+credit-sees : (a : Admission) (p : PoolIndex) (u : ℕ) (r : Runner) → calm (creditNext a p (calm r) u) ≡ calm (creditNext a p r u)
+unfolding creditNext
+credit-sees a p u r = plain r (creditNext a p r u) refl refl (λ e. e) (λ e. e)
+
+end-shows : (a : Admission) (r : Runner) → endAnswer a (calm r) ≡ endAnswer a r
+unfolding endAnswer
+end-shows (Admission.Refused x) r = refl
+end-shows Admission.Stale r = refl
+end-shows Admission.Own r = refl
+
+end-sees : (a : Admission) (r : Runner) → calm (endNext a (calm r)) ≡ calm (endNext a r)
+unfolding endNext
+end-sees (Admission.Refused x) r = still r
+end-sees Admission.Stale r = still r
+end-sees Admission.Own r = plain r (endNext Admission.Own r) refl refl (λ e. e) (λ e. e)
+
 -- ---- messages and requests
 
 pub effect-sees : (m : Choice) (r : Runner) → calm (effect m (calm r)) ≡ calm (effect m r)
@@ -189,28 +214,6 @@ module _ (s : State) where
   heard Reply.Ok a b x y e f = record { left = ap (λ (z : Runner). onRunner z s) f; answered = ap receivedAs e }
   heard (Reply.Refused z) a b x y e f = getting (Call.Refused _)
 
-  -- ---- the calls that are told who calls
-
-  credited : (a : Admission) (p : PoolIndex) (u : ℕ)
-      → Alike (onRunner (hearing (stop r true) (creditAnswer a p (calm r) u) (creditNext a p (calm r) u) (calm r) .runner) s) (receivedAs (hearing (stop r true) (creditAnswer a p (calm r) u) (creditNext a p (calm r) u) (calm r) .received))
-      (onRunner (hearing (stop r true) (creditAnswer a p r u) (creditNext a p r u) r .runner) s) (receivedAs (hearing (stop r true) (creditAnswer a p r u) (creditNext a p r u) r .received))
-  unfolding creditAnswer creditIn creditNext
-  credited a p u = heard (stop r true) _ _ _ (creditNext a p r u) (shows a p) (plain r (creditNext a p r u) refl refl (λ e. e) (λ e. e))
-    where
-      shows : (a : Admission) (p : PoolIndex) → creditAnswer a p (calm r) u ≡ creditAnswer a p r u
-      shows (Admission.Refused x) p = refl
-      shows Admission.Stale p = refl
-      shows Admission.Own (PoolIndex.Refused x) = refl
-      shows Admission.Own (PoolIndex.At i) = refl
-
-  ended : (a : Admission)
-      → Alike (onRunner (hearing (stop r true) (endAnswer a (calm r)) (endNext a (calm r)) (calm r) .runner) s) (receivedAs (hearing (stop r true) (endAnswer a (calm r)) (endNext a (calm r)) (calm r) .received))
-      (onRunner (hearing (stop r true) (endAnswer a r) (endNext a r) r .runner) s) (receivedAs (hearing (stop r true) (endAnswer a r) (endNext a r) r .received))
-  unfolding endAnswer endNext
-  ended (Admission.Refused x) = heard (stop r true) _ _ _ _ refl (plain r (endNext (Admission.Refused x) r) refl refl (λ e. e) (λ e. e))
-  ended Admission.Stale = heard (stop r true) _ _ _ _ refl (plain r (endNext Admission.Stale r) refl refl (λ e. e) (λ e. e))
-  ended Admission.Own = heard (stop r true) _ _ _ _ refl (plain r (endNext Admission.Own r) refl refl (λ e. e) (λ e. e))
-
   abbrev inputLeft : InputAfter → State
   inputLeft x = record { runner = x .hearing .runner; bytes = x .bytes; lengths = x .lengths }
 
@@ -265,9 +268,15 @@ pub call-sees : (c : Call) (s : State) → Alike (next (calmS s) c) (answer (cal
 unfolding next answer stop inRange Calls.key Calls.limits Calls.credit Calls.input Calls.endInput Calls.cancel Calls.launched Calls.readAllowance Calls.output Calls.discarded Calls.outputClosed Calls.outputFailed Calls.outputHungUp Calls.pendingInput Calls.inputWritten Calls.inputClosed Calls.exited Calls.settled Calls.dropped Calls.reset Calls.disconnect Calls.tick Calls.deadline Calls.nextRequest Calls.nextMessage Calls.isFinished Calls.isDetached Calls.awaitsSettlement Calls.memoryBound Calls.buffered Calls.highWater readAllowanceOf discardedNext closedNext failedNext hungUpNext closeRunnerInput
 call-sees Call.key s = getting s _
 call-sees Call.limits s = getting s _
-call-sees (Call.credit k p u) s = credited s (admits (s .runner .key) k) (outputPool (s .runner .limits .shared) p) u
+call-sees (Call.credit k p u) s =
+    let r : Runner = s .runner in
+    let a : Admission = admits (r .key) k in let q : PoolIndex = outputPool (r .limits .shared) p in
+    heard s (stop r true) (creditAnswer a q (calm r) u) (creditAnswer a q r u) (creditNext a q (calm r) u) (creditNext a q r u) (credit-shows a q u r) (credit-sees a q u r)
 call-sees (Call.input k b) s = inputted s (stop (s .runner) (storesDo (s .runner) (s .bytes) (s .lengths))) (admits (s .runner .key) k) b
-call-sees (Call.endInput k) s = ended s (admits (s .runner .key) k)
+call-sees (Call.endInput k) s =
+    let r : Runner = s .runner in
+    let a : Admission = admits (r .key) k in
+    heard s (stop r true) (endAnswer a (calm r)) (endAnswer a r) (endNext a (calm r)) (endNext a r) (end-shows a r) (end-sees a r)
 call-sees (Call.cancel now k c) s =
     let r : Runner = s .runner in
     let a : Admission = admits (r .key) k in

@@ -163,8 +163,19 @@ at-instants =
 
 -- ---- and what is not idle: a tick at the deadline, and one that is later
 
--- before it (9) nothing changes, at it (10) the timeout has come and grace ends at 15, one instant later (11) at 16
-pub edges : (told [] 9 ≡ Call.Time (At 10) ∷ Call.Nothing ∷ []) × (told (9 ∷ []) 9 ≡ Call.Time (At 10) ∷ Call.Nothing ∷ [])
-    × (told (10 ∷ []) 11 ≡ Call.Time (At 15) ∷ Call.Asks (Call.Terminate Cause.TimedOut) ∷ []) × (told (11 ∷ []) 11 ≡ Call.Time (At 16) ∷ Call.Asks (Call.Terminate Cause.TimedOut) ∷ [])
+abbrev running : List Answer
+running = Call.Time (At 10) ∷ Call.Nothing ∷ []
+
+-- the timeout has come, and grace ends then
+abbrev timedOut : ℕ → List Answer
+timedOut grace = Call.Time (At grace) ∷ Call.Asks (Call.Terminate Cause.TimedOut) ∷ []
+
+-- by a clock at 9: no tick, and one before the deadline, are alike; one at the deadline is not, as it is later than the clock
+pub before-it : (told [] 9 ≡ running) × (told (9 ∷ []) 9 ≡ running) × (told (10 ∷ []) 9 ≡ timedOut 15)
 unfolding Step.next Step.answer nextEntry answerEntry Calls.«open» Calls.tick Calls.deadline Calls.nextRequest Range.fresh Range.stop Range.inRange outputFits bytesWith Life.beginTermination Life.terminate Life.passGrace Life.passTimeout Life.passSettlement Life.passGiveUp Life.passAbandonment Life.fire Life.ticked Life.deadlineOf Message.wishFor Message.wish Message.wishEffect
-edges = (refl, refl, refl, refl)
+before-it = (refl, refl, refl)
+
+-- by a clock at 11: a tick at the deadline is in time; none, and one that is later than the deadline, are not
+pub after-it : (told (10 ∷ []) 11 ≡ timedOut 15) × (told [] 11 ≡ running) × (told (11 ∷ []) 11 ≡ timedOut 16)
+unfolding Step.next Step.answer nextEntry answerEntry Calls.«open» Calls.tick Calls.deadline Calls.nextRequest Range.fresh Range.stop Range.inRange outputFits bytesWith Life.beginTermination Life.terminate Life.passGrace Life.passTimeout Life.passSettlement Life.passGiveUp Life.passAbandonment Life.fire Life.ticked Life.deadlineOf Message.wishFor Message.wish Message.wishEffect
+after-it = (refl, refl, refl)
