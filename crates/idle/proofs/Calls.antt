@@ -44,12 +44,12 @@ use Rattle.runner.specs.Streams.{InputAfter, isShut, room, received, outputTook
 use Rattle.calls.specs.Call as Call
 use Rattle.calls.specs.Call.{Call, Answer}
 use Rattle.account.specs.Step.{State, onRunner, next, answer, replied, receivedAs, took, asks, fires, waits}
-use Rattle.idle.proofs.Calm.{unless, abandonShown, calm, calmS, plain, still, clean-awaits, moot-awaits, put-clean, put-moot, settle-sees}
+use Rattle.idle.proofs.Calm.{Sees, unless, abandonShown, calm, calmS, plain, still, clean-awaits, moot-awaits, put-clean, put-moot, settle-sees}
 use Rattle.idle.proofs.Passes.{tick-sees, cancel-sees, cancel-shows, exited-sees, detach-sees}
 
 -- ---- launch and settlement
 
-pub launched-sees : (x : LaunchResult) (r : Runner) → calm (launchedNext (calm r) x) ≡ calm (launchedNext r x)
+pub launched-sees : (x : LaunchResult) → Sees (λ (z : Runner). launchedNext z x)
 unfolding launchedNext noteLaunch noteStarted closeRunnerInput
 launched-sees x r = by (awaitsLaunch r) x refl
   where
@@ -72,7 +72,7 @@ settle-fenced (Requested d) y e = absurd (true≢false (sym e))
 settle-fenced Settled y e = e
 settle-fenced Fenced y e = e
 
-settled-sees : (y : Settlement) (r : Runner) → calm (settledNext (calm r) y) ≡ calm (settledNext r y)
+settled-sees : (y : Settlement) → Sees (λ (x : Runner). settledNext x y)
 unfolding settledNext
 settled-sees y r = let s : Settling = r .life .settling in settle-sees (settleWith s y) r (settle-settled s y) (settle-fenced s y)
 
@@ -87,7 +87,7 @@ hung : (c : Bool) → (not c && false) ≡ false
 hung true = refl
 hung false = refl
 
-output-sees : (x : Stream) (n : ℕ) (r : Runner) → calm (outputNext (calm r) x n) ≡ calm (outputNext r x n)
+output-sees : (x : Stream) (n : ℕ) → Sees (λ (z : Runner). outputNext z x n)
 unfolding outputNext
 output-sees x n r =
     let o : Output = intake (isShut x r) (outOf x r .discarding) (room x r) n (outOf x r) in
@@ -102,7 +102,7 @@ credit-shows Admission.Stale p u r = refl
 credit-shows Admission.Own (PoolIndex.Refused x) u r = refl
 credit-shows Admission.Own (PoolIndex.At i) u r = refl
 
-credit-sees : (a : Admission) (p : PoolIndex) (u : ℕ) (r : Runner) → calm (creditNext a p (calm r) u) ≡ calm (creditNext a p r u)
+credit-sees : (a : Admission) (p : PoolIndex) (u : ℕ) → Sees (λ (x : Runner). creditNext a p x u)
 unfolding creditNext
 credit-sees a p u r = plain r (creditNext a p r u) refl refl (λ e. e) (λ e. e)
 
@@ -112,7 +112,7 @@ end-shows (Admission.Refused x) r = refl
 end-shows Admission.Stale r = refl
 end-shows Admission.Own r = refl
 
-end-sees : (a : Admission) (r : Runner) → calm (endNext a (calm r)) ≡ calm (endNext a r)
+end-sees : (a : Admission) → Sees (endNext a)
 unfolding endNext
 end-sees (Admission.Refused x) r = still r
 end-sees Admission.Stale r = still r
@@ -120,7 +120,7 @@ end-sees Admission.Own r = plain r (endNext Admission.Own r) refl refl (λ e. e)
 
 -- ---- messages and requests
 
-pub effect-sees : (m : Choice) (r : Runner) → calm (effect m (calm r)) ≡ calm (effect m r)
+pub effect-sees : (m : Choice) → Sees (effect m)
 unfolding effect outputSent outputPaid
 effect-sees Choice.None r = still r
 effect-sees Choice.Credit r = plain r (effect Choice.Credit r) refl refl (λ e. e) (λ e. e)
@@ -133,7 +133,7 @@ effect-sees (Choice.Output x n) r =
     plain r (effect (Choice.Output x n) r) refl refl (put-clean x o r (λ e. e)) (put-moot x o r (λ e. e))
 effect-sees Choice.Terminal r = plain r (effect Choice.Terminal r) refl refl (λ e. e) (λ e. e)
 
-wish-sees : (w : Wish) (r : Runner) → calm (wishEffect w (calm r)) ≡ calm (wishEffect w r)
+wish-sees : (w : Wish) → Sees (wishEffect w)
 unfolding wishEffect
 wish-sees Wish.None r = still r
 wish-sees (Wish.Request (Request.Terminate c)) r = plain r (handed (Request.Terminate c) r) refl refl (λ e. e) (λ e. e)

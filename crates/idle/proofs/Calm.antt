@@ -47,6 +47,9 @@ calmS s = onRunner (calm (s .runner)) s
 
 -- ---- a change that sees no more than is shown
 
+abbrev pub Sees : (Runner → Runner) → Type 0
+Sees f = (r : Runner) → calm (f (calm r)) ≡ calm (f r)
+
 pub kept : (c d : Bool) (x : Deadline) → (c ≡ true → d ≡ true) → unless d (unless c x) ≡ unless d x
 kept true true x h = refl
 kept true false x h = absurd (false≢true (h refl))
@@ -71,7 +74,7 @@ pub still : (r : Runner) → calm (calm r) ≡ calm r
 still r = plain r r refl refl (λ e. e) (λ e. e)
 
 -- one such change after another, and one of two
-pub on : (f : Runner → Runner) → ((r : Runner) → calm (f (calm r)) ≡ calm (f r)) → (x y : Runner) → calm x ≡ calm y → calm (f x) ≡ calm (f y)
+pub on : (f : Runner → Runner) → Sees f → (x y : Runner) → calm x ≡ calm y → calm (f x) ≡ calm (f y)
 on f h x y e = sym (h x) ∙ ap (λ (z : Runner). calm (f z)) e ∙ h y
 
 pub branch : (b : Bool) (x y v w : Runner) → calm x ≡ calm v → calm y ≡ calm w → calm (cond b x y) ≡ calm (cond b v w)

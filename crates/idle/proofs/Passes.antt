@@ -22,32 +22,32 @@ use Rattle.runner.specs.Life.{awaitsLaunch, isCleanedUp, closeRunnerInput, endG
 use Rattle.runner.specs.State.{with, withClocks, outOf}
 use Rattle.account.proofs.Flags.{or-left}
 use Rattle.account.proofs.Sides.{each-same}
-use Rattle.idle.proofs.Calm.{isMoot, swap, unless, giveUpShown, abandonShown, calm, kept, anew, plain, still, on, branch, clean-settled, clean-exit, clean-awaits, moot-awaits, moot-fenced, moot-held, unsettled, settle-sees}
+use Rattle.idle.proofs.Calm.{Sees, isMoot, swap, unless, giveUpShown, abandonShown, calm, kept, anew, plain, still, on, branch, clean-settled, clean-exit, clean-awaits, moot-awaits, moot-fenced, moot-held, unsettled, settle-sees}
 
 -- ---- timeout, grace and settlement
 
-pub grace-sees : (r : Runner) → calm (endGrace (calm r)) ≡ calm (endGrace r)
+pub grace-sees : Sees endGrace
 unfolding endGrace
 grace-sees r = plain r (endGrace r) refl refl (λ e. e) (λ e. e)
 
-pass-grace : (now : ℕ) (r : Runner) → calm (passGrace (calm r) now) ≡ calm (passGrace r now)
+pass-grace : (now : ℕ) → Sees (λ (x : Runner). passGrace x now)
 unfolding passGrace
 pass-grace now r = branch (due (r .clocks .«grace_until») now) (endGrace (calm r)) (calm r) (endGrace r) r (grace-sees r) (still r)
 
-begin-sees : (now : ℕ) (c : Cause) (r : Runner) → calm (beginTermination (calm r) now c) ≡ calm (beginTermination r now c)
+begin-sees : (now : ℕ) (c : Cause) → Sees (λ (x : Runner). beginTermination x now c)
 unfolding beginTermination
 begin-sees now c r = anew r (beginTermination r now c) refl (λ e. e)
 
-pub terminate-sees : (now : ℕ) (c : Cause) (r : Runner) → calm (terminate (calm r) now c) ≡ calm (terminate r now c)
+pub terminate-sees : (now : ℕ) (c : Cause) → Sees (λ (x : Runner). terminate x now c)
 unfolding terminate
 terminate-sees now c r =
     branch (r .clocks .terminated) (calm r) (passGrace (beginTermination (calm r) now c) now) r (passGrace (beginTermination r now c) now) (still r)
     (on (λ x. passGrace x now) (pass-grace now) (beginTermination (calm r) now c) (beginTermination r now c) (begin-sees now c r))
 
-cleared-sees : (r : Runner) → calm (timeoutCleared (calm r)) ≡ calm (timeoutCleared r)
+cleared-sees : Sees timeoutCleared
 cleared-sees r = plain r (timeoutCleared r) refl refl (λ e. e) (λ e. e)
 
-pass-timeout : (now : ℕ) (r : Runner) → calm (passTimeout (calm r) now) ≡ calm (passTimeout r now)
+pass-timeout : (now : ℕ) → Sees (λ (x : Runner). passTimeout x now)
 unfolding passTimeout
 pass-timeout now r =
     branch (due (r .clocks .«timeout_at») now) (terminate (timeoutCleared (calm r)) now TimedOut) (calm r) (terminate (timeoutCleared r) now TimedOut) r
@@ -65,7 +65,7 @@ expired-fenced (Requested d) now e = absurd (true≢false (sym e))
 expired-fenced Settled now e = e
 expired-fenced Fenced now e = e
 
-pass-settlement : (now : ℕ) (r : Runner) → calm (passSettlement (calm r) now) ≡ calm (passSettlement r now)
+pass-settlement : (now : ℕ) → Sees (λ (x : Runner). passSettlement x now)
 unfolding passSettlement
 pass-settlement now r =
     let s : Settling = r .life .settling in settle-sees (expired s now) r (expired-settled s now) (expired-fenced s now)
@@ -78,7 +78,7 @@ given-clean true r e = rw e refl
 given-clean false r e = refl
 
 -- and there is nothing to abandon after it
-give-up-sees : (r : Runner) → calm (giveUp (calm r)) ≡ calm (giveUp r)
+give-up-sees : Sees giveUp
 unfolding giveUp
 give-up-sees r = anew r (giveUp r) refl (λ e. moot (not (launchKnown (r .life .launch))))
   where
@@ -86,7 +86,7 @@ give-up-sees r = anew r (giveUp r) refl (λ e. moot (not (launchKnown (r .life .
     moot true = refl
     moot false = refl
 
-pass-give-up : (now : ℕ) (r : Runner) → calm (passGiveUp (calm r) now) ≡ calm (passGiveUp r now)
+pass-give-up : (now : ℕ) → Sees (λ (x : Runner). passGiveUp x now)
 unfolding passGiveUp giveUpUnlessClean
 pass-give-up now r = by (isCleanedUp r) refl
   where
@@ -99,7 +99,7 @@ pass-give-up now r = by (isCleanedUp r) refl
 -- ---- abandonment
 
 -- a launch is awaited: nothing is cleaned up, nor is abandonment without work
-drop-launch : (r : Runner) → calm (dropLaunch (calm r)) ≡ calm (dropLaunch r)
+drop-launch : Sees dropLaunch
 unfolding dropLaunch abandonLaunch
 drop-launch r = by (awaitsLaunch r) refl
   where
@@ -109,7 +109,7 @@ drop-launch r = by (awaitsLaunch r) refl
     by false e = still r
 
 -- settling is fenced: not all is cleaned up
-drop-streams : (r : Runner) → calm (dropStreams (calm r)) ≡ calm (dropStreams r)
+drop-streams : Sees dropStreams
 unfolding dropStreams abandonOpenStreams
 drop-streams r = by (isFenced (r .life .settling)) refl
   where
@@ -146,7 +146,7 @@ moot-drops true r m =
     let s : dropStreams r ≡ abandonOpenStreams r = rw (moot-fenced r m) in
     ap (λ (x : Runner). calm (dropStreams x)) l ∙ ap calm s ∙ moot-streams r m
 
-pass-abandonment : (now : ℕ) (r : Runner) → calm (passAbandonment (calm r) now) ≡ calm (passAbandonment r now)
+pass-abandonment : (now : ℕ) → Sees (λ (x : Runner). passAbandonment x now)
 unfolding passAbandonment
 pass-abandonment now r = by (isMoot r) refl
   where
@@ -162,20 +162,20 @@ abandonment-sees now = on (λ x. passAbandonment x now) (pass-abandonment now)
 
 -- ---- a tick
 
-fire-sees : (now : ℕ) (r : Runner) → calm (fire (calm r) now) ≡ calm (fire r now)
+fire-sees : (now : ℕ) → Sees (λ (x : Runner). fire x now)
 unfolding fire
 fire-sees now r =
     abandonment-sees now _ _ (on (λ x. passGiveUp x now) (pass-give-up now) _ _
     (on (λ x. passSettlement x now) (pass-settlement now) _ _
     (on (λ x. passGrace x now) (pass-grace now) (passTimeout (calm r) now) (passTimeout r now) (pass-timeout now r))))
 
-pub tick-sees : (now : ℕ) (r : Runner) → calm (ticked (calm r) now) ≡ calm (ticked r now)
+pub tick-sees : (now : ℕ) → Sees (λ (x : Runner). ticked x now)
 unfolding ticked
 tick-sees now r = branch (r .flags .finished) (calm r) (fire (calm r) now) r (fire r now) (still r) (fire-sees now r)
 
 -- ---- the other calls that tick
 
-pub cancel-sees : (a : Admission) (now : ℕ) (c : Cause) (r : Runner) → calm (cancelNext a (calm r) now c) ≡ calm (cancelNext a r now c)
+pub cancel-sees : (a : Admission) (now : ℕ) (c : Cause) → Sees (λ (x : Runner). cancelNext a x now c)
 unfolding cancelNext
 cancel-sees (Admission.Refused x) now c r = still r
 cancel-sees Admission.Stale now c r = still r
@@ -191,7 +191,7 @@ cancel-shows Admission.Stale now r = refl
 cancel-shows Admission.Own now r = rw (ap isLate (tick-sees now r)) refl
 
 -- an exit that counts finds nothing cleaned up, and sets the time of abandonment anew
-exit-sees : (now : ℕ) (x : MaybeStatus) (r : Runner) → calm (noteExitOnce (calm r) now x) ≡ calm (noteExitOnce r now x)
+exit-sees : (now : ℕ) (x : MaybeStatus) → Sees (λ (z : Runner). noteExitOnce z now x)
 unfolding noteExitOnce noteExit closeRunnerInput
 exit-sees now x r = by (isOver r) refl
   where
@@ -202,17 +202,17 @@ exit-sees now x r = by (isOver r) refl
         ap (λ (g : Deadline). swap g (abandonShown t) t)
         (kept (isCleanedUp r) (isCleanedUp t) (r .clocks .«give_up_at») (λ c. absurd (true≢false (sym (or-left (exitKnown (r .life .exit)) _ (clean-exit r c)) ∙ e))))
 
-pub exited-sees : (now : ℕ) (x : MaybeStatus) (r : Runner) → calm (exitedNext (calm r) now x) ≡ calm (exitedNext r now x)
+pub exited-sees : (now : ℕ) (x : MaybeStatus) → Sees (λ (z : Runner). exitedNext z now x)
 unfolding exitedNext
 exited-sees now x r =
     on (λ y. noteExitOnce y now x) (exit-sees now x) _ _ (on (λ y. ticked y now) (tick-sees now) (timeoutCleared (calm r)) (timeoutCleared r) (cleared-sees r))
 
-silenced-sees : (r : Runner) → calm (silenced (calm r)) ≡ calm (silenced r)
+silenced-sees : Sees silenced
 unfolding silenced
 silenced-sees r = plain r (silenced r) refl refl (λ e. e) (λ e. e)
 
 -- the earlier of a time that is not shown and another is not shown either
-soon-sees : (now : ℕ) (r : Runner) → calm (giveUpSoon (calm r) now) ≡ calm (giveUpSoon r now)
+soon-sees : (now : ℕ) → Sees (λ (x : Runner). giveUpSoon x now)
 unfolding giveUpSoon
 soon-sees now r =
     ap (λ (g : Deadline). swap g (unless (isMoot r) (abandonShown r)) r) (sooner (isCleanedUp r) (r .clocks .«give_up_at») (after now (r .timers .settlement)))
@@ -222,7 +222,7 @@ soon-sees now r =
     sooner true g x = refl
     sooner false g x = refl
 
-pub detach-sees : (now : ℕ) (c : Cause) (r : Runner) → calm (detachNext (calm r) now c) ≡ calm (detachNext r now c)
+pub detach-sees : (now : ℕ) (c : Cause) → Sees (λ (x : Runner). detachNext x now c)
 unfolding detachNext cutOffOnce cutOff
 detach-sees now c r =
     let t : Runner = ticked r now in let u : Runner = ticked (calm r) now in
