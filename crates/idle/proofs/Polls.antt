@@ -12,8 +12,8 @@ use Rattle.calls.specs.Call as Call
 use Rattle.calls.specs.Call.{Conf, Answer}
 use Rattle.account.specs.Step.{State, next, opened}
 use Rattle.account.specs.Records.{Entry, EntryDone, call, nextEntry, answerEntry, afterEntries}
-use Rattle.idle.specs.IdleClaim.{Woven, made, woven, amid, reported, isBefore}
-use Rattle.idle.specs.PollClaim.{Beat, ticking, polled, afterTicks, isBy, Punctual, AllPunctual, instants, atEveryInstant, ifDue, dues, duesOf, atDeadlines, Polls}
+use Rattle.idle.specs.IdleClaim.{Woven, made, idle, woven, amid, reported, isBefore}
+use Rattle.idle.specs.PollClaim.{Beat, ticking, polled, afterTicks, isBy, Punctual, AllPunctual, instants, atEveryInstant, ifDue, dues, duesOf, atDeadlines, whenDue, Polls}
 use Rattle.idle.proofs.Calm.{calmS}
 use Rattle.idle.proofs.Idle.{alike-left, alike-answer, alike-reported, idle-still, reported-later}
 
@@ -167,6 +167,23 @@ every-same [] s = refl
 every-same (b ∷ bs) s =
     ap (λ (cs : List Beat). record { ticks = upTo (b .clock); clock = b .clock; entry = b .entry } ∷ cs) (every-same bs (nextEntry (afterTicks s (duesOf s b)) (b .entry)))
 
+-- ---- picks: s is the run that spares, t the one that ticks on every pick
+
+spared : (ws : List Woven) (s t : State) → calmS s ≡ calmS t → amid s (whenDue s ws) ≡ amid t ws
+unfolding nextEntry
+spared [] s t h = refl
+spared (made e ∷ ws) s t h =
+    ap (λ (x : Answer). record { entry = e; answer = x } ∷ amid (nextEntry s e) (whenDue (nextEntry s e) ws)) (alike-answer s t h e)
+    ∙ ap (λ (ds : List EntryDone). record { entry = e; answer = answerEntry t e } ∷ ds) (spared ws (nextEntry s e) (nextEntry t e) (alike-left s t h e))
+spared (idle n ∷ ws) s t h =
+    by (isBefore n (reported s)) refl (λ k. spared ws s (next t (Call.tick n)) k) (spared ws (next s (Call.tick n)) (next t (Call.tick n)) (alike-left s t h (call (Call.tick n))))
+  where
+    by : (b : Bool) → isBefore n (reported s) ≡ b → (calmS s ≡ calmS (next t (Call.tick n)) → amid s (whenDue s ws) ≡ amid (next t (Call.tick n)) ws)
+        → amid (next s (Call.tick n)) (whenDue (next s (Call.tick n)) ws) ≡ amid (next t (Call.tick n)) ws
+        → amid s (cond b (whenDue s ws) (idle n ∷ whenDue (next s (Call.tick n)) ws)) ≡ amid (next t (Call.tick n)) ws
+    by true e skip tick = skip (h ∙ sym (idle-still n t (subst (λ (d : Deadline). isBefore n d ≡ true) (alike-reported s t h) e)))
+    by false e skip tick = tick
+
 -- ---- from open
 
 module _ (conf : Conf) (now : ℕ) (bytes lengths : List ℕ) where
@@ -183,5 +200,6 @@ module _ (conf : Conf) (now : ℕ) (bytes lengths : List ℕ) where
     only = λ bs. dues-list bs begins;
     both = λ bs.
         polls-list (atDeadlines begins bs) begins begins refl (dues-list bs begins) .0 ∙ ap (λ (cs : List Beat). amid begins (polled cs)) (every-same bs begins);
+    picks = λ ws. spared ws begins begins refl;
     later = λ es t. reported-later t (afterEntries begins es);
   }

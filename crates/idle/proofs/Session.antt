@@ -34,7 +34,7 @@ use Rattle.account.specs.Step.{State}
 use Rattle.account.specs.Records.{EntryDone, call, nextEntry, answerEntry, afterEntries, runEntries}
 use Rattle.account.proofs.TurnSession.{channel, zeros, written, adjust}
 use Rattle.idle.specs.IdleClaim.{Woven, made, idle, alone, woven, amid, AllIdle}
-use Rattle.idle.specs.PollClaim.{Beat, polled, atEveryInstant, atDeadlines}
+use Rattle.idle.specs.PollClaim.{Beat, polled, afterTicks, atEveryInstant, atDeadlines}
 use Rattle.idle.proofs.Idle.{idleTicks}
 use Rattle.idle.proofs.Polls.{polls}
 
@@ -59,6 +59,10 @@ answersOf ds = map (λ (d : EntryDone). d .answer) ds
 abbrev short : Conf
 short = timed (MaybeDuration.Some 10) 5 3
 
+-- and never
+abbrev none : Conf
+none = timed MaybeDuration.None 0 0
+
 abbrev between : List Woven
 between = idle 0
     ∷ made (call (Call.launched LaunchResult.Started))
@@ -78,6 +82,15 @@ between-idle = ((refl, (refl, (refl, (refl, tt)))), refl)
 -- and the first run, without them
 pub between-alone : answersOf (runEntries (begins short) (alone between)) ≡ Call.Ok ∷ Call.Taken 1 ∷ Call.Time (At 10) ∷ Call.Value 1 ∷ []
 between-alone = ap answersOf (sym (idleTicks short 0 (0 ∷ 0 ∷ 0 ∷ []) [] .answers between (between-idle .0))) ∙ between-idle .1
+
+-- none is reported: a tick at the last instant; and on a refused open, where tick and deadline are refused alike
+abbrev atLast : List Woven
+atLast = idle 18446744073709551615 ∷ made (call (Call.tick 18446744073709551615)) ∷ made (call Call.deadline) ∷ []
+
+pub none-idle : (AllIdle (begins none) atLast × (answersOf (amid (begins none) atLast) ≡ Call.Ok ∷ Call.Time Never ∷ []))
+    × (AllIdle (Step.opened short 0 [] []) atLast × (answersOf (amid (Step.opened short 0 [] []) atLast) ≡ Call.Refused 10 ∷ Call.Refused 10 ∷ []))
+unfolding Step.next Step.answer nextEntry answerEntry Calls.«open» Calls.tick Calls.deadline Range.fresh Range.stop Range.inRange outputFits bytesWith Life.passGrace Life.passTimeout Life.passSettlement Life.passGiveUp Life.passAbandonment Life.fire Life.ticked Life.deadlineOf
+none-idle = (((refl, tt), refl), ((refl, tt), refl))
 
 -- the same on a channel: a record read, and three written into 43 bytes; no deadline is reported
 abbrev onChannel : List Woven
@@ -99,9 +112,6 @@ unfolding Step.next Step.answer nextEntry answerEntry Calls.«open» Calls.launc
 channel-idle = ((refl, (refl, (refl, tt))), refl)
 
 -- ---- what a tick put in may move: two timers that no answer shows, so that the two runs do not end in the same state
-
-abbrev none : Conf
-none = timed MaybeDuration.None 0 0
 
 abbrev ended : Settlements.Settlement → List Woven → List Woven
 ended result ws = made (call (Call.launched LaunchResult.Started))
@@ -132,7 +142,7 @@ abbrev isNever : Deadline → Bool
 isNever Never = true
 isNever (At d) = false
 
--- equal states would be false, though every answer is alike
+-- equal states would be false, though every answer is alike; and neither timer is reported, which would wake a host for nothing
 pub moves-unseen : (AllIdle (begins none) fenced × (afterEntries (begins none) (woven fenced) ≡ afterEntries (begins none) (alone fenced) → ⊥))
     × (AllIdle (begins none) clean × (afterEntries (begins none) (woven clean) ≡ afterEntries (begins none) (alone clean) → ⊥))
 moves-unseen = (
@@ -140,42 +150,85 @@ moves-unseen = (
   (unseen .1 .0, λ e. true≢false (ap isNever (sym (unseen .1 .2) ∙ ap (λ (s : State). s .runner .clocks .«give_up_at») e ∙ unseen .1 .1))),
 )
 
--- ---- a host that ticks at the reported deadlines alone: timeout, end of grace, give-up
+-- ---- each deadline from both sides, by a host that asks for it and for what the timer does
 
+-- a timeout at 10, grace to 15, give-up at 18
 abbrev seen : List ℕ → (clock : ℕ) → List Beat
 seen ticks clock = record { ticks = ticks; clock = clock; entry = call Call.deadline }
     ∷ record { ticks = []; clock = clock; entry = call Call.nextRequest }
+    ∷ record { ticks = []; clock = clock; entry = call (Call.readAllowance Stdout) }
+    ∷ []
+
+-- no timeout; an exit at 5, settlement to 8, abandonment at 13
+abbrev left : List ℕ → (clock : ℕ) → List Beat
+left ticks clock = record { ticks = []; clock = 5; entry = call (Call.launched LaunchResult.Started) }
+    ∷ record { ticks = []; clock = 5; entry = call (Call.exited 5 MaybeStatus.None) }
+    ∷ record { ticks = ticks; clock = clock; entry = call Call.deadline }
+    ∷ record { ticks = []; clock = clock; entry = call Call.awaitsSettlement }
+    ∷ record { ticks = []; clock = clock; entry = call (Call.readAllowance Stdout) }
     ∷ []
 
 abbrev told : List ℕ → (clock : ℕ) → List Answer
 told ticks clock = answersOf (amid (begins short) (polled (seen ticks clock)))
 
-pub at-deadlines : (atDeadlines (begins short) (seen [] 100) ≡ seen (10 ∷ 15 ∷ 18 ∷ []) 100)
-    × (told (10 ∷ 15 ∷ 18 ∷ []) 100 ≡ Call.Time Never ∷ Call.Asks (Call.Terminate Cause.TimedOut) ∷ [])
-unfolding Step.next Step.answer nextEntry answerEntry Calls.«open» Calls.tick Calls.deadline Calls.nextRequest Range.fresh Range.stop Range.inRange outputFits bytesWith Life.endGrace Life.giveUp Life.abandonLaunch Life.abandonOpenStreams Life.beginTermination Life.terminate Life.passGrace Life.passTimeout Life.passSettlement Life.giveUpUnlessClean Life.passGiveUp Life.dropLaunch Life.dropStreams Life.passAbandonment Life.fire Life.ticked Life.deadlineOf Message.wishFor Message.wish Message.wishEffect
-at-deadlines = (refl, refl)
+abbrev toldLeft : List ℕ → (clock : ℕ) → List Answer
+toldLeft ticks clock = answersOf (amid (begins (timed MaybeDuration.None 5 3)) (polled (left ticks clock)))
 
--- so that is what one hears who ticks at every instant from 0 to 100
-pub at-instants : answersOf (amid (begins short) (polled (atEveryInstant (seen [] 100)))) ≡ Call.Time Never ∷ Call.Asks (Call.Terminate Cause.TimedOut) ∷ []
-at-instants =
-    ap answersOf (sym (polls short 0 (0 ∷ 0 ∷ 0 ∷ []) [] .both (seen [] 100)))
-    ∙ ap (λ (bs : List Beat). answersOf (amid (begins short) (polled bs))) (at-deadlines .0) ∙ at-deadlines .1
+abbrev toldOf : MaybeDuration → ℕ → List Answer
+toldOf timeout tick = answersOf (amid (begins (timed timeout 1 0)) (polled (seen (tick ∷ []) tick)))
 
--- ---- and what is not idle: a tick at the deadline, and one that is later
+-- cancelled at 12 besides, so that grace ends at 17 and give-up comes at 20; and the next request then
+abbrev lately : List ℕ → Answer
+lately ticks =
+    Step.answer (afterTicks (afterEntries (begins (timed MaybeDuration.None 5 3)) (call (Call.launched LaunchResult.Started)
+    ∷ call (Call.exited 5 MaybeStatus.None)
+    ∷ call (Call.cancel 12 (record { id = 7; generation = 2 }) Cause.Cancelled)
+    ∷ [])) ticks) Call.nextRequest
 
 abbrev running : List Answer
-running = Call.Time (At 10) ∷ Call.Nothing ∷ []
+running = Call.Time (At 10) ∷ Call.Nothing ∷ Call.Value 1 ∷ []
 
--- the timeout has come, and grace ends then
-abbrev timedOut : ℕ → List Answer
-timedOut grace = Call.Time (At grace) ∷ Call.Asks (Call.Terminate Cause.TimedOut) ∷ []
+-- the timeout has come
+abbrev timedOut : Deadline → (allowance : ℕ) → List Answer
+timedOut next allowance = Call.Time next ∷ Call.Asks (Call.Terminate Cause.TimedOut) ∷ Call.Value allowance ∷ []
 
--- by a clock at 9: no tick, and one before the deadline, are alike; one at the deadline is not, as it is later than the clock
-pub before-it : (told [] 9 ≡ running) × (told (9 ∷ []) 9 ≡ running) × (told (10 ∷ []) 9 ≡ timedOut 15)
-unfolding Step.next Step.answer nextEntry answerEntry Calls.«open» Calls.tick Calls.deadline Calls.nextRequest Range.fresh Range.stop Range.inRange outputFits bytesWith Life.beginTermination Life.terminate Life.passGrace Life.passTimeout Life.passSettlement Life.passGiveUp Life.passAbandonment Life.fire Life.ticked Life.deadlineOf Message.wishFor Message.wish Message.wishEffect
-before-it = (refl, refl, refl)
+abbrev after : Deadline → (awaited : Bool) (allowance : ℕ) → List Answer
+after next awaited allowance = Call.Ok ∷ Call.Ok ∷ Call.Time next ∷ Call.Truth awaited ∷ Call.Value allowance ∷ []
 
--- by a clock at 11: a tick at the deadline is in time; none, and one that is later than the deadline, are not
-pub after-it : (told (10 ∷ []) 11 ≡ timedOut 15) × (told [] 11 ≡ running) × (told (11 ∷ []) 11 ≡ timedOut 16)
-unfolding Step.next Step.answer nextEntry answerEntry Calls.«open» Calls.tick Calls.deadline Calls.nextRequest Range.fresh Range.stop Range.inRange outputFits bytesWith Life.beginTermination Life.terminate Life.passGrace Life.passTimeout Life.passSettlement Life.passGiveUp Life.passAbandonment Life.fire Life.ticked Life.deadlineOf Message.wishFor Message.wish Message.wishEffect
-after-it = (refl, refl, refl)
+pub record Computed : Type 0 where
+  -- by a clock at 9: no tick, and one before the deadline, are alike; one at the deadline is not, as it is later than the clock
+  pub before-it : (told [] 9 ≡ running) × (told (9 ∷ []) 9 ≡ running) × (told (10 ∷ []) 9 ≡ timedOut (At 15) 1)
+  -- by a clock at 11: a tick at the deadline is in time; none, and one that is later than the deadline, are not
+  pub after-it : (told (10 ∷ []) 11 ≡ timedOut (At 15) 1) × (told [] 11 ≡ running) × (told (11 ∷ []) 11 ≡ timedOut (At 16) 1)
+  -- the end of grace and give-up, each before it and at it
+  pub grace : (told (10 ∷ 14 ∷ []) 14 ≡ timedOut (At 15) 1) × (told (10 ∷ 15 ∷ []) 15 ≡ timedOut (At 18) 0)
+  pub give-up : (told (10 ∷ 15 ∷ 17 ∷ []) 17 ≡ timedOut (At 18) 0) × (told (10 ∷ 15 ∷ 18 ∷ []) 18 ≡ timedOut Never 0)
+  -- settlement and abandonment likewise
+  pub settlement : (toldLeft [] 7 ≡ after (At 8) true 1) × (toldLeft (7 ∷ []) 7 ≡ after (At 8) true 1) × (toldLeft (8 ∷ []) 8 ≡ after (At 13) false 1)
+  pub abandonment : (toldLeft (8 ∷ 12 ∷ []) 12 ≡ after (At 13) false 1) × (toldLeft (8 ∷ 13 ∷ []) 13 ≡ after Never false 0)
+  -- a timeout of 0, and one at the last instant, after which no grace can end
+  pub ends : (toldOf (MaybeDuration.Some 0) 0 ≡ timedOut (At 1) 1) × (toldOf (MaybeDuration.Some 18446744073709551615) 18446744073709551614 ≡ Call.Time (At 18446744073709551615) ∷ Call.Nothing ∷ Call.Value 1 ∷ [])
+      × (toldOf (MaybeDuration.Some 18446744073709551615) 18446744073709551615 ≡ timedOut Never 1)
+  -- who ticks at the reported deadlines alone ticks at these
+  pub deadlines : atDeadlines (begins short) (seen [] 100) ≡ seen (10 ∷ 15 ∷ 18 ∷ []) 100
+  -- late ticks differ for other timers too: abandonment at 13 closes the streams before grace ends at 17, which then has none to discard
+  pub late : (lately (13 ∷ 17 ∷ 20 ∷ []) ≡ Call.Nothing) × (lately (20 ∷ []) ≡ Call.Asks (Call.Discard Stdout))
+
+pub computed : Computed
+unfolding Step.next Step.answer nextEntry answerEntry Calls.«open» Calls.tick Calls.deadline Calls.nextRequest Calls.launched Calls.exited Calls.cancel Calls.awaitsSettlement Calls.readAllowance Range.fresh Range.stop Range.inRange outputFits bytesWith admits Life.closeRunnerInput Life.endGrace Life.giveUp Life.abandonLaunch Life.abandonOpenStreams Life.beginTermination Life.terminate Life.passGrace Life.passTimeout Life.passSettlement Life.giveUpUnlessClean Life.passGiveUp Life.dropLaunch Life.dropStreams Life.passAbandonment Life.fire Life.ticked Life.deadlineOf Life.cancelNext Life.noteStarted Life.noteLaunch Life.launchedNext Life.noteExit Life.noteExitOnce Life.exitedNext Streams.readAllowanceOf Message.wishFor Message.wish Message.wishEffect
+computed = record {
+  before-it = (refl, refl, refl);
+  after-it = (refl, refl, refl);
+  grace = (refl, refl);
+  give-up = (refl, refl);
+  settlement = (refl, refl, refl);
+  abandonment = (refl, refl);
+  ends = (refl, refl, refl);
+  deadlines = refl;
+  late = (refl, refl);
+}
+
+-- so that is what one hears who ticks at every instant from 0 to 100
+pub at-instants : answersOf (amid (begins short) (polled (atEveryInstant (seen [] 100)))) ≡ told (10 ∷ 15 ∷ 18 ∷ []) 100
+at-instants =
+    ap answersOf (sym (polls short 0 (0 ∷ 0 ∷ 0 ∷ []) [] .both (seen [] 100))) ∙ ap (λ (bs : List Beat). answersOf (amid (begins short) (polled bs))) (computed .deadlines)

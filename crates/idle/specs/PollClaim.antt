@@ -1,4 +1,5 @@
--- How often a host has to tick: at each deadline that is reported, when it comes. It is then answered as one that ticks at every instant.
+-- How often a host has to tick: at each deadline that is reported, with that deadline as its time, though its clock may show more by then.
+-- It is then answered as one that ticks at every instant. And of instants at which it looks, it may spare those before the deadline.
 use mathlib.Core.Bool.{Bool, true, cond}
 use mathlib.Core.Path.{_≡_}
 use mathlib.Core.List.{List, [], _∷_}
@@ -79,6 +80,14 @@ atDeadlines s [] = []
 atDeadlines s (b ∷ bs) =
     record { ticks = duesOf s b; clock = b .clock; entry = b .entry } ∷ atDeadlines (nextEntry (afterTicks s (duesOf s b)) (b .entry)) bs
 
+-- ---- picks: the instants at which a host looks at its clock, among its entries
+
+-- one that ticks on a pick only when the deadline says so, and spares the others
+abbrev pub whenDue : State → List Woven → List Woven
+whenDue s [] = []
+whenDue s (made e ∷ ws) = made e ∷ whenDue (nextEntry s e) ws
+whenDue s (idle t ∷ ws) = cond (isBefore t (reported s)) (whenDue s ws) (idle t ∷ whenDue (next s (Call.tick t)) ws)
+
 -- ---- the claim
 
 -- HOW OFTEN TO TICK, for every open, a refused one too, stores of any content, and every list of calls and records
@@ -96,5 +105,7 @@ pub record Polls (conf : Conf) (now : ℕ) (bytes lengths : List ℕ) : Type 0 w
   -- so that these two are answered alike, whatever the entries and the clock
   pub both : (bs : List Beat)
       → amid (opened conf now bytes lengths) (polled (atDeadlines (opened conf now bytes lengths) bs)) ≡ amid (opened conf now bytes lengths) (polled (atEveryInstant bs))
+  -- nor does it make a difference to tick on every pick, or on those alone whose time the deadline has come to, or passed
+  pub picks : (ws : List Woven) → amid (opened conf now bytes lengths) (whenDue (opened conf now bytes lengths) ws) ≡ amid (opened conf now bytes lengths) ws
   -- and one tick is enough: a deadline that is reported after it is later
   pub later : (es : List Entry) (t : ℕ) → isBefore t (reported (next (afterEntries (opened conf now bytes lengths) es) (Call.tick t))) ≡ true
