@@ -1,4 +1,6 @@
 // The answers of a session card: what a line is answered, and that answer as a line of text in a lent area.
+#![tactic(auto)]
+
 ghost use Rattle.std.specs.Prelude.{◌+◌, ◌≤◌, length};
 ghost use Rattle.exec.specs.declared.Received.TheVariants as Received;
 ghost use Rattle.account.specs.Step.{
@@ -25,7 +27,7 @@ use printing::{
 use runner::answer::{Asked, Count, Message, Request, Said, Taken, Truth, When};
 
 // What a line is answered. The bytes of a pending and of an Output stand at the start of `work`.
-#[derive(Drop)]
+#[derive(Clone, Copy)]
 pub enum Answer {
     Ok,
     Applied,
@@ -150,6 +152,7 @@ pub fn is_refused(answer: Answer) -> bool
 
 // ---- an answer
 
+#[tactic(auto, unfolding(syntax::specs::Words::bytes, syntax::specs::Answers::answerText))]
 fn put_request(request: Request, out: &mut [u8], at: usize) -> usize
     requires { at + 131106 ≤ length out.old }
     ensures { Wrote 131106 out.old out.new at result (answerText (requestOf request)) }
@@ -162,6 +165,7 @@ fn put_request(request: Request, out: &mut [u8], at: usize) -> usize
     }
 }
 
+#[tactic(auto, unfolding(syntax::specs::Words::bytes, syntax::specs::Answers::answerText))]
 fn put_message(message: Message, work: &[u8], out: &mut [u8], at: usize) -> usize
     requires { (length work.now ≤ 65536) × (at + 131106 ≤ length out.old) }
     ensures { Wrote 131106 out.old out.new at result (answerText (messageOf message work.now)) }
@@ -176,6 +180,7 @@ fn put_message(message: Message, work: &[u8], out: &mut [u8], at: usize) -> usiz
     }
 }
 
+#[tactic(auto, unfolding(syntax::specs::Words::bytes, syntax::specs::Answers::answerText))]
 fn put_answer(answer: Answer, work: &[u8], out: &mut [u8], at: usize) -> usize
     requires { (length work.now ≤ 65536) × (at + 131106 ≤ length out.old) }
     ensures { Wrote 131106 out.old out.new at result (answerText (answerIs answer work.now)) }
@@ -198,6 +203,7 @@ fn put_answer(answer: Answer, work: &[u8], out: &mut [u8], at: usize) -> usize
 }
 
 // The line of an answer, with its end, and the index behind it.
+#[tactic(auto, unfolding(syntax::specs::Words::bytes, syntax::specs::Answers::lineText))]
 pub fn write_line(line: u64, answer: Answer, work: &[u8], out: &mut [u8], at: usize) -> usize
     requires { (length work.now ≤ 65536) × (at + 131200 ≤ length out.old) }
     ensures { Wrote 131200 out.old out.new at result (lineText line (answerIs answer work.now)) }

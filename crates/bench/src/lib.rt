@@ -7,6 +7,8 @@
 // timeout are given, so that the compiler does not know them.
 // A loop's runner is a copy of the one that `running` hands over, so that its own address is handed to no function: the
 // compiler takes a local apart into its fields only then, and it was measured to matter.
+#![tactic(auto)]
+
 use credit::sender::Credit;
 use exec::{
     Cause, Deadline, Key, LaunchResult, Limits, MaybeStatus, Pool, Receipt, Received, Reply,

@@ -1,4 +1,6 @@
 // A turn of an adapter, with all calls of its loop, each with this one caller: see crate bench.
+#![tactic(auto)]
+
 use bench::{
     add, in_bytes, key, of_received, of_reply, of_said, of_taken, of_when, rest, running, work,
 };

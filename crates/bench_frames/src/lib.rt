@@ -1,4 +1,6 @@
 // The loop of crate bench_input, with 1,024 messages a turn in a window of frames.
+#![tactic(auto)]
+
 use bench::{add, in_frames, key, of_received, of_said, running, work};
 
 #[unsafe(no_mangle)]

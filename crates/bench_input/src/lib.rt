@@ -1,4 +1,6 @@
 // The loop of input, pending_input, input_written and next_message, each with this one caller: see crate bench.
+#![tactic(auto)]
+
 use bench::{add, in_bytes, key, of_received, of_said, running, work};
 
 // A message in, all that waits written, and next_message, which grants the units again.

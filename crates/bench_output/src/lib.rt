@@ -1,4 +1,6 @@
 // The loop of output and next_message, each with this one caller: see crate bench.
+#![tactic(auto)]
+
 use bench::{add, in_bytes, of_said, of_taken, running, work};
 use exec::Stream;
 

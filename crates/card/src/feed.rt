@@ -9,7 +9,7 @@ use ring::{copy_in, smaller};
 use runner::runner::Runner;
 use standing::{Stage, Standing};
 
-#[derive(Drop)]
+#[derive(Clone, Copy)]
 pub struct Card {
     pub standing: Standing,
     // How many lines were answered.
@@ -19,14 +19,14 @@ pub struct Card {
 }
 
 // The card after a line, and where the next answer goes.
-#[derive(Drop)]
+#[derive(Clone, Copy)]
 pub(crate) struct Printed {
     pub(crate) card: Card,
     pub(crate) at: usize,
 }
 
 // The card after a piece, how many bytes of the piece it has eaten, and how many bytes of the output area have answers.
-#[derive(Drop)]
+#[derive(Clone, Copy)]
 pub struct Eaten {
     pub card: Card,
     pub used: usize,
@@ -103,7 +103,7 @@ impl Card {
 // ---- pieces
 
 // Between two lines of a piece: how much of it is eaten, and where the next answer goes.
-#[derive(Drop)]
+#[derive(Clone, Copy)]
 pub(crate) struct Turn {
     pub(crate) card: Card,
     pub(crate) used: usize,
@@ -178,6 +178,7 @@ fn go_on(
 
 impl Card {
     // A session before its first line.
+    #[tactic(auto, unfolding(crate::specs::Turning::newCard))]
     pub fn new() -> Card
         ensures { result ≡ newCard }
     {

@@ -39,7 +39,7 @@ use runner::answer::{Hearing, LimitsAnswer, Message, Noting, Said, Saying};
 use runner::runner::Runner;
 
 // What a record read gives: the answer of the call that it made.
-#[derive(Drop)]
+#[derive(Clone, Copy)]
 pub enum Answer {
     // Of credit, input and end_input.
     Receipt(Receipt),
@@ -48,7 +48,7 @@ pub enum Answer {
     Refused(Refusal),
 }
 
-#[derive(Drop)]
+#[derive(Clone, Copy)]
 pub struct Reading {
     pub runner: Runner,
     pub answer: Answer,
@@ -57,21 +57,21 @@ pub struct Reading {
 // The next record, if a message waits: the message, and how many bytes of the buffer its record has. A message that is not
 // told on a channel has none. Of a Terminal they are two records: the last 5 bytes are CLOSE, and what stands before them is
 // the request that tells how the workload ended, if its status is known.
-#[derive(Drop)]
+#[derive(Clone, Copy)]
 pub enum Wrote {
     None,
     Message(Message, usize),
     Refused(Refusal),
 }
 
-#[derive(Drop)]
+#[derive(Clone, Copy)]
 pub struct Writing {
     pub runner: Runner,
     pub wrote: Wrote,
 }
 
 // What a message is sent as.
-#[derive(Drop)]
+#[derive(Clone, Copy)]
 pub enum Sending {
     Nothing,
     Record(Record),
@@ -102,6 +102,7 @@ fn is_channel(limits: Limits) -> bool
 }
 
 // The runner's own limits tell 12 and 10; `enough` is whether the lent stores do.
+#[tactic(auto, unfolding(crate::specs::CallLaws::admittedBy))]
 fn admit(limits: LimitsAnswer, enough: bool) -> Reply
     ensures { result ≡ admittedBy limits enough }
 {
@@ -111,6 +112,7 @@ fn admit(limits: LimitsAnswer, enough: bool) -> Reply
     }
 }
 
+#[tactic(auto, unfolding(crate::specs::CallLaws::admittedLimits))]
 fn admit_limits(limits: Limits, enough: bool) -> Reply
     ensures { result ≡ admittedLimits limits enough }
 {
@@ -143,6 +145,7 @@ pub fn read_record(
     read_admitted(reply, runner, at, channel, bytes, store, lengths)
 }
 
+#[tactic(auto, unfolding(crate::specs::Calls::admittedRead))]
 fn read_admitted(
     reply: Reply,
     runner: Runner,
@@ -166,6 +169,7 @@ fn read_admitted(
     }
 }
 
+#[tactic(auto, unfolding(crate::specs::CallLaws::Whole, crate::specs::Calls::parsedRead))]
 fn read_parsed(
     parsed: Parsed,
     runner: Runner,
@@ -187,6 +191,7 @@ fn read_parsed(
 }
 
 // Makes the call that a record stands for.
+#[tactic(auto, unfolding(crate::specs::Calls::made))]
 fn make(
     rec: Record,
     runner: Runner,
@@ -263,6 +268,7 @@ pub fn write_record(runner: Runner, channel: u32, store: &[u8], buffer: &mut [u8
     write_admitted(reply, runner, channel, store, buffer)
 }
 
+#[tactic(auto, unfolding(crate::specs::Calls::admittedWrite))]
 fn write_admitted(
     reply: Reply,
     runner: Runner,
@@ -281,6 +287,7 @@ fn write_admitted(
     }
 }
 
+#[tactic(auto, unfolding(crate::specs::Calls::roomyWrite))]
 fn write_in(runner: Runner, channel: u32, store: &[u8], buffer: &mut [u8]) -> Writing
     ensures { writeAfter result buffer.new ≡ roomyWrite runner channel store.now buffer.old }
 {
@@ -325,6 +332,7 @@ fn send(runner: Runner, channel: u32, store: &[u8], buffer: &mut [u8]) -> Writin
     tell(saying, ended, channel, buffer)
 }
 
+#[tactic(auto, unfolding(crate::specs::Calls::isLeft))]
 fn is_left(said: Said) -> bool
     ensures { result ≡ isLeft said }
 {
@@ -360,6 +368,7 @@ fn has_ended(runner: Runner) -> bool
     stdout.ended | stderr.ended
 }
 
+#[tactic(auto, unfolding(crate::specs::Calls::told))]
 fn tell(saying: Saying, ended: bool, channel: u32, buffer: &mut [u8]) -> Writing
     requires { Sayable saying.said (length buffer.old) }
     ensures { writeAfter result buffer.new ≡ told saying ended channel buffer.old }
@@ -370,6 +379,7 @@ fn tell(saying: Saying, ended: bool, channel: u32, buffer: &mut [u8]) -> Writing
     Writing { runner, wrote }
 }
 
+#[tactic(auto, unfolding(crate::specs::CallLaws::Sayable, crate::specs::Calls::wrote, crate::specs::Calls::wroteBuffer))]
 fn tell_said(said: Said, ended: bool, channel: u32, buffer: &mut [u8]) -> Wrote
     requires { Sayable said (length buffer.old) }
     ensures { (result ≡ wrote channel ended said) × (buffer.new ≡ wroteBuffer channel ended said buffer.old) }
@@ -386,6 +396,7 @@ fn tell_said(said: Said, ended: bool, channel: u32, buffer: &mut [u8]) -> Wrote
 }
 
 // What a message is sent as, where `ended` is whether an End came before it.
+#[tactic(auto, unfolding(crate::specs::Calls::sentAs))]
 fn sent_as(ended: bool, message: Message) -> Sending
     requires { Narrow message }
     ensures { result ≡ sentAs ended message }
@@ -421,6 +432,7 @@ fn output_record(stream: Stream, n: u32) -> Record
 }
 
 // Lays what is sent at the buffer's start, and returns how many bytes of it that has.
+#[tactic(auto, unfolding(crate::specs::Calls::sentBuffer, crate::specs::CallLaws::Roomy, exits::specs::Exit::closed))]
 fn lay_out(out: Sending, channel: u32, buffer: &mut [u8]) -> usize
     requires { Roomy out (length buffer.old) }
     ensures { (result ≡ length_of channel out) × (buffer.new ≡ sentBuffer channel out buffer.old) }

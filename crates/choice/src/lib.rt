@@ -1,11 +1,13 @@
 // Which message comes next, by what a runner's state shows.
+#![tactic(auto)]
+
 ghost use Rattle.std.specs.Prelude.{◌≡◌};
 ghost use Rattle.choice.specs.Order.{order};
 
 use exec::Stream;
 
 // What the runner says next, by what its state shows.
-#[derive(Drop)]
+#[derive(Clone, Copy)]
 pub enum Choice {
     None,
     Credit,
@@ -17,6 +19,7 @@ pub enum Choice {
 }
 
 // The order of messages. `x` is the stream whose turn it is, n1 and n2 are what it and the one that follows can send.
+#[tactic(auto, unfolding(crate::specs::Order::order, crate::specs::Order::ifElse))]
 pub fn order(
     finished: bool,
     detached: bool,

@@ -1,4 +1,6 @@
 // The records of an open channel, RFC 4254, 5.2 and 5.3, read from and written to byte slices. Numbers are big-endian.
+#![tactic(auto)]
+
 ghost use Rattle.std.specs.Prelude.{◌≡◌, ◌∷◌, ◌++◌, ◌+◌, ◌≤◌, length, drop};
 ghost use Rattle.ring.specs.Runs.{copied};
 ghost use Rattle.octets.specs.Bytes.{be32};
@@ -20,7 +22,7 @@ ghost use Rattle.codec.specs.Codec.{
 use exec::Refusal;
 
 // A record but for the bytes of its payload, which stand behind its header.
-#[derive(Drop)]
+#[derive(Clone, Copy)]
 pub enum Record {
     // SSH_MSG_CHANNEL_WINDOW_ADJUST: so many more units of the window.
     Adjust(u32),
@@ -35,14 +37,14 @@ pub enum Record {
 }
 
 // What bytes were read as.
-#[derive(Drop)]
+#[derive(Clone, Copy)]
 pub enum Parsed {
     Read(Record),
     Refused(Refusal),
 }
 
 // How many bytes were written.
-#[derive(Drop)]
+#[derive(Clone, Copy)]
 pub enum Written {
     Bytes(usize),
     Refused(Refusal),
@@ -92,6 +94,7 @@ impl Record {
 // ---- reading
 
 // The record of a kind. Where the bytes end before its number it is read as 0, and its length is refused.
+#[tactic(auto, unfolding(crate::specs::Codec::kinded))]
 fn kinded(kind: u8, bytes: &[u8]) -> Parsed
     ensures { result ≡ kinded kind bytes.now }
 {
@@ -118,6 +121,7 @@ fn is_typed(rec: Record, bytes: &[u8]) -> bool
     }
 }
 
+#[tactic(auto, unfolding(crate::specs::Codec::fitting))]
 fn fitting(rec: Record, bytes: &[u8], channel: u32) -> Parsed
     ensures { result ≡ fitting channel bytes.now rec }
 {
@@ -134,6 +138,7 @@ fn fitting(rec: Record, bytes: &[u8], channel: u32) -> Parsed
     }
 }
 
+#[tactic(auto, unfolding(crate::specs::Codec::checked))]
 fn checked(parsed: Parsed, bytes: &[u8], channel: u32) -> Parsed
     ensures { result ≡ checked channel bytes.now parsed }
 {
@@ -144,6 +149,7 @@ fn checked(parsed: Parsed, bytes: &[u8], channel: u32) -> Parsed
 }
 
 // The record that all of bytes are, for a channel.
+#[tactic(auto, unfolding(crate::specs::Codec::read))]
 pub fn read(bytes: &[u8], channel: u32) -> Parsed
     ensures { result ≡ read channel bytes.now }
 {
@@ -182,6 +188,7 @@ fn put_typed(buffer: &mut [u8], kind: u8, channel: u32, n: u32)
 }
 
 // Writes all of a record but its payload at the buffer's start.
+#[tactic(auto, unfolding(crate::specs::Codec::header))]
 fn put_header(buffer: &mut [u8], channel: u32, rec: Record)
     requires { start rec ≤ length buffer.old }
     ensures { buffer.new ≡ header channel rec ++ drop (start rec) buffer.old }

@@ -1,5 +1,7 @@
 // Answers the cards of standard input, at most 262,144 bytes of them, each ended by a line of four dashes, and ends the answers to
 // each by the same line. The gate runs it on the recorded sample of random cards, whose answers are the Rust's.
+#![tactic(auto)]
+
 ghost use Rattle.std.specs.Prelude.{◌≤◌, length};
 
 use card::feed::Card;

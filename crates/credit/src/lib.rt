@@ -1,2 +1,4 @@
 // The credit of an execution's output pools (credit/sender.rs of the Rust).
+#![tactic(auto)]
+
 pub mod sender;

@@ -5,14 +5,14 @@ ghost use Rattle.credit.specs.Sender.{newCredit, grant, sendable, spent, creditF
 use exec::{Refusal, Reply, Unit};
 
 // The size of a pool's window, and the units of it that the sender may still send.
-#[derive(Drop)]
+#[derive(Clone, Copy)]
 pub struct Credit {
     pub window: u32,
     pub available: u32,
 }
 
 // What a grant leaves, and its answer.
-#[derive(Drop)]
+#[derive(Clone, Copy)]
 pub struct Granting {
     pub credit: Credit,
     pub reply: Reply,

@@ -1,16 +1,18 @@
 // Decimal numbers, read from a text and written into a lent buffer. `0` is 48, `9` is 57.
+#![tactic(auto)]
+
 ghost use Rattle.std.specs.Prelude.{◌≡◌, [], ◌∷◌, ◌+◌, ◌-◌, ◌≤◌, ◌<◌, length, pos, neg_ℤ, nat_abs};
 ghost use Rattle.ring.specs.Runs.{copied};
 ghost use Rattle.decimal.specs.Decimal.{takes, number, startsMinus, signed, digitsOf, signed_of};
 ghost use Rattle.decimal.specs.Answers.{maybeNumber, maybeSigned, AtMost, positive, negative};
 
-#[derive(Drop)]
+#[derive(Clone, Copy)]
 pub enum MaybeNumber {
     None,
     Some(u64),
 }
 
-#[derive(Drop)]
+#[derive(Clone, Copy)]
 pub enum MaybeSigned {
     None,
     Some(i32),

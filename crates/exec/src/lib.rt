@@ -1,5 +1,7 @@
 // What the two sides of an execution agree on (mod.rs of the Rust), in the Rust's order: keys, streams, pools, limits, timers,
 // outcomes, receipts, refusals and deadlines. An Option is an enum `Maybe..` of its own, with the Rust's constructors.
+#![tactic(auto)]
+
 ghost use Rattle.std.specs.Prelude.{◌≡◌, cond, length};
 ghost use Rattle.exec.specs.Key.{newKey, admits};
 ghost use Rattle.exec.specs.Stream.{index, isStdout, isStderr, pick, following};
@@ -30,14 +32,14 @@ ghost use Rattle.exec.specs.Outcome.{
 ghost use Rattle.exec.specs.Refusal.{number};
 
 // The identity of one execution: an identifier, and the generation of its use.
-#[derive(Drop)]
+#[derive(Clone, Copy)]
 pub struct Key {
     pub id: u64,
     pub generation: u64,
 }
 
 // Whose a message's key is: the execution's own, one of an earlier generation, or another's, which is refused.
-#[derive(Drop)]
+#[derive(Clone, Copy)]
 pub enum Admission {
     Own,
     Stale,
@@ -52,6 +54,7 @@ impl Key {
     }
 
     // Checks the key of a message for this execution.
+    #[tactic(auto, unfolding(crate::specs::Key::admits))]
     pub fn admits(self, message: Key) -> Admission
         ensures { result ≡ admits self message }
     {
@@ -69,7 +72,7 @@ impl Key {
 }
 
 // One of the workload's output streams.
-#[derive(Drop)]
+#[derive(Clone, Copy)]
 pub enum Stream {
     Stdout,
     Stderr,
@@ -129,7 +132,7 @@ impl Stream {
 }
 
 // A pool of credit.
-#[derive(Drop)]
+#[derive(Clone, Copy)]
 pub enum Pool {
     Input,
     Stdout,
@@ -138,21 +141,21 @@ pub enum Pool {
 }
 
 // The position of an output pool, or the refusal of one that the limits do not have.
-#[derive(Drop)]
+#[derive(Clone, Copy)]
 pub enum PoolIndex {
     At(usize),
     Refused(Refusal),
 }
 
 // What a pool's credit counts.
-#[derive(Drop)]
+#[derive(Clone, Copy)]
 pub enum Unit {
     Bytes,
     Frames,
 }
 
 // The most units of a pool that may be in flight at once.
-#[derive(Drop)]
+#[derive(Clone, Copy)]
 pub struct Window {
     pub unit: Unit,
     pub size: u32,
@@ -180,6 +183,7 @@ impl Window {
     }
 
     // The units that a data message of `length` bytes costs.
+    #[tactic(auto, unfolding(crate::specs::Limits::cost))]
     pub fn cost(self, length: u32) -> u32
         ensures { result ≡ cost self.unit length }
     {
@@ -191,6 +195,7 @@ impl Window {
     }
 
     // The most data bytes that the window holds with chunks of `chunk` bytes.
+    #[tactic(auto, unfolding(crate::specs::Limits::bytesWith))]
     pub fn bytes_with(self, chunk: u32) -> usize
         ensures { result ≡ bytesWith self.unit self.size chunk }
     {
@@ -204,7 +209,7 @@ impl Window {
 
 // The limits on which both sides agree: the most bytes of a data message, the window of the input and that of each output
 // pool, and whether the output streams share one pool.
-#[derive(Drop)]
+#[derive(Clone, Copy)]
 pub struct Limits {
     pub chunk: u32,
     pub input: Window,
@@ -212,14 +217,14 @@ pub struct Limits {
     pub shared: bool,
 }
 
-#[derive(Drop)]
+#[derive(Clone, Copy)]
 pub enum NewLimits {
     Made(Limits),
     Refused(Refusal),
 }
 
 // The length of a data message, or the refusal of one that is empty or longer than a chunk.
-#[derive(Drop)]
+#[derive(Clone, Copy)]
 pub enum ChunkLength {
     Is(u32),
     Refused(Refusal),
@@ -227,6 +232,7 @@ pub enum ChunkLength {
 
 impl Limits {
     // Limits with one output pool a stream; a chunk or a window of 0 is refused.
+    #[tactic(auto, unfolding(crate::specs::Limits::newLimits))]
     pub fn new(chunk: u32, input: Window, output: Window) -> NewLimits
         ensures { result ≡ newLimits chunk input output }
     {
@@ -306,6 +312,7 @@ impl Limits {
     }
 
     // The checked length of a data message of `length` bytes.
+    #[tactic(auto, unfolding(crate::specs::Limits::checkChunk))]
     pub fn check_chunk(self, length: usize) -> ChunkLength
         ensures { result ≡ checkChunk self length }
     {
@@ -329,7 +336,7 @@ impl Limits {
 }
 
 // A duration in nanoseconds, if there is one.
-#[derive(Drop)]
+#[derive(Clone, Copy)]
 pub enum MaybeDuration {
     None,
     Some(u64),
@@ -337,7 +344,7 @@ pub enum MaybeDuration {
 
 // How long the execution may run, if it is bounded; how long pending output still flows once a termination begins; and how
 // long the execution may then take to settle.
-#[derive(Drop)]
+#[derive(Clone, Copy)]
 pub struct Timers {
     pub timeout: MaybeDuration,
     pub grace: u64,
@@ -380,7 +387,7 @@ impl Timers {
 }
 
 // Why a side ended an execution.
-#[derive(Drop)]
+#[derive(Clone, Copy)]
 pub enum Cause {
     Cancelled,
     Dropped,
@@ -389,54 +396,54 @@ pub enum Cause {
     Disconnected,
 }
 
-#[derive(Drop)]
+#[derive(Clone, Copy)]
 pub enum MaybeCause {
     None,
     Some(Cause),
 }
 
 // How a workload's program ended: by itself with a code, or by a signal.
-#[derive(Drop)]
+#[derive(Clone, Copy)]
 pub enum Status {
     Exited(i32),
     Signaled(i32),
 }
 
-#[derive(Drop)]
+#[derive(Clone, Copy)]
 pub enum MaybeStatus {
     None,
     Some(Status),
 }
 
 // Why a workload's program did not start: the adapter's number of the launch stage, and the error number.
-#[derive(Drop)]
+#[derive(Clone, Copy)]
 pub struct LaunchFailure {
     pub stage: u32,
     pub error: i32,
 }
 
-#[derive(Drop)]
+#[derive(Clone, Copy)]
 pub enum MaybeLaunchFailure {
     None,
     Some(LaunchFailure),
 }
 
 // What the adapter reports of a launch: the Rust's Result<(), LaunchFailure>.
-#[derive(Drop)]
+#[derive(Clone, Copy)]
 pub enum LaunchResult {
     Started,
     Failed(LaunchFailure),
 }
 
 // The result of settling an execution's processes.
-#[derive(Drop)]
+#[derive(Clone, Copy)]
 pub enum Settlement {
     Settled,
     Failed,
 }
 
 // How an execution ended. (An enum holds no array, so the truncation of the two streams is two flags.)
-#[derive(Drop)]
+#[derive(Clone, Copy)]
 pub struct Outcome {
     pub status: MaybeStatus,
     pub cause: MaybeCause,
@@ -524,7 +531,7 @@ impl Outcome {
 }
 
 // What the side did with a message that it accepted.
-#[derive(Drop)]
+#[derive(Clone, Copy)]
 pub enum Receipt {
     Applied,
     Stale,
@@ -532,14 +539,14 @@ pub enum Receipt {
 }
 
 // What a peer's message did, or why it is refused: the Rust's Result<Receipt, Violation>.
-#[derive(Drop)]
+#[derive(Clone, Copy)]
 pub enum Received {
     Receipt(Receipt),
     Refused(Refusal),
 }
 
 // No result, or why there is none: the Rust's Result<(), Violation>.
-#[derive(Drop)]
+#[derive(Clone, Copy)]
 pub enum Reply {
     Ok,
     Refused(Refusal),
@@ -547,7 +554,7 @@ pub enum Reply {
 
 // Why a call is refused: the Rust's Violation, then what the stores, the state, the records, the card and the exit requests add. A refused call
 // changes nothing.
-#[derive(Drop)]
+#[derive(Clone, Copy)]
 pub enum Refusal {
     Key,
     Pool,
@@ -602,7 +609,7 @@ impl Refusal {
 }
 
 // An instant in nanoseconds at which something is due, if there is one: the Rust's Option<Instant>.
-#[derive(Drop)]
+#[derive(Clone, Copy)]
 pub enum Deadline {
     Never,
     At(u64),

@@ -1,4 +1,6 @@
 // How a program ended, on the wire: the requests of RFC 4254, 6.10, exit-status and exit-signal, written before CLOSE, and read.
+#![tactic(auto)]
+
 ghost use Rattle.std.specs.Prelude.{true, false, ◌≡◌, [], ◌∷◌, ◌++◌, ◌+◌, ◌≤◌, length, drop, pos};
 ghost use Rattle.exec.specs.declared.Status.TheVariants.{Exited, Signaled};
 ghost use Rattle.octets.specs.Bytes.{be32, number_at};
@@ -31,7 +33,7 @@ use exec::{MaybeStatus, Refusal, Status};
 use signals::Signal;
 
 // What a request told.
-#[derive(Drop)]
+#[derive(Clone, Copy)]
 pub enum Told {
     // A code from 0 on, or the number of a signal that has a name.
     Status(Status),
@@ -49,6 +51,7 @@ fn is_told(status: Status) -> bool
     }
 }
 
+#[tactic(auto, unfolding(crate::specs::Exit::isTold))]
 fn is_code(code: i32) -> bool
     ensures { result ≡ isTold (Exited code) }
 {
@@ -58,6 +61,7 @@ fn is_code(code: i32) -> bool
     true
 }
 
+#[tactic(auto, unfolding(crate::specs::Exit::isTold))]
 fn is_signal(number: i32) -> bool
     ensures { result ≡ isTold (Signaled number) }
 {
@@ -66,6 +70,7 @@ fn is_signal(number: i32) -> bool
 }
 
 // Whether a status is there that no request tells: a negative code, or a signal that has no name.
+#[tactic(auto, unfolding(crate::specs::Exit::isUntold))]
 pub fn is_untold(status: MaybeStatus) -> bool
     ensures { result ≡ isUntold status }
 {
@@ -89,6 +94,7 @@ fn put_head(buffer: &mut [u8], channel: u32, name: &[u8])
     octets::put_byte(buffer, 20, 0);
 }
 
+#[tactic(auto, unfolding(octets::specs::Text::bytes))]
 fn put_code(buffer: &mut [u8], channel: u32, code: u32)
     requires { 25 ≤ length buffer.old }
     ensures { buffer.new ≡ (head channel (bytes "exit-status") ++ be32 code) ++ drop 25 buffer.old }
@@ -98,6 +104,7 @@ fn put_code(buffer: &mut [u8], channel: u32, code: u32)
 }
 
 // The head, the length of the signal's name, and the name.
+#[tactic(auto, unfolding(octets::specs::Text::bytes))]
 fn put_name(buffer: &mut [u8], channel: u32, signal: Signal)
     requires { Fit signal × (29 ≤ length buffer.old) }
     ensures { buffer.new ≡ (head channel (bytes "exit-signal") ++ string (name_of signal)) ++ drop (25 + signal.length) buffer.old }
@@ -169,6 +176,7 @@ fn close_in(channel: u32, status: MaybeStatus, buffer: &mut [u8]) -> Written
 
 // Writes how a program ended, and CLOSE directly behind it, at the buffer's start: the request of its status, if there is one,
 // has 5 bytes less than what is written. A buffer of 43 bytes takes every ending.
+#[tactic(auto, unfolding(crate::specs::Exit::close))]
 pub fn close(channel: u32, status: MaybeStatus, buffer: &mut [u8]) -> Written
     ensures { writtenAfter result buffer.new ≡ close channel status buffer.old }
 {
@@ -193,6 +201,7 @@ fn is_request(bytes: &[u8], channel: u32, status: Status) -> bool
     octets::same(&own[0..n], bytes)
 }
 
+#[tactic(auto, unfolding(crate::specs::Exit::matching))]
 fn matching(bytes: &[u8], channel: u32, status: Status) -> Told
     requires { isTold status ≡ true }
     ensures { result ≡ matching channel bytes.now status }
@@ -236,6 +245,7 @@ fn read_signal(bytes: &[u8], channel: u32) -> Told
     read_named(bytes, channel, &bytes[25..end])
 }
 
+#[tactic(auto, unfolding(crate::specs::Exit::guess))]
 fn read_form(bytes: &[u8], channel: u32) -> Told
     ensures { result ≡ matching channel bytes.now (guess bytes.now) }
 {
@@ -253,6 +263,7 @@ fn is_mine(bytes: &[u8], channel: u32) -> bool
 }
 
 // The status that all of bytes tell, as one request for a channel.
+#[tactic(auto, unfolding(crate::specs::Exit::read))]
 pub fn read(bytes: &[u8], channel: u32) -> Told
     ensures { result ≡ read channel bytes.now }
 {

@@ -4,7 +4,7 @@ ghost use Rattle.exits.specs.Signals.{signals, nobody, isNamed, signalOf, signal
 ghost use Rattle.exits.specs.SignalLaws.{Fit};
 
 // A signal by Linux's number: the first `length` bytes of `name` are its name in RFC 4254, 6.10.
-#[derive(Drop)]
+#[derive(Clone, Copy)]
 pub struct Signal {
     pub number: u32,
     pub length: usize,
@@ -90,6 +90,7 @@ fn nobody() -> Signal
     }
 }
 
+#[tactic(auto, unfolding(octets::specs::Text::bytes))]
 fn signal_at(i: usize) -> Signal
     requires { i < 13 }
     ensures { (result ≡ get_or signals i nobody) × Fit result }
@@ -97,6 +98,7 @@ fn signal_at(i: usize) -> Signal
     SIGNALS[i]
 }
 
+#[tactic(auto, unfolding(crate::specs::Signals::signalOf, crate::specs::Signals::find))]
 fn signal_of(number: u32) -> Signal
     ensures { result ≡ signalOf number }
 {
@@ -112,6 +114,7 @@ fn signal_of(number: u32) -> Signal
 }
 
 // The signal of an i32: a negative number is no signal's.
+#[tactic(auto, unfolding(crate::specs::Signals::signalFor))]
 pub(crate) fn signal_for(number: i32) -> Signal
     ensures { result ≡ signalFor number }
 {
@@ -132,6 +135,7 @@ impl Signal {
     }
 }
 
+#[tactic(auto, unfolding(crate::specs::Signals::signalNamed, crate::specs::Signals::find))]
 pub(crate) fn signal_named(name: &[u8]) -> Signal
     ensures { result ≡ signalNamed name.now }
 {

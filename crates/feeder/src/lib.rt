@@ -1,4 +1,6 @@
 // Feeds a card with pieces of its input and writes its answers to standard output, for the programs that read cards.
+#![tactic(auto)]
+
 ghost use Rattle.std.specs.Prelude.{◌≡◌, length};
 
 use card::feed::Card;
@@ -6,7 +8,7 @@ use libc::STDOUT_FILENO;
 use ring::smaller;
 
 // The card after a piece, and whether all of the piece was eaten and answered.
-#[derive(Drop)]
+#[derive(Clone, Copy)]
 pub struct Fed {
     pub card: Card,
     pub more: bool,

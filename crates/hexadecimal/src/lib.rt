@@ -1,10 +1,12 @@
 // Bytes in lowercase hexadecimal, two digits a byte, read from a text and written into a lent buffer.
+#![tactic(auto)]
+
 ghost use Rattle.std.specs.Prelude.{◌≡◌, true, ◌++◌, ◌+◌, ◌*◌, ◌/◌, ◌≤◌, ◌<◌, length, drop};
 ghost use Rattle.ring.specs.Runs.{copied};
 ghost use Rattle.hexadecimal.specs.Hexadecimal.{isHex, areHex, arePairs, hexValue, hexDigit, hexOf, pairs, unhex};
 ghost use Rattle.hexadecimal.specs.Answers.{maybeLength, unhexInto};
 
-#[derive(Drop)]
+#[derive(Clone, Copy)]
 pub enum MaybeLength {
     None,
     Some(usize),
@@ -32,6 +34,7 @@ fn are_hex(text: &[u8]) -> bool
     good
 }
 
+#[tactic(auto, unfolding(crate::specs::Hexadecimal::arePairs))]
 fn are_pairs(text: &[u8]) -> bool
     ensures { result ≡ arePairs text.now }
 {

@@ -1,1 +1,2 @@
 // A program that hangs: a library of theorems over the runner's definitions, in specs/ and proofs/. It has no code of its own.
+#![tactic(auto)]

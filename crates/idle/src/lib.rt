@@ -1,1 +1,2 @@
 // Idle ticks: a library of theorems over the runner's definitions, in specs/ and proofs/. It has no code of its own.
+#![tactic(auto)]

@@ -1,5 +1,7 @@
 // The receiver's side of the input: the bytes that it holds for its consumer stand in the byte store, behind the rings of the
 // output streams, and in Frames the bytes left of each frame in the length store.
+#![tactic(auto)]
+
 ghost use Rattle.std.specs.Prelude.{◌≡◌, ◌+◌, ◌≤◌, length};
 ghost use Rattle.inbox.specs.Inbox.{
   newInbox,
@@ -23,7 +25,7 @@ pub mod need;
 pub mod receiver;
 
 // `length` bytes from `start` of their ring, and the lengths of `frames` frames from `first` of theirs.
-#[derive(Drop)]
+#[derive(Clone, Copy)]
 pub struct Inbox {
     pub start: usize,
     pub length: usize,
@@ -32,7 +34,7 @@ pub struct Inbox {
 }
 
 // What a pop leaves, and the units that it frees.
-#[derive(Drop)]
+#[derive(Clone, Copy)]
 pub struct Popping {
     pub inbox: Inbox,
     pub freed: u32,
@@ -83,6 +85,7 @@ impl Inbox {
     }
 
     // Counts a message of n bytes, and in Frames appends its length.
+    #[tactic(auto, unfolding(crate::specs::Inbox::pushedFrame))]
     fn push_frame(self, window: Window, lengths: &mut [u32], n: usize) -> Inbox
         requires { FrameRoom window self n lengths.old }
         ensures { frameAfter result lengths.new ≡ pushedFrame window self n lengths.old }
@@ -137,6 +140,7 @@ impl Inbox {
     }
 
     // The units that n bytes free, the frames that they finish removed.
+    #[tactic(auto, unfolding(crate::specs::Inbox::popUnits))]
     fn pop_units(self, window: Window, lengths: &mut [u32], n: usize) -> Popping
         requires { Slots window self n lengths.old }
         ensures { popAfter result lengths.new ≡ popUnits window self n lengths.old }

@@ -5,21 +5,21 @@ ghost use Rattle.inbox.specs.Receiver.{newGranted, charge, freed, takeGrant, uni
 use exec::{Refusal, Reply};
 
 // The units that the sender may still send, and those that the consumer freed, or that were never granted, to be granted next.
-#[derive(Drop)]
+#[derive(Clone, Copy)]
 pub struct Granted {
     pub open: u32,
     pub returnable: u32,
 }
 
 // What a charge leaves, and its answer.
-#[derive(Drop)]
+#[derive(Clone, Copy)]
 pub struct Charging {
     pub granted: Granted,
     pub reply: Reply,
 }
 
 // What taking a grant leaves, and its units; none where they are 0.
-#[derive(Drop)]
+#[derive(Clone, Copy)]
 pub struct Taking {
     pub granted: Granted,
     pub units: u32,

@@ -1,4 +1,6 @@
 // The workload's standard input, as the runner receives and writes it.
+#![tactic(auto)]
+
 ghost use Rattle.std.specs.Prelude.{◌≡◌, false, ◌+◌, ◌<◌, ◌^◌, length};
 ghost use Rattle.exec.specs.Limits.{cost, checkChunk, offChunk};
 ghost use Rattle.inbox.specs.Range.{Waiting};
@@ -27,7 +29,7 @@ use exec::{ChunkLength, Limits, Receipt, Received, Refusal, Reply};
 use inbox::Inbox;
 use inbox::receiver::{Charging, Granted};
 
-#[derive(Drop)]
+#[derive(Clone, Copy)]
 pub struct Input {
     // The bytes that the peer sent and the workload has not taken.
     pub inbox: Inbox,
@@ -44,14 +46,14 @@ pub struct Input {
 }
 
 // What a message of the peer's leaves, and its answer.
-#[derive(Drop)]
+#[derive(Clone, Copy)]
 pub struct Receiving {
     pub input: Input,
     pub received: Received,
 }
 
 // What is left once credit is taken, and its units.
-#[derive(Drop)]
+#[derive(Clone, Copy)]
 pub struct Crediting {
     pub input: Input,
     pub units: u32,
@@ -232,6 +234,7 @@ impl Input {
     }
 
     // Takes the end of the input from the peer.
+    #[tactic(auto, unfolding(crate::specs::Input::endInput, crate::specs::Input::endAnswer))]
     pub fn end(self) -> Receiving
         ensures { result ≡ inputEnded self }
     {
@@ -257,6 +260,7 @@ impl Input {
     }
 
     // The bytes that the adapter writes to the workload next, as many as stand in one run: a part of the byte store.
+    #[tactic(auto, unfolding(crate::specs::Input::pendingInput))]
     pub fn pending<'a>(self, limits: Limits, store: &'a [u8]) -> &'a [u8]
         requires { Waiting limits self.inbox store.now }
         ensures { result.now ≡ pendingInput limits self store.now }
@@ -269,6 +273,7 @@ impl Input {
     }
 
     // Notes how many of the waiting bytes the workload took, whose units are granted again.
+    #[tactic(auto, unfolding(inbox::specs::Inbox::pop))]
     pub fn written(self, limits: Limits, lengths: &mut [u32], count: usize) -> Input
         requires { Writable limits self lengths.old }
         ensures { writtenAfter result lengths.new ≡ written limits self count lengths.old }

@@ -5,7 +5,7 @@ ghost use Rattle.lifecycle.specs.Clocks.{terminateClocks, stopWaiting, giveUpBy,
 
 use exec::Deadline;
 
-#[derive(Drop)]
+#[derive(Clone, Copy)]
 pub struct Clocks {
     // When the workload's timeout passes, while it runs.
     pub timeout_at: Deadline,

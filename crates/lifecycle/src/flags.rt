@@ -1,5 +1,5 @@
 // The runner's marks: the messages and requests that wait, and what it did once and for all.
-#[derive(Drop)]
+#[derive(Clone, Copy)]
 pub struct Flags {
     // The message that the workload started waits.
     pub started_message: bool,

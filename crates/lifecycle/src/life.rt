@@ -30,7 +30,7 @@ use exec::{
 };
 
 // The workload's launch result, once it arrived.
-#[derive(Drop)]
+#[derive(Clone, Copy)]
 pub enum Launch {
     Awaited,
     Started,
@@ -69,7 +69,7 @@ impl Launch {
 }
 
 // The workload's end, once it is known; its status may be lost. The Rust's Option<Option<Status>>.
-#[derive(Drop)]
+#[derive(Clone, Copy)]
 pub enum Exit {
     Running,
     Ended(MaybeStatus),
@@ -107,7 +107,7 @@ impl Exit {
 
 // Where the settlement of the execution stands: not requested; requested, with the instant by which its result is expected;
 // settled; or fenced, as it failed or came too late.
-#[derive(Drop)]
+#[derive(Clone, Copy)]
 pub enum Settling {
     Idle,
     Requested(Deadline),
@@ -221,7 +221,7 @@ impl Settling {
     }
 }
 
-#[derive(Drop)]
+#[derive(Clone, Copy)]
 pub struct Life {
     pub exit: Exit,
     // Why the runner ended the workload, if it did.

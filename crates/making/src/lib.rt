@@ -1,4 +1,6 @@
 // A call made of a runner, through the runner's own calls, and its answer.
+#![tactic(auto)]
+
 ghost use Rattle.std.specs.Prelude.{◌≡◌, [], ◌++◌, ◌≤◌, ◌<◌, length, take, drop};
 ghost use Rattle.calls.specs.Call as Calls;
 ghost use Rattle.account.specs.Step.{replied, receivedAs, asks, waits, answer};
@@ -16,14 +18,14 @@ use runner::runner::Runner;
 use syntax::{Call, Question, Timed};
 
 // The runner after a call, and the answer.
-#[derive(Drop)]
+#[derive(Clone, Copy)]
 pub struct Making {
     pub runner: Runner,
     pub answer: Answer,
 }
 
 // A call's own time, if it has one.
-#[derive(Drop)]
+#[derive(Clone, Copy)]
 pub enum MaybeTime {
     None,
     At(u64),
@@ -166,6 +168,7 @@ fn waits(refusal: u32, pending: &[u8], work: &mut [u8]) -> Answer
     Answer::Refused(refusal)
 }
 
+#[tactic(auto, unfolding(account::specs::Step::answer))]
 fn pending_input(runner: Runner, store: &[u8], work: &mut [u8]) -> Answer
     requires { length store.now ≤ length work.old }
     ensures { answerIs result work.new ≡ answer (state_of runner store.now []) Calls.pendingInput }
@@ -177,6 +180,7 @@ fn pending_input(runner: Runner, store: &[u8], work: &mut [u8]) -> Answer
 
 // ---- a call by its kind
 
+#[tactic(auto, unfolding(account::specs::Step::answer))]
 fn ask(runner: Runner, question: Question, store: &[u8], work: &mut [u8]) -> Answer
     requires { length store.now ≤ length work.old }
     ensures { Tells runner store.now (questionIs question) result work.new }
@@ -194,6 +198,7 @@ fn ask(runner: Runner, question: Question, store: &[u8], work: &mut [u8]) -> Ans
     }
 }
 
+#[tactic(auto, unfolding(account::specs::Step::next, account::specs::Step::answer))]
 fn timed(runner: Runner, now: u64, call: Timed) -> Making
     ensures { Moves runner (timedIs now call) result }
 {
@@ -208,6 +213,7 @@ fn timed(runner: Runner, now: u64, call: Timed) -> Making
 }
 
 // (The stores are those that the runner was opened with.)
+#[tactic(auto, unfolding(account::specs::Step::next, account::specs::Step::answer))]
 pub fn make(
     runner: Runner,
     call: Call,

@@ -1,4 +1,6 @@
 // Numbers in bytes: a u32 read and written as four of them, the most significant first; bytes moved within a buffer, and compared.
+#![tactic(auto)]
+
 ghost use Rattle.std.specs.Prelude.{◌≡◌, [], ◌∷◌, ◌+◌, ◌≤◌, ◌<◌, ◌^◌, length};
 ghost use Rattle.ring.specs.Runs.{copied};
 ghost use Rattle.octets.specs.Bytes.{be32, be32At, number_at};
@@ -11,6 +13,7 @@ fn wide(x: u8) -> u32
 }
 
 // The number whose four bytes stand at index at.
+#[tactic(auto, unfolding(crate::specs::Bytes::be32At))]
 pub fn get_be32(s: &[u8], at: usize) -> u32
     requires { at + 4 ≤ length s.now }
     ensures { result ≡ be32At s.now at }
@@ -19,6 +22,7 @@ pub fn get_be32(s: &[u8], at: usize) -> u32
 }
 
 // The same, and 0 where the bytes end before it does.
+#[tactic(auto, unfolding(crate::specs::Bytes::number_at))]
 pub fn number_at(s: &[u8], at: usize) -> u32
     requires { at + 4 < 2 ^ 64 }
     ensures { result ≡ number_at s.now at }

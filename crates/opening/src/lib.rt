@@ -1,4 +1,6 @@
 // The first line, which opens a runner: its fields by their places.
+#![tactic(auto)]
+
 ghost use Rattle.std.specs.Prelude.{◌≡◌, cond, ◌+◌, ◌≤◌, ◌<◌, eqb, length, drop};
 ghost use Rattle.syntax.specs.Words.{unit};
 ghost use Rattle.opening.specs.Open.{at, timeout, window, lineOpen, isOpen, limitsOf, timersOf, openingOf};
@@ -16,7 +18,7 @@ use reading::words::{MaybeFlag, MaybeUnit};
 use reading::{fields, words};
 
 // What open is given beside the stores.
-#[derive(Drop)]
+#[derive(Clone, Copy)]
 pub struct Opening {
     pub key: Key,
     pub limits: Limits,
@@ -24,25 +26,25 @@ pub struct Opening {
     pub now: u64,
 }
 
-#[derive(Drop)]
+#[derive(Clone, Copy)]
 pub enum MaybeOpening {
     None,
     Some(Opening),
 }
 
-#[derive(Drop)]
+#[derive(Clone, Copy)]
 pub(crate) enum MaybeWindow {
     None,
     Some(Window),
 }
 
-#[derive(Drop)]
+#[derive(Clone, Copy)]
 pub(crate) enum MaybeLimits {
     None,
     Some(Limits),
 }
 
-#[derive(Drop)]
+#[derive(Clone, Copy)]
 pub(crate) enum MaybeTimers {
     None,
     Some(Timers),
@@ -50,7 +52,7 @@ pub(crate) enum MaybeTimers {
 
 // ---- a timeout: missing, never, or a number
 
-#[derive(Drop)]
+#[derive(Clone, Copy)]
 pub(crate) enum FoundTimeout {
     None,
     Some(MaybeDuration),
@@ -59,6 +61,7 @@ pub(crate) enum FoundTimeout {
 // How long a program may run whose TIMEOUT is missing, in nanoseconds.
 const HOUR: u64 = 3600000000000;
 
+#[tactic(auto, unfolding(crate::specs::Open::timeout, syntax::specs::Words::bytes))]
 fn timeout(field: &[u8]) -> FoundTimeout
     ensures { timeoutIs result ≡ timeout field.now }
 {
@@ -98,6 +101,7 @@ fn count(line: &[u8]) -> usize
 }
 
 // Where the text behind the first field begins; the text's end, where there is one field only.
+#[tactic(auto, unfolding(crate::specs::PlaceLaws::behindOf))]
 fn behind(text: &[u8]) -> usize
     ensures { (result ≡ behindOf text.now) × (result ≤ length text.now) }
 {
@@ -134,6 +138,7 @@ fn end(line: &[u8], i: usize) -> usize
 
 // ---- the fields at places
 
+#[tactic(auto, unfolding(crate::specs::Open::isOpen, syntax::specs::Words::bytes))]
 fn is_open(line: &[u8]) -> bool
     requires { length line.now ≤ 65535 }
     ensures { result ≡ isOpen (fields line.now) }
@@ -197,6 +202,7 @@ fn window_at(line: &[u8], k: usize) -> MaybeWindow
 }
 
 // Fields 4 to 9.
+#[tactic(auto, unfolding(crate::specs::Open::limitsOf))]
 fn limits(line: &[u8]) -> MaybeLimits
     ensures { limitsIs result ≡ limitsOf (fields line.now) }
 {
@@ -216,6 +222,7 @@ fn limits(line: &[u8]) -> MaybeLimits
 }
 
 // Fields 10 to 12.
+#[tactic(auto, unfolding(crate::specs::Open::timersOf))]
 fn timers(line: &[u8]) -> MaybeTimers
     ensures { timersIs result ≡ timersOf (fields line.now) }
 {
@@ -235,6 +242,7 @@ fn timers(line: &[u8]) -> MaybeTimers
     })
 }
 
+#[tactic(auto, unfolding(crate::specs::Open::openingOf))]
 fn opening_of(line: &[u8]) -> MaybeOpening
     ensures { openingIs result ≡ openingOf (fields line.now) }
 {
@@ -262,6 +270,7 @@ fn opening_of(line: &[u8]) -> MaybeOpening
 }
 
 // open,NOW,ID,GENERATION,CHUNK,UNIT,SIZE,UNIT,SIZE,SHARED,TIMEOUT,GRACE,SETTLEMENT
+#[tactic(auto, unfolding(crate::specs::Open::openOf))]
 pub fn open_of(line: &[u8]) -> MaybeOpening
     requires { length line.now ≤ 65535 }
     ensures { openingIs result ≡ lineOpen line.now }

@@ -1,4 +1,6 @@
 // One output stream, as the runner reads and sends it. Its queue is a ring of a chunk in the byte store.
+#![tactic(auto)]
+
 ghost use Rattle.std.specs.Prelude.{◌≡◌, cond, ◌+◌, ◌≤◌, ◌<◌, ◌^◌, length, ltb};
 ghost use Rattle.output.specs.Output.{
   newOutput,
@@ -28,7 +30,7 @@ use inbox::ring_fits;
 
 pub mod outputs;
 
-#[derive(Drop)]
+#[derive(Clone, Copy)]
 pub struct Output {
     // Where the queue begins in its ring.
     pub start: u32,
@@ -49,7 +51,7 @@ pub struct Output {
 }
 
 // How many bytes were taken, and the stream after that.
-#[derive(Drop)]
+#[derive(Clone, Copy)]
 pub struct Intake {
     pub taken: usize,
     pub output: Output,
@@ -202,6 +204,7 @@ impl Output {
     }
 
     // Takes bytes that were read: as many as the allowance, or all of them to drop where the stream is discarded.
+    #[tactic(auto, unfolding(crate::specs::Output::takenIn))]
     pub fn take_in(
         self,
         gave_up: bool,
@@ -226,6 +229,7 @@ impl Output {
     }
 
     // Sends the first n queued bytes: they go to the start of `buffer`, and off the queue.
+    #[tactic(auto, unfolding(crate::specs::Output::sent))]
     pub fn send(
         mut self,
         store: &[u8],
@@ -255,6 +259,7 @@ impl Output {
     }
 
     // Whether the queue is within its ring.
+    #[tactic(auto, unfolding(crate::specs::Output::outputFits))]
     pub fn fits(self, chunk: u32) -> bool
         ensures { result ≡ outputFits chunk self }
     {

@@ -1,4 +1,6 @@
 // The fields of an answer written as text into a lent area, and an answer's parts by their kinds.
+#![tactic(auto)]
+
 ghost use Rattle.std.specs.Prelude.{◌≡◌, [], ◌∷◌, ◌++◌, ◌+◌, ◌≤◌, length, take};
 ghost use Rattle.decimal.specs.Decimal.{digitsOf, signed_of};
 ghost use Rattle.hexadecimal.specs.Hexadecimal.{hexOf};
@@ -69,6 +71,7 @@ fn put_hex(bytes: &[u8], out: &mut [u8], at: usize) -> usize
     hexadecimal::write(bytes, out, at)
 }
 
+#[tactic(auto, unfolding(syntax::specs::Words::bytes))]
 fn put_flag(b: bool, out: &mut [u8], at: usize) -> usize
     requires { at + 1 ≤ length out.old }
     ensures { Wrote 1 out.old out.new at result (flag b) }
@@ -79,6 +82,7 @@ fn put_flag(b: bool, out: &mut [u8], at: usize) -> usize
     put_byte(48, out, at)
 }
 
+#[tactic(auto, unfolding(syntax::specs::Words::bytes))]
 fn put_stream(stream: Stream, out: &mut [u8], at: usize) -> usize
     requires { at + 6 ≤ length out.old }
     ensures { Wrote 6 out.old out.new at result (streamName stream) }
@@ -89,6 +93,7 @@ fn put_stream(stream: Stream, out: &mut [u8], at: usize) -> usize
     }
 }
 
+#[tactic(auto, unfolding(syntax::specs::Words::bytes))]
 fn put_cause(cause: Cause, out: &mut [u8], at: usize) -> usize
     requires { at + 12 ≤ length out.old }
     ensures { Wrote 12 out.old out.new at result (causeName cause) }
@@ -102,6 +107,7 @@ fn put_cause(cause: Cause, out: &mut [u8], at: usize) -> usize
     }
 }
 
+#[tactic(auto, unfolding(syntax::specs::Words::bytes))]
 fn put_maybe_cause(cause: MaybeCause, out: &mut [u8], at: usize) -> usize
     requires { at + 12 ≤ length out.old }
     ensures { Wrote 12 out.old out.new at result (causeText cause) }
@@ -121,6 +127,7 @@ fn put_lettered(letter: u8, n: i32, out: &mut [u8], at: usize) -> usize
     put_signed(n, out, m)
 }
 
+#[tactic(auto, unfolding(syntax::specs::Words::bytes))]
 fn put_status(status: Status, out: &mut [u8], at: usize) -> usize
     requires { at + 22 ≤ length out.old }
     ensures { Wrote 13 out.old out.new at result (statusText (MaybeStatus.Some status)) }
@@ -131,6 +138,7 @@ fn put_status(status: Status, out: &mut [u8], at: usize) -> usize
     }
 }
 
+#[tactic(auto, unfolding(syntax::specs::Words::bytes))]
 fn put_maybe_status(status: MaybeStatus, out: &mut [u8], at: usize) -> usize
     requires { at + 22 ≤ length out.old }
     ensures { Wrote 13 out.old out.new at result (statusText status) }
@@ -141,6 +149,7 @@ fn put_maybe_status(status: MaybeStatus, out: &mut [u8], at: usize) -> usize
     }
 }
 
+#[tactic(auto, unfolding(syntax::specs::Words::bytes))]
 fn put_failure(failure: LaunchFailure, out: &mut [u8], at: usize) -> usize
     requires { at + 42 ≤ length out.old }
     ensures { Wrote 33 out.old out.new at result (failureText (MaybeLaunchFailure.Some failure)) }
@@ -150,6 +159,7 @@ fn put_failure(failure: LaunchFailure, out: &mut [u8], at: usize) -> usize
     put_signed(failure.error, out, m2)
 }
 
+#[tactic(auto, unfolding(syntax::specs::Words::bytes))]
 fn put_maybe_failure(failure: MaybeLaunchFailure, out: &mut [u8], at: usize) -> usize
     requires { at + 42 ≤ length out.old }
     ensures { Wrote 33 out.old out.new at result (failureText failure) }
@@ -162,6 +172,7 @@ fn put_maybe_failure(failure: MaybeLaunchFailure, out: &mut [u8], at: usize) -> 
 
 // ---- answers by their kind: a word of at most 12 bytes, a number or a name, bytes
 
+#[tactic(auto, unfolding(syntax::specs::Words::bytes))]
 pub fn alone(name: &[u8], out: &mut [u8], at: usize) -> usize
     requires { (length name.now ≤ 12) × (at + 16 ≤ length out.old) }
     ensures { Wrote 16 out.old out.new at result (word name.now) }
@@ -170,6 +181,7 @@ pub fn alone(name: &[u8], out: &mut [u8], at: usize) -> usize
     put(b",-,-", out, m)
 }
 
+#[tactic(auto, unfolding(syntax::specs::Words::bytes))]
 pub fn with_number(name: &[u8], n: u64, out: &mut [u8], at: usize) -> usize
     requires { (length name.now ≤ 12) × (at + 35 ≤ length out.old) }
     ensures { Wrote 35 out.old out.new at result (counted name.now n) }
@@ -180,6 +192,7 @@ pub fn with_number(name: &[u8], n: u64, out: &mut [u8], at: usize) -> usize
     put(b",-", out, m3)
 }
 
+#[tactic(auto, unfolding(syntax::specs::Words::bytes))]
 pub fn with_stream(name: &[u8], stream: Stream, out: &mut [u8], at: usize) -> usize
     requires { (length name.now ≤ 12) × (at + 35 ≤ length out.old) }
     ensures { Wrote 35 out.old out.new at result (three name.now (streamName stream) dash) }
@@ -190,6 +203,7 @@ pub fn with_stream(name: &[u8], stream: Stream, out: &mut [u8], at: usize) -> us
     put(b",-", out, m3)
 }
 
+#[tactic(auto, unfolding(syntax::specs::Words::bytes))]
 pub fn with_cause(name: &[u8], cause: Cause, out: &mut [u8], at: usize) -> usize
     requires { (length name.now ≤ 12) × (at + 35 ≤ length out.old) }
     ensures { Wrote 35 out.old out.new at result (three name.now (causeName cause) dash) }
@@ -200,6 +214,7 @@ pub fn with_cause(name: &[u8], cause: Cause, out: &mut [u8], at: usize) -> usize
     put(b",-", out, m3)
 }
 
+#[tactic(auto, unfolding(syntax::specs::Words::bytes))]
 pub fn with_flag(name: &[u8], b: bool, out: &mut [u8], at: usize) -> usize
     requires { (length name.now ≤ 12) × (at + 35 ≤ length out.old) }
     ensures { Wrote 35 out.old out.new at result (three name.now (flag b) dash) }
@@ -210,6 +225,7 @@ pub fn with_flag(name: &[u8], b: bool, out: &mut [u8], at: usize) -> usize
     put(b",-", out, m3)
 }
 
+#[tactic(auto, unfolding(syntax::specs::Words::bytes))]
 fn with_bytes(name: &[u8], bytes: &[u8], out: &mut [u8], at: usize) -> usize
     requires { (length name.now ≤ 12) × (length bytes.now ≤ 65536) × (at + 131106 ≤ length out.old) }
     ensures { Wrote 131106 out.old out.new at result (filled name.now bytes.now) }
@@ -230,6 +246,7 @@ pub fn with_first(name: &[u8], n: usize, work: &[u8], out: &mut [u8], at: usize)
     with_bytes(name, &work[0..k], out, at)
 }
 
+#[tactic(auto, unfolding(syntax::specs::Words::bytes))]
 pub fn put_output(stream: Stream, n: usize, work: &[u8], out: &mut [u8], at: usize) -> usize
     requires { (length work.now ≤ 65536) × (at + 131106 ≤ length out.old) }
     ensures { Wrote 131106 out.old out.new at result (filled (streamName stream) (take n work.now)) }
@@ -242,6 +259,7 @@ pub fn put_output(stream: Stream, n: usize, work: &[u8], out: &mut [u8], at: usi
 
 // ---- a terminal outcome, in three parts
 
+#[tactic(auto, unfolding(syntax::specs::Words::bytes))]
 fn put_ended(outcome: Outcome, out: &mut [u8], at: usize) -> usize
     requires { at + 60 ≤ length out.old }
     ensures { Wrote 39 out.old out.new at result
@@ -255,6 +273,7 @@ fn put_ended(outcome: Outcome, out: &mut [u8], at: usize) -> usize
     put_maybe_cause(cause, out, m3)
 }
 
+#[tactic(auto, unfolding(syntax::specs::Words::bytes))]
 fn put_flags(outcome: Outcome, out: &mut [u8], at: usize) -> usize
     requires { at + 4 ≤ length out.old }
     ensures { Wrote 4 out.old out.new at result
@@ -266,6 +285,7 @@ fn put_flags(outcome: Outcome, out: &mut [u8], at: usize) -> usize
     put_flag(outcome.reusable, out, m3)
 }
 
+#[tactic(auto, unfolding(syntax::specs::Words::bytes))]
 pub fn put_outcome(outcome: Outcome, out: &mut [u8], at: usize) -> usize
     requires { at + 131106 ≤ length out.old }
     ensures { Wrote 131106 out.old out.new at result (outcomeText outcome) }
@@ -280,6 +300,7 @@ pub fn put_outcome(outcome: Outcome, out: &mut [u8], at: usize) -> usize
 
 // ---- a deadline
 
+#[tactic(auto, unfolding(syntax::specs::Words::bytes))]
 pub fn put_time(time: Deadline, out: &mut [u8], at: usize) -> usize
     requires { at + 131106 ≤ length out.old }
     ensures { Wrote 131106 out.old out.new at result (timeText time) }

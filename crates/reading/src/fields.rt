@@ -19,7 +19,7 @@ pub fn wide(field: &[u8]) -> MaybeNumber
     decimal::read(field, 18446744073709551615)
 }
 
-#[derive(Drop)]
+#[derive(Clone, Copy)]
 pub enum MaybeU32 {
     None,
     Some(u32),
@@ -56,7 +56,7 @@ pub(crate) fn integer(field: &[u8]) -> MaybeSigned
 
 // ---- a key: its id and its generation
 
-#[derive(Drop)]
+#[derive(Clone, Copy)]
 pub enum MaybeKey {
     None,
     Some(Key),
@@ -77,7 +77,7 @@ pub(crate) fn key(id: &[u8], generation: &[u8]) -> MaybeKey
 // ---- a status: E or S with a number, or missing
 
 // None where the field is no status.
-#[derive(Drop)]
+#[derive(Clone, Copy)]
 pub enum FoundStatus {
     None,
     Some(MaybeStatus),
@@ -130,7 +130,7 @@ pub(crate) fn status(field: &[u8]) -> FoundStatus
 
 // ---- a launch result: OK 0 with nothing else, or 1 with stage and error
 
-#[derive(Drop)]
+#[derive(Clone, Copy)]
 pub enum FoundLaunch {
     None,
     Some(LaunchResult),
@@ -157,6 +157,7 @@ fn started(stage: &[u8], error: &[u8]) -> FoundLaunch
     FoundLaunch::None
 }
 
+#[tactic(auto, unfolding(syntax::specs::Lines::launchResult))]
 pub(crate) fn launch_result(ok: &[u8], stage: &[u8], error: &[u8]) -> FoundLaunch
     ensures { launchIs result ≡ launchResult ok.now stage.now error.now }
 {

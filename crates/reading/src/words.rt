@@ -7,31 +7,31 @@ ghost use Rattle.reading.specs.Naming.{placeAmong};
 
 use exec::{Cause, MaybeCause, Pool, Settlement, Stream, Unit};
 
-#[derive(Drop)]
+#[derive(Clone, Copy)]
 pub enum MaybeStream {
     None,
     Some(Stream),
 }
 
-#[derive(Drop)]
+#[derive(Clone, Copy)]
 pub enum MaybePool {
     None,
     Some(Pool),
 }
 
-#[derive(Drop)]
+#[derive(Clone, Copy)]
 pub enum MaybeSettlement {
     None,
     Some(Settlement),
 }
 
-#[derive(Drop)]
+#[derive(Clone, Copy)]
 pub enum MaybeUnit {
     None,
     Some(Unit),
 }
 
-#[derive(Drop)]
+#[derive(Clone, Copy)]
 pub enum MaybeFlag {
     None,
     Some(bool),
@@ -40,6 +40,7 @@ pub enum MaybeFlag {
 // ---- the place of a field among names: the first that it is; how many they are where it is none. (Each name is an argument of
 // its own: so the compiler knows its bytes, and a name of another length costs one comparison.)
 
+#[tactic(auto, unfolding(crate::specs::Naming::placeNamed))]
 pub(crate) fn place2(field: &[u8], a: &[u8], b: &[u8]) -> usize
     ensures { result ≡ placeAmong field.now (a.now ∷ b.now ∷ []) }
 {
@@ -52,6 +53,7 @@ pub(crate) fn place2(field: &[u8], a: &[u8], b: &[u8]) -> usize
     2
 }
 
+#[tactic(auto, unfolding(crate::specs::Naming::placeNamed))]
 pub(crate) fn place4(field: &[u8], a: &[u8], b: &[u8], c: &[u8], d: &[u8]) -> usize
     ensures { result ≡ placeAmong field.now (a.now ∷ b.now ∷ c.now ∷ d.now ∷ []) }
 {
@@ -70,6 +72,7 @@ pub(crate) fn place4(field: &[u8], a: &[u8], b: &[u8], c: &[u8], d: &[u8]) -> us
     4
 }
 
+#[tactic(auto, unfolding(crate::specs::Naming::placeNamed))]
 pub(crate) fn place5(field: &[u8], a: &[u8], b: &[u8], c: &[u8], d: &[u8], e: &[u8]) -> usize
     ensures { result ≡ placeAmong field.now (a.now ∷ b.now ∷ c.now ∷ d.now ∷ e.now ∷ []) }
 {
@@ -93,6 +96,7 @@ pub(crate) fn place5(field: &[u8], a: &[u8], b: &[u8], c: &[u8], d: &[u8], e: &[
 
 // ---- words
 
+#[tactic(auto, unfolding(syntax::specs::Words::bytes, crate::specs::Naming::Beyond, crate::specs::Naming::placeNamed, crate::specs::Naming::standsAt))]
 pub(crate) fn stream(field: &[u8]) -> MaybeStream
     ensures { streamIs result ≡ stream field.now }
 {
@@ -104,6 +108,7 @@ pub(crate) fn stream(field: &[u8]) -> MaybeStream
     }
 }
 
+#[tactic(auto, unfolding(syntax::specs::Words::bytes, crate::specs::Naming::Beyond, crate::specs::Naming::placeNamed, crate::specs::Naming::standsAt))]
 pub(crate) fn pool(field: &[u8]) -> MaybePool
     ensures { poolIs result ≡ pool field.now }
 {
@@ -117,6 +122,7 @@ pub(crate) fn pool(field: &[u8]) -> MaybePool
     }
 }
 
+#[tactic(auto, unfolding(syntax::specs::Words::bytes, crate::specs::Naming::Beyond, crate::specs::Naming::placeNamed, crate::specs::Naming::standsAt))]
 pub(crate) fn cause(field: &[u8]) -> MaybeCause
     ensures { causeIs result ≡ cause field.now }
 {
@@ -138,6 +144,7 @@ pub(crate) fn cause(field: &[u8]) -> MaybeCause
     }
 }
 
+#[tactic(auto, unfolding(syntax::specs::Words::bytes, crate::specs::Naming::Beyond, crate::specs::Naming::placeNamed, crate::specs::Naming::standsAt))]
 pub(crate) fn settlement(field: &[u8]) -> MaybeSettlement
     ensures { settlementIs result ≡ settlement field.now }
 {
@@ -149,6 +156,7 @@ pub(crate) fn settlement(field: &[u8]) -> MaybeSettlement
     }
 }
 
+#[tactic(auto, unfolding(syntax::specs::Words::bytes, crate::specs::Naming::Beyond, crate::specs::Naming::placeNamed, crate::specs::Naming::standsAt))]
 pub fn unit(field: &[u8]) -> MaybeUnit
     ensures { unitIs result ≡ unit field.now }
 {
@@ -160,6 +168,7 @@ pub fn unit(field: &[u8]) -> MaybeUnit
     }
 }
 
+#[tactic(auto, unfolding(syntax::specs::Words::bytes))]
 pub fn missing(field: &[u8]) -> bool
     ensures { result ≡ missing field.now }
 {
@@ -167,6 +176,7 @@ pub fn missing(field: &[u8]) -> bool
 }
 
 // 0 or 1.
+#[tactic(auto, unfolding(syntax::specs::Words::bytes, syntax::specs::Words::named, syntax::specs::Lines::digit, crate::specs::Naming::Beyond, crate::specs::Naming::placeNamed, crate::specs::Naming::standsAt))]
 pub fn flag(field: &[u8]) -> MaybeFlag
     ensures { flagIs result ≡ digit field.now }
 {

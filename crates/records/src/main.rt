@@ -1,5 +1,7 @@
 // Channel records read and written over running sessions, one line a step. What is expected was worked out by hand from the
 // layouts of RFC 4254, 5.2, 5.3 and 6.10, and from the stops of documents 01 and 02.
+#![tactic(auto)]
+
 mod channel5;
 mod exit;
 mod openssh;

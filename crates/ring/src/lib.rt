@@ -1,6 +1,8 @@
 // Rings of bytes and of frame lengths, in stores that the caller lends. A ring is `size` places of a store: of bytes from
 // index `base` on, of lengths from index 0 on. Its oldest element stands at place `start`, and past the last place it goes
 // on at place 0. A start is below the size, but for a ring of size 0, whose start is 0.
+#![tactic(auto)]
+
 ghost use Rattle.std.specs.Prelude.{◌≡◌, ◌++◌, ◌+◌, ◌≤◌, ◌<◌, min, length, take, drop, set};
 ghost use Rattle.ring.specs.Runs.{copied};
 ghost use Rattle.ring.specs.Ring.{wrap, firstRun, ringRead, ringWrite};
@@ -78,6 +80,7 @@ pub fn copy_in(dst: &mut [u8], at: usize, src: &[u8], from: usize, n: usize)
 }
 
 // Appends the first n of bytes to a ring that holds `count`.
+#[tactic(auto, unfolding(crate::specs::Ring::ringWrite, crate::specs::Ring::ringFrom))]
 pub fn push(
     store: &mut [u8],
     base: usize,

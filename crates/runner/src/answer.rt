@@ -3,7 +3,7 @@ use crate::runner::Runner;
 use exec::{Cause, Deadline, Key, Limits, Outcome, Received, Refusal, Reply, Stream};
 
 // A message from the runner to the peer.
-#[derive(Drop)]
+#[derive(Clone, Copy)]
 pub enum Message {
     // So many more units of the input's window.
     Credit(u32),
@@ -20,7 +20,7 @@ pub enum Message {
 }
 
 // A request to the adapter, made once.
-#[derive(Drop)]
+#[derive(Clone, Copy)]
 pub enum Request {
     // End the workload.
     Terminate(Cause),
@@ -33,86 +33,86 @@ pub enum Request {
 }
 
 // After a call with no result.
-#[derive(Drop)]
+#[derive(Clone, Copy)]
 pub struct Noting {
     pub runner: Runner,
     pub reply: Reply,
 }
 
 // After a message of the peer's.
-#[derive(Drop)]
+#[derive(Clone, Copy)]
 pub struct Hearing {
     pub runner: Runner,
     pub received: Received,
 }
 
 // How many bytes output took.
-#[derive(Drop)]
+#[derive(Clone, Copy)]
 pub enum Taken {
     Bytes(usize),
     Refused(Refusal),
 }
 
-#[derive(Drop)]
+#[derive(Clone, Copy)]
 pub struct Taking {
     pub runner: Runner,
     pub taken: Taken,
 }
 
 // The next request, if one waits.
-#[derive(Drop)]
+#[derive(Clone, Copy)]
 pub enum Asked {
     None,
     Request(Request),
     Refused(Refusal),
 }
 
-#[derive(Drop)]
+#[derive(Clone, Copy)]
 pub struct Asking {
     pub runner: Runner,
     pub asked: Asked,
 }
 
 // The next message, if one waits.
-#[derive(Drop)]
+#[derive(Clone, Copy)]
 pub enum Said {
     None,
     Message(Message),
     Refused(Refusal),
 }
 
-#[derive(Drop)]
+#[derive(Clone, Copy)]
 pub struct Saying {
     pub runner: Runner,
     pub said: Said,
 }
 
 // What is asked of a runner without changing it.
-#[derive(Drop)]
+#[derive(Clone, Copy)]
 pub enum Count {
     Is(usize),
     Refused(Refusal),
 }
 
-#[derive(Drop)]
+#[derive(Clone, Copy)]
 pub enum Truth {
     Is(bool),
     Refused(Refusal),
 }
 
-#[derive(Drop)]
+#[derive(Clone, Copy)]
 pub enum When {
     Is(Deadline),
     Refused(Refusal),
 }
 
-#[derive(Drop)]
+#[derive(Clone, Copy)]
 pub enum KeyAnswer {
     Is(Key),
     Refused(Refusal),
 }
 
-#[derive(Drop)]
+#[derive(Clone, Copy)]
 pub enum LimitsAnswer {
     Is(Limits),
     Refused(Refusal),

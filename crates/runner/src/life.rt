@@ -72,6 +72,7 @@ impl Runner {
     }
 
     // The workload's input closed, other than by the runner's request.
+    #[tactic(auto, unfolding(crate::specs::Life::closeRunnerInput))]
     pub(crate) fn close_input(mut self) -> Runner
         ensures { result ≡ closeRunnerInput self }
     {
@@ -82,6 +83,7 @@ impl Runner {
     }
 
     // Ends the grace of pending output.
+    #[tactic(auto, unfolding(crate::specs::Life::endGrace))]
     fn end_grace(mut self) -> Runner
         ensures { result ≡ endGrace self }
     {
@@ -95,6 +97,7 @@ impl Runner {
     }
 
     // Gives up on the execution after a termination.
+    #[tactic(auto, unfolding(crate::specs::Life::giveUp))]
     fn give_up(mut self) -> Runner
         ensures { result ≡ giveUp self }
     {
@@ -113,6 +116,7 @@ impl Runner {
     }
 
     // Gives up on the launch result, and fences the execution.
+    #[tactic(auto, unfolding(crate::specs::Life::abandonLaunch))]
     fn abandon_launch(mut self) -> Runner
         ensures { result ≡ abandonLaunch self }
     {
@@ -124,6 +128,7 @@ impl Runner {
     }
 
     // Gives up on the streams that neither closed nor hung up.
+    #[tactic(auto, unfolding(crate::specs::Life::abandonOpenStreams))]
     fn abandon_open_streams(mut self) -> Runner
         ensures { result ≡ abandonOpenStreams self }
     {
@@ -136,6 +141,7 @@ impl Runner {
         self
     }
 
+    #[tactic(auto, unfolding(crate::specs::Life::beginTermination))]
     fn begin_termination(mut self, now: u64, cause: Cause) -> Runner
         ensures { result ≡ beginTermination self now cause }
     {
@@ -152,6 +158,7 @@ impl Runner {
     }
 
     // Ends the workload if it still runs, and begins the grace of pending output, unless a termination began already.
+    #[tactic(auto, unfolding(crate::specs::Life::terminate))]
     pub(crate) fn terminate(self, now: u64, cause: Cause) -> Runner
         ensures { result ≡ terminate self now cause }
     {
@@ -164,6 +171,7 @@ impl Runner {
 
     // The timers, each if it is due.
 
+    #[tactic(auto, unfolding(crate::specs::Life::passTimeout))]
     fn pass_timeout(mut self, now: u64) -> Runner
         ensures { result ≡ passTimeout self now }
     {
@@ -177,6 +185,7 @@ impl Runner {
         self
     }
 
+    #[tactic(auto, unfolding(crate::specs::Life::passGrace))]
     fn pass_grace(self, now: u64) -> Runner
         ensures { result ≡ passGrace self now }
     {
@@ -188,6 +197,7 @@ impl Runner {
         self
     }
 
+    #[tactic(auto, unfolding(crate::specs::Life::passSettlement))]
     fn pass_settlement(mut self, now: u64) -> Runner
         ensures { result ≡ passSettlement self now }
     {
@@ -197,6 +207,7 @@ impl Runner {
         self
     }
 
+    #[tactic(auto, unfolding(crate::specs::Life::passGiveUp))]
     fn pass_give_up(self, now: u64) -> Runner
         ensures { result ≡ passGiveUp self now }
     {
@@ -208,6 +219,7 @@ impl Runner {
         self
     }
 
+    #[tactic(auto, unfolding(crate::specs::Life::giveUpUnlessClean))]
     fn give_up_unless_clean(mut self) -> Runner
         ensures { result ≡ giveUpUnlessClean self }
     {
@@ -220,6 +232,7 @@ impl Runner {
         self.give_up()
     }
 
+    #[tactic(auto, unfolding(crate::specs::Life::dropLaunch))]
     fn drop_launch(self) -> Runner
         ensures { result ≡ dropLaunch self }
     {
@@ -229,6 +242,7 @@ impl Runner {
         self
     }
 
+    #[tactic(auto, unfolding(crate::specs::Life::dropStreams))]
     fn drop_streams(self) -> Runner
         ensures { result ≡ dropStreams self }
     {
@@ -240,6 +254,7 @@ impl Runner {
         self
     }
 
+    #[tactic(auto, unfolding(crate::specs::Life::passAbandonment))]
     fn pass_abandonment(self, now: u64) -> Runner
         ensures { result ≡ passAbandonment self now }
     {
@@ -254,6 +269,7 @@ impl Runner {
 
     // The timers in their order. Several calls share it, so that it is not made a part of each, and a call with nothing due
     // does not enter it.
+    #[tactic(auto, unfolding(crate::specs::Life::fire))]
     pub(crate) fn fire(self, now: u64) -> Runner
         ensures { result ≡ fire self now }
     {
@@ -284,6 +300,7 @@ impl Runner {
         self
     }
 
+    #[tactic(auto, unfolding(crate::specs::Life::deadlineOf))]
     pub(crate) fn deadline_of(self) -> Deadline
         ensures { result ≡ deadlineOf self }
     {
@@ -301,6 +318,7 @@ impl Runner {
     }
 
     // The peer's cancellation, of a runner that has ticked.
+    #[tactic(auto, unfolding(crate::specs::Life::cancelled))]
     pub(crate) fn cancel_now(self, now: u64, cause: Cause) -> Hearing
         ensures { result ≡ cancelled self now cause }
     {
@@ -318,6 +336,7 @@ impl Runner {
     }
 
     // The launch result.
+    #[tactic(auto, unfolding(crate::specs::Life::launchedNext))]
     pub(crate) fn launch(self, res: LaunchResult) -> Runner
         ensures { result ≡ launchedNext self res }
     {
@@ -327,6 +346,7 @@ impl Runner {
         self
     }
 
+    #[tactic(auto, unfolding(crate::specs::Life::noteLaunch))]
     fn note_launch(mut self, res: LaunchResult) -> Runner
         ensures { result ≡ noteLaunch self res }
     {
@@ -341,6 +361,7 @@ impl Runner {
         }
     }
 
+    #[tactic(auto, unfolding(crate::specs::Life::noteStarted))]
     fn note_started(mut self) -> Runner
         ensures { result ≡ noteStarted self }
     {
@@ -353,6 +374,7 @@ impl Runner {
     }
 
     // The workload's end.
+    #[tactic(auto, unfolding(crate::specs::Life::exitedNext))]
     pub(crate) fn exit(self, now: u64, status: MaybeStatus) -> Runner
         ensures { result ≡ exitedNext self now status }
     {
@@ -361,6 +383,7 @@ impl Runner {
         b.note_exit_once(now, status)
     }
 
+    #[tactic(auto, unfolding(crate::specs::Life::noteExitOnce))]
     fn note_exit_once(self, now: u64, status: MaybeStatus) -> Runner
         ensures { result ≡ noteExitOnce self now status }
     {
@@ -379,6 +402,7 @@ impl Runner {
         exit.is_known() | self.flags.gave_up
     }
 
+    #[tactic(auto, unfolding(crate::specs::Life::noteExit))]
     fn note_exit(mut self, now: u64, status: MaybeStatus) -> Runner
         ensures { result ≡ noteExit self now status }
     {
@@ -404,6 +428,7 @@ impl Runner {
     }
 
     // The result of the settlement, if one is awaited.
+    #[tactic(auto, unfolding(crate::specs::Life::settledNext))]
     pub(crate) fn settle(mut self, res: Settlement) -> Runner
         ensures { result ≡ settledNext self res }
     {
@@ -414,6 +439,7 @@ impl Runner {
     }
 
     // Detaches the runner from the peer.
+    #[tactic(auto, unfolding(crate::specs::Life::detachNext))]
     pub(crate) fn detach(self, now: u64, cause: Cause) -> Runner
         ensures { result ≡ detachNext self now cause }
     {
@@ -421,6 +447,7 @@ impl Runner {
         r.cut_off_once(now, cause)
     }
 
+    #[tactic(auto, unfolding(crate::specs::Life::cutOffOnce))]
     fn cut_off_once(self, now: u64, cause: Cause) -> Runner
         ensures { result ≡ cutOffOnce self now cause }
     {
@@ -430,6 +457,7 @@ impl Runner {
         self.cut_off(now, cause)
     }
 
+    #[tactic(auto, unfolding(crate::specs::Life::cutOff))]
     fn cut_off(self, now: u64, cause: Cause) -> Runner
         ensures { result ≡ cutOff self now cause }
     {
@@ -439,6 +467,7 @@ impl Runner {
         c.give_up_soon(now)
     }
 
+    #[tactic(auto, unfolding(crate::specs::Life::silenced))]
     fn set_detached(mut self) -> Runner
         ensures { result ≡ silenced self }
     {
@@ -450,6 +479,7 @@ impl Runner {
         self
     }
 
+    #[tactic(auto, unfolding(crate::specs::Life::giveUpSoon))]
     fn give_up_soon(mut self, now: u64) -> Runner
         ensures { result ≡ giveUpSoon self now }
     {
@@ -460,6 +490,7 @@ impl Runner {
     }
 
     // Whether everything that the outcome reports is known.
+    #[tactic(auto, unfolding(crate::specs::Life::isReady))]
     pub(crate) fn is_ready(self) -> bool
         ensures { result ≡ isReady self }
     {
@@ -472,6 +503,7 @@ impl Runner {
         ((!self.awaits_launch() & exit.is_known()) & delivered) & over
     }
 
+    #[tactic(auto, unfolding(crate::specs::Life::outcomeOf))]
     pub(crate) fn outcome(self) -> Outcome
         ensures { result ≡ outcomeOf self }
     {

@@ -31,7 +31,7 @@ use output::Output;
 use output::outputs::{output_in, put_output};
 
 // What the runner asks of the adapter next.
-#[derive(Drop)]
+#[derive(Clone, Copy)]
 pub enum Wish {
     None,
     Request(Request),
@@ -39,6 +39,7 @@ pub enum Wish {
 
 impl Runner {
     // How many bytes of a stream one message may carry now.
+    #[tactic(auto, unfolding(crate::specs::Message::sendableOf))]
     fn sendable_of(self, buffer: usize, stream: Stream) -> u32
         ensures { result ≡ sendableOf self buffer stream }
     {
@@ -63,6 +64,7 @@ impl Runner {
         output.is_done() & !output.ended
     }
 
+    #[tactic(auto, unfolding(crate::specs::Message::choose))]
     fn choose(self, buffer: usize) -> Choice
         requires { InRange self }
         ensures { result ≡ choose self buffer }
@@ -119,6 +121,7 @@ impl Runner {
     }
 
     // What is said.
+    #[tactic(auto, unfolding(crate::specs::Message::saidFor))]
     fn said(self, choice: Choice) -> Said
         ensures { result ≡ saidFor choice self }
     {
@@ -141,6 +144,7 @@ impl Runner {
     }
 
     // The runner once it is said. It is changed in place and handed back at one place, so that saying nothing copies nothing.
+    #[tactic(auto, unfolding(crate::specs::Message::say, crate::specs::Message::effect, crate::specs::Message::bufferAfter))]
     pub(crate) fn say(mut self, choice: Choice, store: &[u8], buffer: &mut [u8]) -> Runner
         requires { Sayable choice self store.now buffer.old }
         ensures { sayAfter result buffer.new ≡ say choice self store.now buffer.old }
@@ -187,6 +191,7 @@ impl Runner {
     }
 
     // The accounts once the cost of n bytes of a stream is spent.
+    #[tactic(auto, unfolding(crate::specs::Message::outputPaid))]
     fn paid(self, stream: Stream, n: u32) -> [Credit; 2]
         requires { Payable self stream n }
         ensures { result ≡ (outputPaid stream n self).credits }
@@ -215,6 +220,7 @@ impl Runner {
     }
 
     // What is asked for next.
+    #[tactic(auto, unfolding(crate::specs::Message::wish))]
     pub(crate) fn wish(self) -> Wish
         ensures { result ≡ wish self }
     {
@@ -275,6 +281,7 @@ fn turn_after(stream: Stream) -> u8
 }
 
 // The order of requests.
+#[tactic(auto, unfolding(crate::specs::Message::wishFor))]
 fn wish_for(cause: MaybeCause, discard0: bool, discard1: bool, close: bool, settle: bool) -> Wish
     ensures { result ≡ wishFor cause discard0 discard1 close settle }
 {

@@ -35,6 +35,7 @@ pub(crate) fn unopened(limits: Limits) -> Refusal
 
 impl Runner {
     // Whether queues, starts, credit, units and turn are in their ranges.
+    #[tactic(auto, unfolding(crate::specs::Range::in_range))]
     pub(crate) fn in_range(self) -> bool
         ensures { result ≡ in_range self }
     {
@@ -54,6 +55,7 @@ impl Runner {
     // limits and the stores; and the outputs, the accounts and the turn, for limits that are valid. One function of both would be too
     // large for the compiler to make it a part of every call, and would copy the runner for each. The inbox comes first: its test
     // goes by the unit, and what was tested before it would have to be kept over the branch.
+    #[tactic(auto, unfolding(crate::specs::RangeLaws::agrees))]
     pub(crate) fn agrees(self, stores: bool) -> bool
         ensures { result ≡ agrees self stores }
     {
@@ -64,6 +66,7 @@ impl Runner {
         (inbox.within(limits, window) & limits.is_valid()) & stores
     }
 
+    #[tactic(auto, unfolding(crate::specs::RangeLaws::stands))]
     pub(crate) fn stands(self) -> bool
         ensures { result ≡ stands self }
     {
@@ -76,6 +79,7 @@ impl Runner {
     }
 
     // Which of the three, of a call that meets one.
+    #[tactic(auto, unfolding(crate::specs::RangeLaws::stopped))]
     pub(crate) fn stopped(self) -> Refusal
         ensures { result ≡ stopped self }
     {
@@ -87,6 +91,7 @@ impl Runner {
     }
 
     // The reply of a call with no result, given whether it meets none of the three.
+    #[tactic(auto, unfolding(crate::specs::RangeLaws::stopIf))]
     pub(crate) fn reply(self, good: bool) -> Reply
         ensures { result ≡ stopIf good self }
     {

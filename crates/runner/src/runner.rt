@@ -62,7 +62,7 @@ use lifecycle::life::{Exit, Launch, Life, Settling};
 use output::Output;
 use output::outputs::{output_in, put_output};
 
-#[derive(Drop)]
+#[derive(Clone, Copy)]
 pub struct Runner {
     pub key: Key,
     pub limits: Limits,
@@ -113,6 +113,7 @@ impl Runner {
         }
     }
 
+    #[tactic(auto, unfolding(crate::specs::Range::fresh))]
     fn fresh(key: Key, limits: Limits, timers: Timers, now: u64) -> Runner
         ensures { result ≡ fresh key limits timers now }
     {
@@ -158,6 +159,7 @@ impl Runner {
     }
 
     // The execution's key.
+    #[tactic(auto, unfolding(crate::specs::Calls::key))]
     pub fn key(self) -> KeyAnswer
         ensures { result ≡ key self }
     {
@@ -169,6 +171,7 @@ impl Runner {
     }
 
     // The limits that both sides agreed on.
+    #[tactic(auto, unfolding(crate::specs::Calls::limits))]
     pub fn limits(self) -> LimitsAnswer
         ensures { result ≡ limits self }
     {
@@ -220,6 +223,7 @@ impl Runner {
     }
 
     // The end of the workload's input from the peer.
+    #[tactic(auto, unfolding(crate::specs::Calls::endInput))]
     pub fn end_input(self, key: Key) -> Hearing
         ensures { result ≡ endInput self key }
     {
@@ -233,6 +237,7 @@ impl Runner {
     // The peer's cancellation: it ends the workload for `cause`, and begins the grace of its pending output. Late once a
     // termination began or the execution ended; nothing at all for a stale key.
     // Its answers are all given here: a function below would copy the runner once more.
+    #[tactic(auto, unfolding(crate::specs::Calls::cancel))]
     pub fn cancel(self, now: u64, key: Key, cause: Cause) -> Hearing
         ensures { result ≡ cancel self now key cause }
     {
@@ -275,6 +280,7 @@ impl Runner {
     }
 
     // The workload's launch result. Only the first counts, and none once the runner gave up on it.
+    #[tactic(auto, unfolding(crate::specs::Calls::launched))]
     pub fn launched(self, res: LaunchResult) -> Noting
         ensures { result ≡ launched self res }
     {
@@ -289,6 +295,7 @@ impl Runner {
     }
 
     // How many more bytes of a stream may be read and handed over with `output`.
+    #[tactic(auto, unfolding(crate::specs::Calls::readAllowance))]
     pub fn read_allowance(self, stream: Stream) -> Count
         ensures { result ≡ readAllowance self stream }
     {
@@ -327,6 +334,7 @@ impl Runner {
     }
 
     // So many bytes of a stream were read and dropped, which truncates it unless there were none.
+    #[tactic(auto, unfolding(crate::specs::Calls::discarded))]
     pub fn discarded(self, stream: Stream, bytes: usize) -> Noting
         ensures { result ≡ discarded self stream bytes }
     {
@@ -341,6 +349,7 @@ impl Runner {
     }
 
     // Every writer of a stream closed it.
+    #[tactic(auto, unfolding(crate::specs::Calls::outputClosed))]
     pub fn output_closed(self, stream: Stream) -> Noting
         ensures { result ≡ outputClosed self stream }
     {
@@ -355,6 +364,7 @@ impl Runner {
     }
 
     // Reading a stream failed, which ends and truncates it.
+    #[tactic(auto, unfolding(crate::specs::Calls::outputFailed))]
     pub fn output_failed(self, stream: Stream) -> Noting
         ensures { result ≡ outputFailed self stream }
     {
@@ -369,6 +379,7 @@ impl Runner {
     }
 
     // Every writer of a stream closed it, though it is not read to its end.
+    #[tactic(auto, unfolding(crate::specs::Calls::outputHungUp))]
     pub fn output_hung_up(self, stream: Stream) -> Noting
         ensures { result ≡ outputHungUp self stream }
     {
@@ -418,6 +429,7 @@ impl Runner {
     }
 
     // The workload's input closed, other than by the runner's request.
+    #[tactic(auto, unfolding(crate::specs::Calls::inputClosed))]
     pub fn input_closed(self) -> Noting
         ensures { result ≡ inputClosed self }
     {
@@ -432,6 +444,7 @@ impl Runner {
     }
 
     // The workload's end, with its status unless that is lost. Only the first counts.
+    #[tactic(auto, unfolding(crate::specs::Calls::exited))]
     pub fn exited(self, now: u64, status: MaybeStatus) -> Noting
         ensures { result ≡ exited self now status }
     {
@@ -446,6 +459,7 @@ impl Runner {
     }
 
     // The result of the settlement that was requested.
+    #[tactic(auto, unfolding(crate::specs::Calls::settled))]
     pub fn settled(self, res: Settlement) -> Noting
         ensures { result ≡ settled self res }
     {
@@ -460,6 +474,7 @@ impl Runner {
     }
 
     // Ends the workload, as the adapter abandons the execution, and detaches the runner from the peer.
+    #[tactic(auto, unfolding(crate::specs::Calls::dropped))]
     pub fn dropped(self, now: u64) -> Noting
         ensures { result ≡ dropped self now }
     {
@@ -474,6 +489,7 @@ impl Runner {
     }
 
     // Ends the workload, as the session with the peer was reset, and detaches the runner from the peer.
+    #[tactic(auto, unfolding(crate::specs::Calls::reset))]
     pub fn reset(self, now: u64) -> Noting
         ensures { result ≡ reset self now }
     {
@@ -488,6 +504,7 @@ impl Runner {
     }
 
     // Ends the workload, as the transport to the peer was lost, and detaches the runner from the peer.
+    #[tactic(auto, unfolding(crate::specs::Calls::disconnect))]
     pub fn disconnect(self, now: u64) -> Noting
         ensures { result ≡ disconnect self now }
     {
@@ -531,6 +548,7 @@ impl Runner {
     }
 
     // When the next timer fires.
+    #[tactic(auto, unfolding(crate::specs::Calls::deadline))]
     pub fn deadline(self) -> When
         ensures { result ≡ deadline self }
     {
@@ -541,6 +559,7 @@ impl Runner {
     }
 
     // The next request to apply to the workload, if one waits.
+    #[tactic(auto, unfolding(crate::specs::Calls::nextRequest, crate::specs::Message::wishEffect))]
     pub fn next_request(self) -> Asking
         ensures { result ≡ nextRequest self }
     {
@@ -583,6 +602,7 @@ impl Runner {
     }
 
     // Whether the terminal outcome was returned.
+    #[tactic(auto, unfolding(crate::specs::Calls::isFinished))]
     pub fn is_finished(self) -> Truth
         ensures { result ≡ isFinished self }
     {
@@ -593,6 +613,7 @@ impl Runner {
     }
 
     // Whether the runner is detached from the peer.
+    #[tactic(auto, unfolding(crate::specs::Calls::isDetached))]
     pub fn is_detached(self) -> Truth
         ensures { result ≡ isDetached self }
     {
@@ -603,6 +624,7 @@ impl Runner {
     }
 
     // Whether the result of the settlement is awaited.
+    #[tactic(auto, unfolding(crate::specs::Calls::awaitsSettlement))]
     pub fn awaits_settlement(self) -> Truth
         ensures { result ≡ awaitsSettlement self }
     {
@@ -615,6 +637,7 @@ impl Runner {
     }
 
     // The most bytes that the runner holds at once.
+    #[tactic(auto, unfolding(crate::specs::Calls::memoryBound))]
     pub fn memory_bound(self) -> Count
         ensures { result ≡ memoryBound self }
     {
@@ -626,6 +649,7 @@ impl Runner {
     }
 
     // The bytes that the runner holds now.
+    #[tactic(auto, unfolding(crate::specs::Calls::buffered))]
     pub fn buffered(self) -> Count
         ensures { result ≡ buffered self }
     {
@@ -636,6 +660,7 @@ impl Runner {
     }
 
     // The most bytes that the runner has held at once.
+    #[tactic(auto, unfolding(crate::specs::Calls::highWater))]
     pub fn high_water(self) -> Count
         ensures { result ≡ highWater self }
     {

@@ -32,7 +32,7 @@ use output::outputs::{output_in, put_output};
 
 // What credit moves of the runner, and its answer. Such parts are handed back, and not the runner, as the grant has several ways
 // to end: each would copy the runner, and the caller could not leave it where it is.
-#[derive(Drop)]
+#[derive(Clone, Copy)]
 pub struct Accounting {
     pub credits: [Credit; 2],
     pub received: Received,
@@ -101,6 +101,7 @@ impl Runner {
         (output.closed | self.flags.gave_up) | output.discarding
     }
 
+    #[tactic(auto, unfolding(crate::specs::Streams::readAllowanceOf))]
     pub(crate) fn allowance(self, stream: Stream) -> usize
         requires { InRange self }
         ensures { result ≡ readAllowanceOf self stream }
@@ -113,6 +114,7 @@ impl Runner {
 
     // What the adapter reports of a stream.
 
+    #[tactic(auto, unfolding(crate::specs::Streams::discardedNext))]
     pub(crate) fn discard_output(mut self, stream: Stream, bytes: usize) -> Runner
         ensures { result ≡ discardedNext self stream bytes }
     {
@@ -123,6 +125,7 @@ impl Runner {
         self
     }
 
+    #[tactic(auto, unfolding(crate::specs::Streams::closedNext))]
     pub(crate) fn close_output(mut self, stream: Stream) -> Runner
         ensures { result ≡ closedNext self stream }
     {
@@ -133,6 +136,7 @@ impl Runner {
         self
     }
 
+    #[tactic(auto, unfolding(crate::specs::Streams::failedNext))]
     pub(crate) fn fail_output(mut self, stream: Stream) -> Runner
         ensures { result ≡ failedNext self stream }
     {
@@ -143,6 +147,7 @@ impl Runner {
         self
     }
 
+    #[tactic(auto, unfolding(crate::specs::Streams::hungUpNext))]
     pub(crate) fn hang_up_output(mut self, stream: Stream) -> Runner
         ensures { result ≡ hungUpNext self stream }
     {
@@ -154,6 +159,7 @@ impl Runner {
     }
 
     // The peer's credit: what becomes of the accounts.
+    #[tactic(auto, unfolding(crate::specs::Calls::credit))]
     pub(crate) fn account_for(self, key: Key, pool: Pool, units: u32) -> Accounting
         ensures { result ≡ accountingOf (credit self key pool units) }
     {
@@ -170,6 +176,7 @@ impl Runner {
         }
     }
 
+    #[tactic(auto, unfolding(crate::specs::Streams::creditAnswer, crate::specs::Streams::creditNext))]
     fn grant_as(self, admission: Admission, pool: PoolIndex, units: u32) -> Accounting
         ensures { result ≡ record { credits = (creditNext admission pool self units).credits; received = creditAnswer admission pool self units } }
     {
@@ -187,6 +194,7 @@ impl Runner {
         }
     }
 
+    #[tactic(auto, unfolding(crate::specs::Streams::creditIn, crate::specs::Streams::creditNext))]
     fn grant_in(self, pool: PoolIndex, units: u32) -> Accounting
         ensures { result ≡ record { credits = (creditNext Admission.Own pool self units).credits; received = creditIn pool self units } }
     {
@@ -200,6 +208,7 @@ impl Runner {
         }
     }
 
+    #[tactic(auto, unfolding(crate::specs::Streams::creditIn, crate::specs::Streams::creditNext))]
     fn grant_at(self, index: usize, units: u32) -> Accounting
         ensures { result ≡ record { credits = (creditNext Admission.Own (PoolIndex.At index) self units).credits; received = creditIn (PoolIndex.At index) self units } }
     {
@@ -223,6 +232,7 @@ impl Runner {
     }
 
     // The peer's end of the input.
+    #[tactic(auto, unfolding(crate::specs::Streams::endAnswer, crate::specs::Streams::endNext))]
     pub(crate) fn end_as(self, admission: Admission) -> Hearing
         ensures { result ≡ record { runner = endNext admission self; received = endAnswer admission self } }
     {
@@ -239,6 +249,7 @@ impl Runner {
         }
     }
 
+    #[tactic(auto, unfolding(crate::specs::Streams::endAnswer, crate::specs::Streams::endNext))]
     fn end(mut self) -> Hearing
         ensures { result ≡ record { runner = endNext Admission.Own self; received = endAnswer Admission.Own self } }
     {

@@ -1,4 +1,6 @@
 // Reads a session card from standard input, in pieces, and prints its answers. All that matters is crate card.
+#![tactic(auto)]
+
 ghost use Rattle.std.specs.Prelude.{◌<◌};
 
 use card::feed::Card;

@@ -1,4 +1,6 @@
 // Where a session stands, and what one line makes of it: the first opens a runner, a later one makes a call of it.
+#![tactic(auto)]
+
 ghost use Rattle.std.specs.Prelude.{◌≡◌, false, ◌+◌, ◌-◌, ◌≤◌, ◌<◌, length};
 ghost use Rattle.std.proofs.Math.Option.{some};
 ghost use Rattle.syntax.specs.Lines.{zeros, lineCall};
@@ -18,14 +20,14 @@ use runner::runner::Runner;
 use syntax::Call;
 
 // Where a session stands: before its first line; with a runner; or without one, where every line is 30.
-#[derive(Drop)]
+#[derive(Clone, Copy)]
 pub enum Stage {
     First,
     Running,
     Over,
 }
 
-#[derive(Drop)]
+#[derive(Clone, Copy)]
 pub struct Standing {
     pub stage: Stage,
     pub runner: Runner,
@@ -34,7 +36,7 @@ pub struct Standing {
 }
 
 // Where the session stands after a line, and the line's answer.
-#[derive(Drop)]
+#[derive(Clone, Copy)]
 pub struct Answered {
     pub standing: Standing,
     pub answer: Answer,
@@ -106,6 +108,7 @@ impl Standing {
     // ---- the first line
 
     // The stores are cleared for a runner that opened.
+    #[tactic(auto, unfolding(crate::specs::Standing::placed))]
     fn opened_by(
         self,
         runner: Runner,
@@ -153,6 +156,7 @@ impl Standing {
         self.opened_by(runner, reply, opening.now, store, lengths)
     }
 
+    #[tactic(auto, unfolding(grammar::specs::Feed::first))]
     fn first(self, line: &[u8], store: &mut [u8], lengths: &mut [u32]) -> Answered
         requires { (length line.now ≤ 65535) × (length store.old ≡ 65536) × (length lengths.old ≡ 1024) }
         ensures { AnswersFirst (first (lineOpen line.now)) self (stores store.old lengths.old)
@@ -191,6 +195,7 @@ impl Standing {
         Answered { standing, answer }
     }
 
+    #[tactic(auto, unfolding(grammar::specs::Feed::later, crate::specs::Standing::placed))]
     fn call(self, call: Call, store: &mut [u8], lengths: &mut [u32], work: &mut [u8]) -> Answered
         requires { (length store.old ≡ 65536) × (length work.old ≡ 65536) }
         ensures { Answers (laterAt (some (callIs call work.old))) self (stores store.old lengths.old)
@@ -212,6 +217,7 @@ impl Standing {
         self.make(call, time, store, lengths, work)
     }
 
+    #[tactic(auto, unfolding(grammar::specs::Feed::later))]
     fn later(self, line: &[u8], store: &mut [u8], lengths: &mut [u32], work: &mut [u8]) -> Answered
         requires { (length line.now ≤ 65535) × (length store.old ≡ 65536) × (length work.old ≡ 65536) }
         ensures { Answers (laterAt (lineCall line.now)) self (stores store.old lengths.old)
@@ -225,6 +231,7 @@ impl Standing {
 
     // ---- any line
 
+    #[tactic(auto, unfolding(grammar::specs::Feed::answered))]
     fn answered(
         self,
         line: &[u8],
@@ -245,6 +252,7 @@ impl Standing {
     }
 
     // A line of more than 65,535 bytes is refused whole; it is the first line where it stands first.
+    #[tactic(auto, unfolding(grammar::specs::Feed::tooLong))]
     fn too_long(self) -> Answered
         ensures { AnswersAny tooLongAt self result }
     {
@@ -256,6 +264,7 @@ impl Standing {
         }
     }
 
+    #[tactic(auto, unfolding(grammar::specs::Feed::answer_of))]
     pub fn answer(
         self,
         line: &[u8],

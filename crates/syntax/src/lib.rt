@@ -1,8 +1,10 @@
 // A call as the code holds it. What a line of the session card stands for, and how an answer is written, stands in specs/.
+#![tactic(auto)]
+
 use exec::{Cause, Key, LaunchResult, MaybeStatus, Pool, Settlement, Stream};
 
 // A call of the runner's. An input and an output have so many bytes of `work`, a message a buffer of so many.
-#[derive(Drop)]
+#[derive(Clone, Copy)]
 pub enum Call {
     Credit(Key, Pool, u32),
     Input(Key, usize),
@@ -23,7 +25,7 @@ pub enum Call {
 }
 
 // A call that has a time of its own.
-#[derive(Drop)]
+#[derive(Clone, Copy)]
 pub enum Timed {
     Cancel(Key, Cause),
     Exited(MaybeStatus),
@@ -34,7 +36,7 @@ pub enum Timed {
 }
 
 // A call that changes nothing.
-#[derive(Drop)]
+#[derive(Clone, Copy)]
 pub enum Question {
     ReadAllowance(Stream),
     PendingInput,
