@@ -153,7 +153,8 @@ module _ (size x k : ℕ) (s : List ℕ) (area : size ≤ length s) (twice : x +
       read_is 0 size (wrap size x) (suc k) s (omega arith) (omega (arith, here)) room
       (get_or s (wrap size x) 0 ∷ ringRead 0 size (wrap size (x + 1)) k s) (omega (arith, others))
       (λ i.
-      elim i [
+      elim i as (λ j. j < suc k → get_or s (ringAt 0 size (wrap size x) j) 0
+      ≡ get_or (get_or s (wrap size x) 0 ∷ ringRead 0 size (wrap size (x + 1)) k s) j 0) [
         | zero ↦ λ h. ap (λ (j : ℕ). get_or s j 0) (omega (arith, wrap-below size (wrap size x + 0) (omega (arith, here))))
         | suc i ↦
             λ h.

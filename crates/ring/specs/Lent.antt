@@ -84,7 +84,7 @@ pub copied-back : (d : List ℕ) (at : ℕ) (p : List ℕ) (n : ℕ) → length 
 copied-back d at p n h room = copied-read d at p 0 n (omega arith) (omega arith) ∙ take_all n p (omega arith)
 
 -- a run copied by way of the start of b is copied
-pub copied-through : (d : List ℕ) (at : ℕ) (b src : List ℕ) (from n : ℕ) → from + n ≤ length src
+pub copied_through : (d : List ℕ) (at : ℕ) (b src : List ℕ) (from n : ℕ) → from + n ≤ length src
     → copied d at (copied b 0 src from n) 0 n ≡ copied d at src from n
-copied-through d at b src from n has =
+copied_through d at b src from n has =
     copied-same d at (copied b 0 src from n) 0 src from n (copied-read b 0 src from n (omega arith) has)

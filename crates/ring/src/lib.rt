@@ -17,6 +17,7 @@ pub fn smaller(a: usize, b: usize) -> usize
 
 // The place n further on than `start`: past the end of the area it goes on from the area's start. (No sum of the two: an area
 // that is not lent may be so large that it would wrap.)
+#[tactic(auto, unfolding(crate::specs::Ring::wrap))]
 pub fn advance(size: usize, start: usize, n: usize) -> usize
     requires { (start ≤ size) × (n ≤ size) }
     ensures { (result ≡ wrap size (start + n)) × (result ≤ size) }
@@ -45,6 +46,7 @@ fn copy_run(dst: &mut [u8], at: usize, src: &[u8], from: usize, n: usize)
 
 // What copy_in does, for a block at most, by way of a local array. The compiler cannot know that dst and src are apart, but it
 // knows the array apart from both: so it makes one memmove of the two loops, and drops the array.
+#[tactic(auto, using(crate::specs::Lent::copied_through))]
 fn copy_block(dst: &mut [u8], at: usize, src: &[u8], from: usize, n: usize)
     requires { (n ≤ 4096) × (at + n ≤ length dst.old) × (from + n ≤ length src.now) }
     ensures { dst.new ≡ copied dst.old at src.now from n }
@@ -121,6 +123,7 @@ pub fn pending(store: &[u8], base: usize, size: usize, start: usize, count: usiz
 }
 
 // Appends a frame's length to the ring of lengths, which holds `frames`.
+#[tactic(auto, unfolding(crate::specs::Ring::wrap))]
 pub fn push_length(lengths: &mut [u32], size: usize, start: usize, frames: usize, len: u32)
     requires { (size ≤ length lengths.old) × (start ≤ size) × (frames < size) }
     ensures { lengths.new ≡ set lengths.old (wrap size (start + frames)) len }
