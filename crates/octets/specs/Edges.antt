@@ -1,5 +1,5 @@
 -- The bytes of a number, spelled out: round trips do not tell the order of its bytes.
-use Rattle.std.specs.Prelude.{List, [], ◌∷◌, ◌≡◌, refl}
+use Rattle.std.specs.Prelude.{[], ◌∷◌, ◌≡◌, refl}
 use Rattle.octets.specs.Bytes.{be32, be32At, number_at}
 
 -- 0x01020304, the most significant byte first

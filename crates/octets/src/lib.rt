@@ -41,6 +41,7 @@ pub fn put_byte(buffer: &mut [u8], at: usize, b: u8)
     buffer[at] = b;
 }
 
+#[tactic(auto, using(crate::specs::BytesLaws::put_four))]
 pub fn put_be32(buffer: &mut [u8], at: usize, v: u32)
     requires { at + 4 ≤ length buffer.old }
     ensures { buffer.new ≡ copied buffer.old at (be32 v) 0 4 }
