@@ -4,7 +4,6 @@ use Rattle.exec.specs.declared.Stream.{Stream}
 use Rattle.exec.specs.declared.Stream.TheVariants.{Stdout, Stderr}
 use Rattle.exec.specs.Stream.{following}
 use Rattle.choice.specs.declared.Choice.{Choice}
-use Rattle.choice.specs.declared.Choice.TheVariants as Choice
 
 -- a choice that stays shut: `cond` computes everywhere, so that a law over `cond b x y` would never be found by its shape
 unfoldable pub ifElse {ℓ} : {A : Type ℓ} → Bool → A → A → A

@@ -85,7 +85,7 @@ impl Credit {
         self
     }
 
-    // As grant, for an account that is held by value: no proof above this one meets a lent account.
+    // As grant, for an account that is held by value.
     pub fn grant_in(self, units: u32) -> Granting
         ensures { result ≡ grant self units }
     {
@@ -115,7 +115,7 @@ impl Credit {
     }
 }
 
-// Grants in place. This and spend only lend: what is lent is proved by hand, so the work is in granted and spent.
+// Grants in place.
 pub fn grant(credit: &mut Credit, units: u32) -> Reply
     ensures { (credit.new ≡ (grant credit.old units).credit) × (result ≡ (grant credit.old units).reply) }
 {

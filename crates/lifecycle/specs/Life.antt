@@ -5,16 +5,11 @@ use Rattle.exec.specs.declared.Cause.{Cause}
 use Rattle.exec.specs.declared.Deadline.{Deadline}
 use Rattle.exec.specs.declared.Deadline.TheVariants.{Never}
 use Rattle.exec.specs.declared.LaunchResult.{LaunchResult}
-use Rattle.exec.specs.declared.LaunchResult.TheVariants as LaunchResult
 use Rattle.exec.specs.declared.MaybeCause.{MaybeCause}
-use Rattle.exec.specs.declared.MaybeCause.TheVariants as MaybeCause
 use Rattle.exec.specs.declared.MaybeLaunchFailure.{MaybeLaunchFailure}
-use Rattle.exec.specs.declared.MaybeLaunchFailure.TheVariants as MaybeLaunchFailure
 use Rattle.exec.specs.declared.MaybeStatus.{MaybeStatus}
-use Rattle.exec.specs.declared.MaybeStatus.TheVariants as MaybeStatus
 use Rattle.exec.specs.declared.Outcome.{Outcome}
 use Rattle.exec.specs.declared.Settlement.{Settlement}
-use Rattle.exec.specs.declared.Settlement.TheVariants as Settlement
 use Rattle.exec.specs.Time.{due}
 use Rattle.lifecycle.specs.declared.life.Launch.{Launch}
 use Rattle.lifecycle.specs.declared.life.Launch.TheVariants.{Awaited, Started, Failed}
