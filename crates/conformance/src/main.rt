@@ -2,10 +2,11 @@
 // each by the same line. The gate runs it on the recorded sample of random cards, whose answers are the Rust's.
 #![tactic(auto)]
 
-ghost use Rattle.std.specs.Prelude.{◌≤◌, length};
+ghost use Rattle.std.specs.Prelude.{◌≤◌, IfOk, length};
 
 use card::feed::Card;
-use libc::{STDIN_FILENO, STDOUT_FILENO};
+use std::io;
+use std::io::{Read, Write};
 
 // Whether the line at an index is four dashes.
 fn is_end(text: &[u8], at: usize) -> bool {
@@ -42,32 +43,69 @@ fn card_end(text: &[u8], from: usize) -> usize
 }
 
 // One card, from its first line on, and its answers.
-fn answer(text: &[u8], line: &mut [u8], store: &mut [u8], lengths: &mut [u32], out: &mut [u8]) {
-    let fed = feeder::feed(Card::new(), line, store, lengths, text, out);
-    let card = fed.card;
-    feeder::end(card, line, store, lengths, out);
+fn answer<W: Write>(
+    text: &[u8],
+    line: &mut [u8],
+    store: &mut [u8],
+    lengths: &mut [u32],
+    out: &mut [u8],
+    to: &mut W,
+) -> io::Result<()> {
+    let fed = feeder::feed(Card::new(), line, store, lengths, text, out, to)?;
+    feeder::end(fed.card, line, store, lengths, out, to)
 }
 
-fn answer_all(text: &[u8], line: &mut [u8], store: &mut [u8], lengths: &mut [u32], out: &mut [u8]) {
+fn answer_all<W: Write>(
+    text: &[u8],
+    line: &mut [u8],
+    store: &mut [u8],
+    lengths: &mut [u32],
+    out: &mut [u8],
+    to: &mut W,
+) -> io::Result<()> {
     let n = text.len();
     let mut from: usize = 0;
     while from < n {
-        let to = card_end(text, from);
-        answer(&text[from..to], line, store, lengths, out);
-        if n - to < 5 {
-            return;
+        let end = card_end(text, from);
+        answer(&text[from..end], line, store, lengths, out, to)?;
+        if n - end < 5 {
+            return Ok(());
         }
-        io::write_all(STDOUT_FILENO, b"----\n");
-        from = to + 5;
+        to.write_all(b"----\n")?;
+        from = end + 5;
     }
+    Ok(())
 }
 
-fn main() {
+// Reads up to the end of the input or of the area, and says how many bytes came.
+fn fill<R: Read>(from: &mut R, area: &mut [u8]) -> io::Result<usize>
+    ensures { IfOk result (λ n. n ≤ length area.new) }
+{
+    let mut n = 0;
+    for _ in 0..u64::MAX {
+        let got = from.read(&mut area[n..])?;
+        if got == 0 {
+            break;
+        }
+        n += got;
+    }
+    Ok(n)
+}
+
+fn main(rt: HostRuntime) -> io::Result<()> {
     let mut text = feeder::large_area();
-    let mut line = io::large_buffer();
-    let mut store = io::large_buffer();
+    let mut line = feeder::area();
+    let mut store = feeder::area();
     let mut lengths = feeder::lengths_area();
     let mut out = feeder::large_area();
-    let n = io::read_full(STDIN_FILENO, &mut text);
-    answer_all(&text[..n], &mut line, &mut store, &mut lengths, &mut out);
+    let n = fill(&mut rt.stdin(), &mut text)?;
+    let mut to = io::writer(&rt);
+    answer_all(
+        &text[..n],
+        &mut line,
+        &mut store,
+        &mut lengths,
+        &mut out,
+        &mut to,
+    )
 }

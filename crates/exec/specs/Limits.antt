@@ -4,15 +4,12 @@ use Rattle.exec.specs.declared.Stream.{Stream}
 use Rattle.exec.specs.declared.Pool.{Pool}
 use Rattle.exec.specs.declared.Pool.TheVariants.{Input, Stdout, Stderr, Output}
 use Rattle.exec.specs.declared.PoolIndex.{PoolIndex}
-use Rattle.exec.specs.declared.PoolIndex.TheVariants as PoolIndex
 use Rattle.exec.specs.declared.Unit as Units
 use Rattle.exec.specs.declared.Unit.TheVariants.{Bytes, Frames}
 use Rattle.exec.specs.declared.Window.{Window}
 use Rattle.exec.specs.declared.Limits.{Limits}
 use Rattle.exec.specs.declared.NewLimits.{NewLimits}
-use Rattle.exec.specs.declared.NewLimits.TheVariants as NewLimits
 use Rattle.exec.specs.declared.ChunkLength.{ChunkLength}
-use Rattle.exec.specs.declared.ChunkLength.TheVariants as ChunkLength
 use Rattle.exec.specs.declared.Refusal.TheVariants as Refusal
 use Rattle.exec.specs.Stream.{index}
 

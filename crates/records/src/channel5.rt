@@ -2,42 +2,48 @@
 use crate::step::{begin, channel, ended, output, read, read_all, taken, write};
 use exec::{MaybeStatus, Status};
 use runner::runner::Runner;
+use std::io;
+use std::io::Write;
 
-pub(crate) fn run() {
+pub(crate) fn run(to: &mut impl Write) -> io::Result<()> {
     let mut store = [0u8; 16];
-    let heard = hear(start(&mut store), &mut store);
-    close(refuse(heard, &mut store), &mut store);
+    let started = start(to, &mut store)?;
+    let heard = hear(to, started, &mut store)?;
+    let met = refuse(to, heard, &mut store)?;
+    close(to, met, &mut store)
 }
 
-fn start(store: &mut [u8]) -> Runner {
+fn start(to: &mut impl Write, store: &mut [u8]) -> io::Result<Runner> {
     let grant = b"\x5d\x00\x00\x00\x05\x00\x00\x00\x08";
-    let begun = begin(channel(4, 8), 5, grant, store);
-    tell(output(begun, store), store)
+    let begun = begin(to, channel(4, 8), 5, grant, store)?;
+    let half = output(to, begun, store)?;
+    tell(to, half, store)
 }
 
 // A buffer of 43 bytes, which are more than chunk + 13, is just enough.
-fn tell(runner: Runner, store: &[u8]) -> Runner {
+fn tell(to: &mut impl Write, runner: Runner, store: &[u8]) -> io::Result<Runner> {
     let mut buffer = [0u8; 43];
-    write(runner, 5, store, &mut buffer)
+    write(to, runner, 5, store, &mut buffer)
 }
 
 // One byte less is refused, with a message waiting that is then told.
-fn hear(runner: Runner, store: &mut [u8]) -> Runner {
-    let heard = read(runner, 5, b"\x5e\x00\x00\x00\x05\x00\x00\x00\x02hi", store);
-    tell_late(taken(heard, store), store)
+fn hear(to: &mut impl Write, runner: Runner, store: &mut [u8]) -> io::Result<Runner> {
+    let heard = read(to, runner, 5, b"\x5e\x00\x00\x00\x05\x00\x00\x00\x02hi", store)?;
+    let rest = taken(to, heard, store)?;
+    tell_late(to, rest, store)
 }
 
-fn tell_late(runner: Runner, store: &[u8]) -> Runner {
+fn tell_late(to: &mut impl Write, runner: Runner, store: &[u8]) -> io::Result<Runner> {
     let mut buffer = [0u8; 42];
-    tell(write(runner, 5, store, &mut buffer), store)
+    let waiting = write(to, runner, 5, store, &mut buffer)?;
+    tell(to, waiting, store)
 }
 
 // The end of the input, and what is refused, each behind its length: an empty record; kind 98, which a runner writes and does
 // not read; data cut short; data whose length counts the header too; data for channel 6; extended data of type 2, and of type 1,
 // which is not for a runner to read; data after the end; a grant of no units; a 98 for channel 6, of which the kind is met first.
-fn refuse(runner: Runner, store: &mut [u8]) -> Runner {
-    read_all(
-        runner,
+fn refuse(to: &mut impl Write, runner: Runner, store: &mut [u8]) -> io::Result<Runner> {
+    read_all(to, runner,
         5,
         b"\x05\x60\x00\x00\x00\x05\
         \x00\
@@ -54,7 +60,9 @@ fn refuse(runner: Runner, store: &mut [u8]) -> Runner {
     )
 }
 
-fn close(runner: Runner, store: &mut [u8]) {
-    let done = ended(runner, MaybeStatus::Some(Status::Exited(0)));
-    read(tell(done, store), 5, b"\x61\x00\x00\x00\x05", store);
+fn close(to: &mut impl Write, runner: Runner, store: &mut [u8]) -> io::Result<()> {
+    let done = ended(to, runner, MaybeStatus::Some(Status::Exited(0)))?;
+    let told = tell(to, done, store)?;
+    read(to, told, 5, b"\x61\x00\x00\x00\x05", store)?;
+    Ok(())
 }

@@ -3,69 +3,74 @@
 use crate::step::{begin, channel, close, cut, ended, exit_all, message, write};
 use exec::{MaybeStatus, Status};
 use runner::runner::Runner;
+use std::io;
+use std::io::Write;
 
-pub(crate) fn run() {
-    term();
-    ends(MaybeStatus::Some(Status::Signaled(2)));
-    ends(MaybeStatus::Some(Status::Exited(255)));
-    bus();
-    negative();
-    ends(MaybeStatus::None);
-    read_ours();
-    read_openssh();
+pub(crate) fn run(to: &mut impl Write) -> io::Result<()> {
+    term(to)?;
+    ends(to, MaybeStatus::Some(Status::Signaled(2)))?;
+    ends(to, MaybeStatus::Some(Status::Exited(255)))?;
+    bus(to)?;
+    negative(to)?;
+    ends(to, MaybeStatus::None)?;
+    read_ours(to)?;
+    read_openssh(to)
 }
 
 // The peer ends the input first, so that no credit is due.
-fn session(status: MaybeStatus, store: &mut [u8], buffer: &mut [u8]) -> Runner {
-    let begun = begin(channel(4, 8), 5, b"\x60\x00\x00\x00\x05", store);
-    write(ended(begun, status), 5, store, buffer)
+fn session(to: &mut impl Write, status: MaybeStatus, store: &mut [u8], buffer: &mut [u8]) -> io::Result<Runner> {
+    let begun = begin(to, channel(4, 8), 5, b"\x60\x00\x00\x00\x05", store)?;
+    let done = ended(to, begun, status)?;
+    write(to, done, 5, store, buffer)
 }
 
-fn ends(status: MaybeStatus) {
+fn ends(to: &mut impl Write, status: MaybeStatus) -> io::Result<()> {
     let mut store = [0u8; 16];
     let mut buffer = [0u8; 43];
-    session(status, &mut store, &mut buffer);
+    session(to, status, &mut store, &mut buffer)?;
+    Ok(())
 }
 
 // The two records of TERM fill the buffer.
-fn term() {
+fn term(to: &mut impl Write) -> io::Result<()> {
     let mut store = [0u8; 16];
     let mut buffer = [0u8; 43];
     let status = MaybeStatus::Some(Status::Signaled(15));
-    session(status, &mut store, &mut buffer);
-    cut(5, &buffer);
+    session(to, status, &mut store, &mut buffer)?;
+    cut(to, 5, &buffer)
 }
 
 // Signal 7, BUS, is not in the table: the message stays until it is taken without its record, and CLOSE is then the adapter's
 // to write.
-fn bus() {
+fn bus(to: &mut impl Write) -> io::Result<()> {
     let mut store = [0u8; 16];
     let mut buffer = [0u8; 43];
     let status = MaybeStatus::Some(Status::Signaled(7));
-    let left = session(status, &mut store, &mut buffer);
-    let again = write(left, 5, &store, &mut buffer);
-    let taken = message(again, &store, &mut buffer);
-    close(5, &mut buffer);
-    write(taken, 5, &store, &mut buffer);
+    let left = session(to, status, &mut store, &mut buffer)?;
+    let again = write(to, left, 5, &store, &mut buffer)?;
+    let taken = message(to, again, &store, &mut buffer)?;
+    close(to, 5, &mut buffer)?;
+    write(to, taken, 5, &store, &mut buffer)?;
+    Ok(())
 }
 
 // No request tells a negative code. A short buffer is met before that.
-fn negative() {
+fn negative(to: &mut impl Write) -> io::Result<()> {
     let mut store = [0u8; 16];
     let mut buffer = [0u8; 43];
     let mut short = [0u8; 42];
     let status = MaybeStatus::Some(Status::Exited(-1));
-    let left = session(status, &mut store, &mut buffer);
-    write(left, 5, &store, &mut short);
+    let left = session(to, status, &mut store, &mut buffer)?;
+    write(to, left, 5, &store, &mut short)?;
+    Ok(())
 }
 
 // Requests for channel 5, each behind its length, of which the largest code alone is told: no bytes; CLOSE; a kind alone, and
 // with a channel cut short; nothing behind the channel, 6 and 5; a code for channel 6; the largest code, and one more; a reply
 // wanted; a byte too many, and one too few; TERM with its core dumped; BUS; INT as a name of four letters, and with an error
 // message.
-fn read_ours() {
-    exit_all(
-        5,
+fn read_ours(to: &mut impl Write) -> io::Result<()> {
+    exit_all(to, 5,
         b"\x00\
         \x05\x61\x00\x00\x00\x05\
         \x01\x62\
@@ -82,15 +87,14 @@ fn read_ours() {
         \x25\x62\x00\x00\x00\x05\x00\x00\x00\x0bexit-signal\x00\x00\x00\x00\x03BUS\x00\x00\x00\x00\x00\x00\x00\x00\x00\
         \x25\x62\x00\x00\x00\x05\x00\x00\x00\x0bexit-signal\x00\x00\x00\x00\x04INT\x00\x00\x00\x00\x00\x00\x00\x00\x00\
         \x26\x62\x00\x00\x00\x05\x00\x00\x00\x0bexit-signal\x00\x00\x00\x00\x03INT\x00\x00\x00\x00\x01x\x00\x00\x00\x00",
-    );
+    )
 }
 
 // OpenSSH's requests for channel 1, of oracle/openssh/records.txt: one that tells no status; how sessions ended, by the codes 0, 1, 7
 // and 255 and by the thirteen signals, each told, so that it is the request that is written of that status; and BUS, which it gives
 // a name of its own.
-fn read_openssh() {
-    exit_all(
-        1,
+fn read_openssh(to: &mut impl Write) -> io::Result<()> {
+    exit_all(to, 1,
         b"\x19\x62\x00\x00\x00\x01\x00\x00\x00\x0feow@openssh.com\x00\
         \x19\x62\x00\x00\x00\x01\x00\x00\x00\x0bexit-status\x00\x00\x00\x00\x00\
         \x19\x62\x00\x00\x00\x01\x00\x00\x00\x0bexit-status\x00\x00\x00\x00\x01\
@@ -110,5 +114,5 @@ fn read_openssh() {
         \x26\x62\x00\x00\x00\x01\x00\x00\x00\x0bexit-signal\x00\x00\x00\x00\x04ALRM\x00\x00\x00\x00\x00\x00\x00\x00\x00\
         \x26\x62\x00\x00\x00\x01\x00\x00\x00\x0bexit-signal\x00\x00\x00\x00\x04TERM\x00\x00\x00\x00\x00\x00\x00\x00\x00\
         \x31\x62\x00\x00\x00\x01\x00\x00\x00\x0bexit-signal\x00\x00\x00\x00\x0fSIG@openssh.com\x00\x00\x00\x00\x00\x00\x00\x00\x00",
-    );
+    )
 }

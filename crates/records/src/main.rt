@@ -9,9 +9,12 @@ mod other;
 mod print;
 mod step;
 
-fn main() {
-    channel5::run();
-    openssh::run();
-    other::run();
-    exit::run();
+use std::io;
+
+fn main(rt: HostRuntime) -> io::Result<()> {
+    let mut to = io::writer(&rt);
+    channel5::run(&mut to)?;
+    openssh::run(&mut to)?;
+    other::run(&mut to)?;
+    exit::run(&mut to)
 }

@@ -1,12 +1,16 @@
 // A runner that is no channel, as one of its windows counts frames: it reads and writes no record.
 use crate::step::{open, read, write};
 use exec::{Limits, Window};
+use std::io;
+use std::io::Write;
 
 // 13 is met before the 20 of an empty record, and before the 25 of a buffer below 43 bytes, which are more than chunk + 13.
-pub(crate) fn run() {
+pub(crate) fn run(to: &mut impl Write) -> io::Result<()> {
     let limits = Limits::of(4, Window::frames(2), Window::bytes(8), true);
     let mut store = [0u8; 16];
     let mut buffer = [0u8; 16];
-    let unread = read(open(limits, &store), 5, b"", &mut store);
-    write(unread, 5, &store, &mut buffer);
+    let opened = open(to, limits, &store)?;
+    let unread = read(to, opened, 5, b"", &mut store)?;
+    write(to, unread, 5, &store, &mut buffer)?;
+    Ok(())
 }

@@ -4,93 +4,89 @@ use channel::calls::{Answer, Wrote};
 use codec::{Parsed, Record, Written};
 use exec::{MaybeStatus, Receipt, Refusal, Reply, Status, Stream};
 use exits::Told;
-use libc::STDOUT_FILENO;
 use runner::answer::{Asked, Message, Request, Said, Taken};
+use std::io;
+use std::io::Write;
 
-fn text(bytes: &[u8]) {
-    io::write_all(STDOUT_FILENO, bytes);
+fn text(to: &mut impl Write, bytes: &[u8]) -> io::Result<()> {
+    to.write_all(bytes)
 }
 
-fn number(n: u64) {
-    io::print_decimal(STDOUT_FILENO, n);
+fn number(to: &mut impl Write, n: u64) -> io::Result<()> {
+    write!(to, "{n}")
 }
 
-fn hex(bytes: &[u8]) {
-    let mut i = 0;
-    while i < bytes.len() {
-        io::print_hex(STDOUT_FILENO, wide(bytes[i]), 2);
-        i += 1;
+fn hex(to: &mut impl Write, bytes: &[u8]) -> io::Result<()> {
+    for byte in bytes {
+        write!(to, "{byte:02x}")?;
     }
+    Ok(())
 }
 
-fn wide(byte: u8) -> u64 {
-    byte as u64
-}
-
-fn shown(bytes: &[u8]) {
+fn shown(to: &mut impl Write, bytes: &[u8]) -> io::Result<()> {
     if bytes.len() == 0 {
-        text(b"-");
+        text(to, b"-")
     } else {
-        hex(bytes);
+        hex(to, bytes)
     }
 }
 
 // With a minus in front where the number is negative.
-fn signed(n: i32) {
+fn signed(to: &mut impl Write, n: i32) -> io::Result<()> {
     let mut digits = [0u8; 21];
     let end = decimal::write_signed(n, &mut digits, 0);
-    text(first(&digits, end));
+    text(to, first(&digits, end))
 }
 
-fn stream(stream: Stream) {
+fn stream(to: &mut impl Write, stream: Stream) -> io::Result<()> {
     match stream {
-        Stream::Stdout => text(b"Stdout"),
-        Stream::Stderr => text(b"Stderr"),
+        Stream::Stdout => text(to, b"Stdout"),
+        Stream::Stderr => text(to, b"Stderr"),
     }
 }
 
 // The end of a line: a word and a number.
-fn counted(word: &[u8], n: u64) {
-    text(word);
-    number(n);
-    text(b"\n");
+fn counted(to: &mut impl Write, word: &[u8], n: u64) -> io::Result<()> {
+    text(to, word)?;
+    number(to, n)?;
+    text(to, b"\n")
 }
 
-fn refused(refusal: Refusal) {
-    counted(b"refused ", refusal.number() as u64);
+fn refused(to: &mut impl Write, refusal: Refusal) -> io::Result<()> {
+    counted(to, b"refused ", refusal.number() as u64)
 }
 
 // A record read, and its answer.
-pub(crate) fn read(bytes: &[u8], answer: Answer) {
-    text(b"read,");
-    shown(bytes);
-    text(b",");
-    answered(answer);
+pub(crate) fn read(to: &mut impl Write, bytes: &[u8], answer: Answer) -> io::Result<()> {
+    text(to, b"read,")?;
+    shown(to, bytes)?;
+    text(to, b",")?;
+    answered(to, answer)
 }
 
-fn answered(answer: Answer) {
+fn answered(to: &mut impl Write, answer: Answer) -> io::Result<()> {
     match answer {
-        Answer::Receipt(by) => receipt(by),
-        Answer::Ok => text(b"ok\n"),
-        Answer::Refused(refusal) => refused(refusal),
+        Answer::Receipt(by) => receipt(to, by),
+        Answer::Ok => text(to, b"ok\n"),
+        Answer::Refused(refusal) => refused(to, refusal),
     }
 }
 
-fn receipt(receipt: Receipt) {
+fn receipt(to: &mut impl Write, receipt: Receipt) -> io::Result<()> {
     match receipt {
-        Receipt::Applied => text(b"Applied\n"),
-        Receipt::Stale => text(b"Stale\n"),
-        Receipt::Late => text(b"Late\n"),
+        Receipt::Applied => text(to, b"Applied\n"),
+        Receipt::Stale => text(to, b"Stale\n"),
+        Receipt::Late => text(to, b"Late\n"),
     }
 }
 
 // The record of the next message: the message's name, and the record's length and bytes, which stand at the buffer's start.
-pub(crate) fn wrote(wrote: Wrote, buffer: &[u8]) {
-    text(b"write,");
+pub(crate) fn wrote(to: &mut impl Write, wrote: Wrote, buffer: &[u8]) -> io::Result<()> {
+    text(to, b"write,")?;
     match wrote {
-        Wrote::None => text(b"none\n"),
-        Wrote::Message(next, n) => message(next, first(buffer, n)),
-        Wrote::Refused(refusal) => refused(refusal),
+        Wrote::None => text(to, b"none\n"),
+        Wrote::Message(next, n) => message(to, next, first(buffer, n)),
+        Wrote::Refused(refusal) => refused(to, refusal),
     }
 }
 
@@ -102,177 +98,177 @@ fn first(bytes: &[u8], n: usize) -> &[u8] {
     bytes
 }
 
-fn message(message: Message, bytes: &[u8]) {
-    name(message);
-    text(b",");
-    sized(bytes);
+fn message(to: &mut impl Write, message: Message, bytes: &[u8]) -> io::Result<()> {
+    name(to, message)?;
+    text(to, b",")?;
+    sized(to, bytes)
 }
 
 // The end of a line: how many bytes, and the bytes.
-fn sized(bytes: &[u8]) {
-    number(bytes.len() as u64);
-    text(b",");
-    shown(bytes);
-    text(b"\n");
+fn sized(to: &mut impl Write, bytes: &[u8]) -> io::Result<()> {
+    number(to, bytes.len() as u64)?;
+    text(to, b",")?;
+    shown(to, bytes)?;
+    text(to, b"\n")
 }
 
 // An output goes by its stream's name.
-fn name(message: Message) {
+fn name(to: &mut impl Write, message: Message) -> io::Result<()> {
     match message {
-        Message::Credit(_) => text(b"Credit"),
-        Message::Started => text(b"Started"),
-        Message::Output(of, _) => stream(of),
-        Message::End(of) => end(of),
-        Message::InputClosed => text(b"InputClosed"),
-        Message::Terminal(_) => text(b"Terminal"),
+        Message::Credit(_) => text(to, b"Credit"),
+        Message::Started => text(to, b"Started"),
+        Message::Output(of, _) => stream(to, of),
+        Message::End(of) => end(to, of),
+        Message::InputClosed => text(to, b"InputClosed"),
+        Message::Terminal(_) => text(to, b"Terminal"),
     }
 }
 
-fn end(of: Stream) {
-    text(b"End ");
-    stream(of);
+fn end(to: &mut impl Write, of: Stream) -> io::Result<()> {
+    text(to, b"End ")?;
+    stream(to, of)
 }
 
 // A call with no result, and its arguments.
-pub(crate) fn noted(call: &[u8], reply: Reply) {
-    text(call);
-    text(b",");
-    replied(reply);
+pub(crate) fn noted(to: &mut impl Write, call: &[u8], reply: Reply) -> io::Result<()> {
+    text(to, call)?;
+    text(to, b",")?;
+    replied(to, reply)
 }
 
 // The workload's end with its status.
-pub(crate) fn exited(with: MaybeStatus, reply: Reply) {
-    text(b"exited,");
-    maybe_status(with);
-    text(b",");
-    replied(reply);
+pub(crate) fn exited(to: &mut impl Write, with: MaybeStatus, reply: Reply) -> io::Result<()> {
+    text(to, b"exited,")?;
+    maybe_status(to, with)?;
+    text(to, b",")?;
+    replied(to, reply)
 }
 
-fn maybe_status(maybe: MaybeStatus) {
+fn maybe_status(to: &mut impl Write, maybe: MaybeStatus) -> io::Result<()> {
     match maybe {
-        MaybeStatus::None => text(b"-"),
-        MaybeStatus::Some(known) => status(known),
+        MaybeStatus::None => text(to, b"-"),
+        MaybeStatus::Some(known) => status(to, known),
     }
 }
 
 // E and the code, or S and the number of the signal.
-fn status(status: Status) {
+fn status(to: &mut impl Write, status: Status) -> io::Result<()> {
     match status {
-        Status::Exited(code) => lettered(b"E", code),
-        Status::Signaled(n) => lettered(b"S", n),
+        Status::Exited(code) => lettered(to, b"E", code),
+        Status::Signaled(n) => lettered(to, b"S", n),
     }
 }
 
-fn lettered(letter: &[u8], n: i32) {
-    text(letter);
-    signed(n);
+fn lettered(to: &mut impl Write, letter: &[u8], n: i32) -> io::Result<()> {
+    text(to, letter)?;
+    signed(to, n)
 }
 
-fn replied(reply: Reply) {
+fn replied(to: &mut impl Write, reply: Reply) -> io::Result<()> {
     match reply {
-        Reply::Ok => text(b"ok\n"),
-        Reply::Refused(refusal) => refused(refusal),
+        Reply::Ok => text(to, b"ok\n"),
+        Reply::Refused(refusal) => refused(to, refusal),
     }
 }
 
 // How many bytes an output took.
-pub(crate) fn output(of: Stream, taken: Taken) {
-    text(b"output,");
-    stream(of);
-    text(b",");
+pub(crate) fn output(to: &mut impl Write, of: Stream, taken: Taken) -> io::Result<()> {
+    text(to, b"output,")?;
+    stream(to, of)?;
+    text(to, b",")?;
     match taken {
-        Taken::Bytes(n) => counted(b"taken ", n as u64),
-        Taken::Refused(refusal) => refused(refusal),
+        Taken::Bytes(n) => counted(to, b"taken ", n as u64),
+        Taken::Refused(refusal) => refused(to, refusal),
     }
 }
 
-pub(crate) fn pending(bytes: &[u8]) {
-    text(b"pending,");
-    sized(bytes);
+pub(crate) fn pending(to: &mut impl Write, bytes: &[u8]) -> io::Result<()> {
+    text(to, b"pending,")?;
+    sized(to, bytes)
 }
 
-pub(crate) fn asked(asked: Asked) {
-    text(b"request,");
+pub(crate) fn asked(to: &mut impl Write, asked: Asked) -> io::Result<()> {
+    text(to, b"request,")?;
     match asked {
-        Asked::None => text(b"none\n"),
-        Asked::Request(next) => request(next),
-        Asked::Refused(refusal) => refused(refusal),
+        Asked::None => text(to, b"none\n"),
+        Asked::Request(next) => request(to, next),
+        Asked::Refused(refusal) => refused(to, refusal),
     }
 }
 
-fn request(request: Request) {
+fn request(to: &mut impl Write, request: Request) -> io::Result<()> {
     match request {
-        Request::Terminate(_) => text(b"Terminate\n"),
-        Request::Discard(_) => text(b"Discard\n"),
-        Request::CloseInput => text(b"CloseInput\n"),
-        Request::Settle => text(b"Settle\n"),
+        Request::Terminate(_) => text(to, b"Terminate\n"),
+        Request::Discard(_) => text(to, b"Discard\n"),
+        Request::CloseInput => text(to, b"CloseInput\n"),
+        Request::Settle => text(to, b"Settle\n"),
     }
 }
 
 // The next message without its record.
-pub(crate) fn said(said: Said) {
-    text(b"message,");
+pub(crate) fn said(to: &mut impl Write, said: Said) -> io::Result<()> {
+    text(to, b"message,")?;
     match said {
-        Said::None => text(b"none\n"),
-        Said::Message(next) => bare(next),
-        Said::Refused(refusal) => refused(refusal),
+        Said::None => text(to, b"none\n"),
+        Said::Message(next) => bare(to, next),
+        Said::Refused(refusal) => refused(to, refusal),
     }
 }
 
 // The message's name, and the status that it tells if it is a Terminal.
-fn bare(message: Message) {
-    name(message);
+fn bare(to: &mut impl Write, message: Message) -> io::Result<()> {
+    name(to, message)?;
     match message {
         Message::Terminal(outcome) => {
             let with = outcome.status;
-            text(b",");
-            maybe_status(with);
+            text(to, b",")?;
+            maybe_status(to, with)?;
         }
         _ => {}
     }
-    text(b"\n");
+    text(to, b"\n")
 }
 
 // CLOSE, written without a runner.
-pub(crate) fn closed(written: Written, buffer: &[u8]) {
-    text(b"close,");
+pub(crate) fn closed(to: &mut impl Write, written: Written, buffer: &[u8]) -> io::Result<()> {
+    text(to, b"close,")?;
     match written {
-        Written::Bytes(n) => sized(first(buffer, n)),
-        Written::Refused(refusal) => refused(refusal),
+        Written::Bytes(n) => sized(to, first(buffer, n)),
+        Written::Refused(refusal) => refused(to, refusal),
     }
 }
 
 // A request that tells how a program ended, and what it told.
-pub(crate) fn exit(bytes: &[u8], told: Told) {
-    text(b"exit,");
-    shown(bytes);
-    text(b",");
+pub(crate) fn exit(to: &mut impl Write, bytes: &[u8], told: Told) -> io::Result<()> {
+    text(to, b"exit,")?;
+    shown(to, bytes)?;
+    text(to, b",")?;
     match told {
         Told::Status(known) => {
-            status(known);
-            text(b"\n");
+            status(to, known)?;
+            text(to, b"\n")
         }
-        Told::Refused(refusal) => refused(refusal),
+        Told::Refused(refusal) => refused(to, refusal),
     }
 }
 
 // A record read without a runner, by its name.
-pub(crate) fn parsed(bytes: &[u8], parsed: Parsed) {
-    text(b"record,");
-    shown(bytes);
-    text(b",");
+pub(crate) fn parsed(to: &mut impl Write, bytes: &[u8], parsed: Parsed) -> io::Result<()> {
+    text(to, b"record,")?;
+    shown(to, bytes)?;
+    text(to, b",")?;
     match parsed {
-        Parsed::Read(rec) => named(rec),
-        Parsed::Refused(refusal) => refused(refusal),
+        Parsed::Read(rec) => named(to, rec),
+        Parsed::Refused(refusal) => refused(to, refusal),
     }
 }
 
-fn named(rec: Record) {
+fn named(to: &mut impl Write, rec: Record) -> io::Result<()> {
     match rec {
-        Record::Adjust(_) => text(b"Adjust\n"),
-        Record::Data(_) => text(b"Data\n"),
-        Record::Extended(_) => text(b"Extended\n"),
-        Record::Eof => text(b"Eof\n"),
-        Record::Close => text(b"Close\n"),
+        Record::Adjust(_) => text(to, b"Adjust\n"),
+        Record::Data(_) => text(to, b"Data\n"),
+        Record::Extended(_) => text(to, b"Extended\n"),
+        Record::Eof => text(to, b"Eof\n"),
+        Record::Close => text(to, b"Close\n"),
     }
 }

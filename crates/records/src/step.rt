@@ -7,6 +7,8 @@ use codec::Record;
 use exec::{Key, LaunchResult, Limits, MaybeStatus, Settlement, Stream, Timers, Window};
 use runner::answer::Noting;
 use runner::runner::Runner;
+use std::io;
+use std::io::Write;
 
 // The instant of every call.
 const NOW: u64 = 10;
@@ -16,13 +18,13 @@ pub(crate) fn channel(chunk: u32, window: u32) -> Limits {
     Limits::of(chunk, Window::bytes(window), Window::bytes(window), true)
 }
 
-fn noted(call: &[u8], noting: Noting) -> Runner {
+fn noted(to: &mut impl Write, call: &[u8], noting: Noting) -> io::Result<Runner> {
     let reply = noting.reply;
-    print::noted(call, reply);
-    noting.runner
+    print::noted(to, call, reply)?;
+    Ok(noting.runner)
 }
 
-pub(crate) fn open(limits: Limits, store: &[u8]) -> Runner {
+pub(crate) fn open(to: &mut impl Write, limits: Limits, store: &[u8]) -> io::Result<Runner> {
     // Only frames have lengths, and no session has more than two.
     let lengths = [0u32; 2];
     let noting = Runner::open(
@@ -33,40 +35,38 @@ pub(crate) fn open(limits: Limits, store: &[u8]) -> Runner {
         store,
         &lengths,
     );
-    noted(b"open", noting)
+    noted(to, b"open", noting)
 }
 
 // A runner whose workload runs, and the first record of its peer.
-pub(crate) fn begin(limits: Limits, channel: u32, bytes: &[u8], store: &mut [u8]) -> Runner {
-    let opened = open(limits, store);
-    let runner = noted(b"launched", opened.launched(LaunchResult::Started));
-    read(runner, channel, bytes, store)
+pub(crate) fn begin(to: &mut impl Write, limits: Limits, channel: u32, bytes: &[u8], store: &mut [u8]) -> io::Result<Runner> {
+    let opened = open(to, limits, store)?;
+    let runner = noted(to, b"launched", opened.launched(LaunchResult::Started))?;
+    read(to, runner, channel, bytes, store)
 }
 
 // Reads a record for the channel.
-pub(crate) fn read(runner: Runner, channel: u32, bytes: &[u8], store: &mut [u8]) -> Runner {
+pub(crate) fn read(to: &mut impl Write, runner: Runner, channel: u32, bytes: &[u8], store: &mut [u8]) -> io::Result<Runner> {
     let mut lengths = [0u32; 2];
     let reading = read_record(runner, NOW, channel, bytes, store, &mut lengths);
     let answer = reading.answer;
-    print::read(bytes, answer);
-    reading.runner
+    print::read(to, bytes, answer)?;
+    Ok(reading.runner)
 }
 
 // Reads records that stand one after the other, each behind a byte that says its length.
-pub(crate) fn read_all(
-    mut runner: Runner,
+pub(crate) fn read_all(to: &mut impl Write, mut runner: Runner,
     channel: u32,
     records: &[u8],
-    store: &mut [u8],
-) -> Runner {
+    store: &mut [u8]) -> io::Result<Runner> {
     let mut i = 0;
     while i < records.len() {
         let start = i + 1;
         let end = start + least(wide(records[i]), records.len() - start);
-        runner = read(runner, channel, &records[start..end], store);
+        runner = read(to, runner, channel, &records[start..end], store)?;
         i = end;
     }
-    runner
+    Ok(runner)
 }
 
 fn wide(byte: u8) -> usize {
@@ -80,16 +80,16 @@ fn least(a: usize, b: usize) -> usize
 }
 
 // Writes the records of the messages that wait, and eight at most.
-pub(crate) fn write(mut runner: Runner, channel: u32, store: &[u8], buffer: &mut [u8]) -> Runner {
+pub(crate) fn write(to: &mut impl Write, mut runner: Runner, channel: u32, store: &[u8], buffer: &mut [u8]) -> io::Result<Runner> {
     let mut turns = 8;
     while 0 < turns {
         let writing = write_record(runner, channel, store, buffer);
         let wrote = writing.wrote;
-        print::wrote(wrote, buffer);
+        print::wrote(to, wrote, buffer)?;
         runner = writing.runner;
         turns = left(wrote, turns);
     }
-    runner
+    Ok(runner)
 }
 
 // How many turns are left: none where no record was written.
@@ -105,102 +105,105 @@ fn left(wrote: Wrote, turns: u64) -> u64
 }
 
 // The workload puts out "ab", and "bad" to its stderr.
-pub(crate) fn output(runner: Runner, store: &mut [u8]) -> Runner {
-    let half = output_to(runner, Stream::Stdout, b"ab", store);
-    output_to(half, Stream::Stderr, b"bad", store)
+pub(crate) fn output(to: &mut impl Write, runner: Runner, store: &mut [u8]) -> io::Result<Runner> {
+    let half = output_to(to, runner, Stream::Stdout, b"ab", store)?;
+    output_to(to, half, Stream::Stderr, b"bad", store)
 }
 
-fn output_to(runner: Runner, stream: Stream, bytes: &[u8], store: &mut [u8]) -> Runner {
+fn output_to(to: &mut impl Write, runner: Runner, stream: Stream, bytes: &[u8], store: &mut [u8]) -> io::Result<Runner> {
     let taking = runner.output(stream, store, bytes);
     let taken = taking.taken;
-    print::output(stream, taken);
-    taking.runner
+    print::output(to, stream, taken)?;
+    Ok(taking.runner)
 }
 
 // The workload takes two bytes of its input.
-pub(crate) fn taken(runner: Runner, store: &[u8]) -> Runner {
+pub(crate) fn taken(to: &mut impl Write, runner: Runner, store: &[u8]) -> io::Result<Runner> {
     let mut refusal = 0;
     let bytes = runner.pending_input(store, &mut refusal);
-    print::pending(bytes);
+    print::pending(to, bytes)?;
     let mut lengths = [0u32; 2];
-    noted(b"input_written,2", runner.input_written(&mut lengths, 2))
+    noted(to, b"input_written,2", runner.input_written(&mut lengths, 2))
 }
 
 // The workload's streams close; it exits with a status, if that is known, and settles.
-pub(crate) fn ended(runner: Runner, status: MaybeStatus) -> Runner {
-    settled(exited(closed(runner), status))
+pub(crate) fn ended(to: &mut impl Write, runner: Runner, status: MaybeStatus) -> io::Result<Runner> {
+    let shut = closed(to, runner)?;
+    let done = exited(to, shut, status)?;
+    settled(to, done)
 }
 
-fn closed(runner: Runner) -> Runner {
-    let half = noted(
-        b"output_closed,Stdout",
+fn closed(to: &mut impl Write, runner: Runner) -> io::Result<Runner> {
+    let half = noted(to, b"output_closed,Stdout",
         runner.output_closed(Stream::Stdout),
-    );
-    noted(b"output_closed,Stderr", half.output_closed(Stream::Stderr))
+    )?;
+    noted(to, b"output_closed,Stderr", half.output_closed(Stream::Stderr))
 }
 
-fn exited(runner: Runner, status: MaybeStatus) -> Runner {
+fn exited(to: &mut impl Write, runner: Runner, status: MaybeStatus) -> io::Result<Runner> {
     let noting = runner.exited(NOW, status);
     let reply = noting.reply;
-    print::exited(status, reply);
-    noting.runner
+    print::exited(to, status, reply)?;
+    Ok(noting.runner)
 }
 
 // The input's end is asked for first.
-fn settled(runner: Runner) -> Runner {
-    let ready = request(request(runner));
-    noted(b"settled", ready.settled(Settlement::Settled))
+fn settled(to: &mut impl Write, runner: Runner) -> io::Result<Runner> {
+    let once = request(to, runner)?;
+    let ready = request(to, once)?;
+    noted(to, b"settled", ready.settled(Settlement::Settled))
 }
 
-fn request(runner: Runner) -> Runner {
+fn request(to: &mut impl Write, runner: Runner) -> io::Result<Runner> {
     let asking = runner.next_request();
     let asked = asking.asked;
-    print::asked(asked);
-    asking.runner
+    print::asked(to, asked)?;
+    Ok(asking.runner)
 }
 
 // Takes the next message without its record.
-pub(crate) fn message(runner: Runner, store: &[u8], buffer: &mut [u8]) -> Runner {
+pub(crate) fn message(to: &mut impl Write, runner: Runner, store: &[u8], buffer: &mut [u8]) -> io::Result<Runner> {
     let saying = runner.next_message(store, buffer);
     let said = saying.said;
-    print::said(said);
-    saying.runner
+    print::said(to, said)?;
+    Ok(saying.runner)
 }
 
 // Writes CLOSE, which takes no runner.
-pub(crate) fn close(channel: u32, buffer: &mut [u8]) {
+pub(crate) fn close(to: &mut impl Write, channel: u32, buffer: &mut [u8]) -> io::Result<()> {
     let written = codec::write(channel, Record::Close, b"", buffer);
-    print::closed(written, buffer);
+    print::closed(to, written, buffer)
 }
 
 // Reads a request that tells how a program ended.
-fn exit(channel: u32, bytes: &[u8]) {
+fn exit(to: &mut impl Write, channel: u32, bytes: &[u8]) -> io::Result<()> {
     let told = exits::read(bytes, channel);
-    print::exit(bytes, told);
+    print::exit(to, bytes, told)
 }
 
 // Reads such requests, which stand one after the other, each behind a byte that says its length.
-pub(crate) fn exit_all(channel: u32, requests: &[u8]) {
+pub(crate) fn exit_all(to: &mut impl Write, channel: u32, requests: &[u8]) -> io::Result<()> {
     let mut i = 0;
     while i < requests.len() {
         let start = i + 1;
         let end = start + least(wide(requests[i]), requests.len() - start);
-        exit(channel, &requests[start..end]);
+        exit(to, channel, &requests[start..end])?;
         i = end;
     }
+    Ok(())
 }
 
 // Reads the two records of a Terminal: the last 5 bytes are CLOSE, and those before them the request.
-pub(crate) fn cut(channel: u32, records: &[u8])
+pub(crate) fn cut(to: &mut impl Write, channel: u32, records: &[u8]) -> io::Result<()>
     requires { 5 ≤ length records.now }
 {
     let end = records.len();
     let at = end - 5;
-    exit(channel, &records[0..at]);
-    parsed(channel, &records[at..end]);
+    exit(to, channel, &records[0..at])?;
+    parsed(to, channel, &records[at..end])
 }
 
-fn parsed(channel: u32, bytes: &[u8]) {
+fn parsed(to: &mut impl Write, channel: u32, bytes: &[u8]) -> io::Result<()> {
     let parsed = codec::read(bytes, channel);
-    print::parsed(bytes, parsed);
+    print::parsed(to, bytes, parsed)
 }
