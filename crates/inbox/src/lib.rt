@@ -70,6 +70,7 @@ impl Inbox {
     }
 
     // Appends one data message, which its pool charged.
+    #[tactic(auto, unfolding(crate::specs::Inbox::push, crate::specs::Inbox::pushedFrame))]
     pub fn push(self, limits: Limits, store: &mut [u8], lengths: &mut [u32], bytes: &[u8]) -> Inbox
         requires { Pushable limits self (length bytes.now) store.old lengths.old }
         ensures { pushAfter result store.new lengths.new ≡ push limits self bytes.now store.old lengths.old }
@@ -107,6 +108,7 @@ impl Inbox {
     }
 
     // The waiting bytes, as many as stand in one run: a part of the byte store.
+    #[tactic(auto, unfolding(crate::specs::Inbox::front))]
     pub fn front<'a>(self, limits: Limits, store: &'a [u8]) -> &'a [u8]
         requires { Waiting limits self store.now }
         ensures { result.now ≡ front limits self store.now }
@@ -120,6 +122,7 @@ impl Inbox {
 
     // Removes the first `count` bytes, at most as many as wait, and frees units for them: each byte's, or that of each frame
     // whose last byte goes.
+    #[tactic(auto, unfolding(crate::specs::Inbox::pop, crate::specs::Inbox::popUnits))]
     pub fn pop(self, limits: Limits, lengths: &mut [u32], count: usize) -> Popping
         requires { Poppable limits self lengths.old }
         ensures { popAfter result lengths.new ≡ pop limits self count lengths.old }
