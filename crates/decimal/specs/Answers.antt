@@ -2,9 +2,7 @@
 use Rattle.std.proofs.Math.Option.{Option, none, some}
 use Rattle.std.specs.Prelude.{ℕ, ◌≤◌, ℤ, pos, neg_ℤ}
 use Rattle.decimal.specs.declared.MaybeNumber.{MaybeNumber}
-use Rattle.decimal.specs.declared.MaybeNumber.TheVariants as MaybeNumber
 use Rattle.decimal.specs.declared.MaybeSigned.{MaybeSigned}
-use Rattle.decimal.specs.declared.MaybeSigned.TheVariants as MaybeSigned
 
 abbrev pub maybeNumber : Option ℕ → MaybeNumber
 maybeNumber none = MaybeNumber.None

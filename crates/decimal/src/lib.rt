@@ -176,6 +176,7 @@ fn put_minus(out: &mut [u8], at: usize)
 }
 
 // Writes n, with a minus in front where it is negative, from index at on, and returns the index behind it.
+#[tactic(auto, unfolding(crate::specs::Decimal::signed_of))]
 pub fn write_signed(n: i32, out: &mut [u8], at: usize) -> usize
     requires { at + 21 ≤ length out.old }
     ensures out_after { out.new ≡ copied out.old at (signed_of n) 0 (length (signed_of n)) }
