@@ -2,7 +2,6 @@
 use Rattle.std.specs.Prelude.{List, ◌++◌, ℕ, length, drop}
 use Rattle.std.proofs.Math.Option.{Option, none, some}
 use Rattle.hexadecimal.specs.declared.MaybeLength.{MaybeLength}
-use Rattle.hexadecimal.specs.declared.MaybeLength.TheVariants as MaybeLength
 
 abbrev pub maybeLength : Option (List ℕ) → MaybeLength
 maybeLength none = MaybeLength.None

@@ -41,6 +41,7 @@ fn are_pairs(text: &[u8]) -> bool
     (text.len() % 2 == 0) & are_hex(text)
 }
 
+#[tactic(auto, unfolding(crate::specs::Hexadecimal::hexValue))]
 fn value(c: u8) -> u8
     requires { isHex c ≡ true }
     ensures { (result ≡ hexValue c) × (result < 16) }
@@ -77,6 +78,7 @@ pub fn read(text: &[u8], out: &mut [u8]) -> MaybeLength
 
 // ---- writing
 
+#[tactic(auto, unfolding(crate::specs::Hexadecimal::hexDigit))]
 fn digit(d: u8) -> u8
     requires { d < 16 }
     ensures { result ≡ hexDigit d }
