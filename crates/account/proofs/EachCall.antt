@@ -1,17 +1,15 @@
 -- Each call, while the runner has not finished: it keeps the invariant between runner and account, and the length of the byte store.
-use mathlib.Core.Bool.{Bool, true, false, cond, not, or_self_left}
+use mathlib.Core.Bool.{Bool, true, false, cond, or_self_left}
 use mathlib.Core.Path.{◌≡◌, refl, sym, ap, ◌∙◌, subst, subst⁻¹}
 use mathlib.Core.List.{List}
 use mathlib.Core.Logic.{inl}
-use Prim.Native.Nat.{ℕ, ◌+◌, ◌*◌, ◌≤◌, ◌<◌}
+use Prim.Native.Nat.{ℕ, ◌+◌, ◌≤◌, ◌<◌}
 use native.Mathlib.Omega.{arith}
 use lib.Dec.{ltb}
 use lib.ListN.{length, take}
 use Rattle.exec.specs.declared.Admission.{Admission}
-use Rattle.exec.specs.declared.Admission.TheVariants as Admission
 use Rattle.exec.specs.declared.Cause.TheVariants as Cause
 use Rattle.exec.specs.declared.LaunchResult.{LaunchResult}
-use Rattle.exec.specs.declared.LaunchResult.TheVariants as LaunchResult
 use Rattle.exec.specs.declared.Limits.{Limits}
 use Rattle.exec.specs.declared.Receipt.TheVariants.{Late, Applied}
 use Rattle.exec.specs.declared.Received.TheVariants.{Receipt}
@@ -29,9 +27,7 @@ use Rattle.input.specs.Input.{isKept, kept-paid, receiveBytes}
 use Rattle.output.specs.Output.{keeps, keeps-fit, sentOut, endedOut, askedOut, lostOut, closedOut, failedOut, hungUp}
 use Rattle.runner.specs.declared.answer.Request.TheVariants as Request
 use Rattle.choice.specs.declared.Choice.{Choice}
-use Rattle.choice.specs.declared.Choice.TheVariants as Choice
 use Rattle.runner.specs.declared.message.Wish.{Wish}
-use Rattle.runner.specs.declared.message.Wish.TheVariants as Wish
 use Rattle.runner.specs.declared.runner.Runner.{Runner}
 use Rattle.runner.specs.Life.{awaitsLaunch, ticked, isLate, cancelAnswer, closeRunnerInput, noteStarted, noteLaunch, launchedNext, settledNext}
 use Rattle.runner.specs.Message.{choose, outputPaid, outputSent, effect, payload, wish, wishEffect}

@@ -3,17 +3,13 @@ use mathlib.Core.Bool.{Bool, true, false, cond}
 use mathlib.Core.Path.{◌≡◌, refl, ap, ◌∙◌}
 use mathlib.Core.List.{List}
 use Prim.Native.Nat.{ℕ}
-use native.Mathlib.Omega.{arith}
 use lib.Dec.{ltb, eqb}
 use lib.ListN.{length, drop}
 use lib.Seq.{take_at}
 use Rattle.exec.specs.declared.Admission.{Admission}
-use Rattle.exec.specs.declared.Admission.TheVariants as Admission
 use Rattle.exec.specs.declared.Key.{Key}
 use Rattle.exec.specs.declared.Pool.{Pool}
-use Rattle.exec.specs.declared.Pool.TheVariants as Pool
 use Rattle.exec.specs.declared.PoolIndex.{PoolIndex}
-use Rattle.exec.specs.declared.PoolIndex.TheVariants as PoolIndex
 use Rattle.exec.specs.declared.Received.{Received}
 use Rattle.exec.specs.declared.Reply.TheVariants as Reply
 use Rattle.exec.specs.declared.Stream.{Stream}
@@ -24,9 +20,7 @@ use Rattle.credit.specs.Sender.{grantable}
 use Rattle.input.specs.Input as Input
 use Rattle.runner.specs.declared.answer.Request.TheVariants as Request
 use Rattle.choice.specs.declared.Choice.{Choice}
-use Rattle.choice.specs.declared.Choice.TheVariants as Choice
 use Rattle.runner.specs.declared.message.Wish.{Wish}
-use Rattle.runner.specs.declared.message.Wish.TheVariants as Wish
 use Rattle.runner.specs.declared.runner.Runner.{Runner}
 use Rattle.runner.specs.Calls as Calls
 use Rattle.runner.specs.Calls.{askedFor}
@@ -34,7 +28,7 @@ use Rattle.runner.specs.Life.{isLate, ticked, cancelAnswer}
 use Rattle.runner.specs.Message.{choose, payload, saidFor, bufferAfter, wish}
 use Rattle.runner.specs.MessageLaws.{payload-length}
 use Rattle.runner.specs.Range.{stop, bytesDo}
-use Rattle.runner.specs.State.{credit_at, out_of, base}
+use Rattle.runner.specs.State.{credit_at}
 use Rattle.runner.specs.Streams as Streams
 use Rattle.calls.specs.Call as Call
 use Rattle.calls.specs.Call.{Call}

@@ -9,7 +9,6 @@ use native.Mathlib.Omega.{arith}
 use lib.Dec.{leb}
 use lib.ListN.{length, drop, take-append-drop}
 use Rattle.exec.specs.declared.Admission.{Admission}
-use Rattle.exec.specs.declared.Admission.TheVariants as Admission
 use Rattle.exec.specs.declared.Cause.TheVariants.{Dropped, Reset, Disconnected}
 use Rattle.exec.specs.declared.Limits.{Limits}
 use Rattle.exec.specs.declared.Stream.{Stream}
@@ -23,7 +22,6 @@ use Rattle.inbox.specs.Range.{inboxFits}
 use Rattle.inbox.specs.RangeLaws as Fits
 use Rattle.exec.specs.declared.Receipt.TheVariants as Receipt
 use Rattle.exec.specs.declared.Received.{Received}
-use Rattle.exec.specs.declared.Received.TheVariants as Received
 use Rattle.input.specs.declared.Input.{Input}
 use Rattle.input.specs.Input as In
 use Rattle.input.specs.Input.{pendingInput, receiveAnswer, isKept, receiveInput, receiveBytes, closeWhenTaken, isUsedUp, peerEnds, popIn, endInput, writtenInput}
@@ -31,9 +29,7 @@ use Rattle.output.specs.Output.{keeps as keepsOf, keeps-fit}
 use Rattle.output.specs.Outputs.{outputsFit}
 use Rattle.runner.specs.declared.answer.Request.TheVariants as Request
 use Rattle.choice.specs.declared.Choice.{Choice}
-use Rattle.choice.specs.declared.Choice.TheVariants as Choice
 use Rattle.runner.specs.declared.message.Wish.{Wish}
-use Rattle.runner.specs.declared.message.Wish.TheVariants as Wish
 use Rattle.runner.specs.declared.runner.Runner.{Runner}
 use Rattle.runner.specs.Life.{closeRunnerInput, ticked, cancelNext, launchedNext, exitedNext, settledNext, detachNext}
 use Rattle.runner.specs.Message.{choose, effect, outputSent, outputPaid, wish, wishEffect}

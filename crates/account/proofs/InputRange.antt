@@ -1,5 +1,5 @@
 -- The input in range: its inbox, its frames and its window, through every change of it.
-use mathlib.Core.Bool.{Bool, true, false, cond, not, ◌&&◌}
+use mathlib.Core.Bool.{Bool, true, false, cond}
 use mathlib.Core.Path.{◌≡◌, refl, ap, ◌∙◌}
 use mathlib.Core.List.{List, [], ◌∷◌, ◌++◌}
 use Prim.Native.Nat.{ℕ, suc, ◌+◌, ◌-◌, ◌*◌, ◌≤◌, ◌<◌, min}
@@ -20,7 +20,6 @@ use Rattle.inbox.specs.Inbox.{framesPushed, framesPopped, lengthsPushed, freedBy
 use Rattle.input.specs.declared.Input.{Input}
 use Rattle.exec.specs.declared.Receipt.TheVariants as Receipt
 use Rattle.exec.specs.declared.Received.{Received}
-use Rattle.exec.specs.declared.Received.TheVariants as Received
 use Rattle.input.specs.Input.{closeInput, receiveAnswer, isReceipt, isApplied, receiveInput, receiveLengths, isPaid, passed, endInput, writtenInput, writtenLengths, closeWhenTaken, peerEnds, popIn}
 use Rattle.input.proofs.Receives.{chunk-fits}
 

@@ -6,9 +6,7 @@ use mathlib.Core.Option.{some, some-injective, none-ne-some}
 use Prim.Native.Nat.{ℕ, ◌+◌, ◌^◌, ◌≤◌, ◌<◌}
 use native.Mathlib.Omega.{arith}
 use Rattle.exec.specs.declared.Admission.{Admission}
-use Rattle.exec.specs.declared.Admission.TheVariants as Admission
 use Rattle.exec.specs.declared.Cause.{Cause}
-use Rattle.exec.specs.declared.Cause.TheVariants as Cause
 use Rattle.exec.specs.declared.Deadline.TheVariants.{Never}
 use Rattle.exec.specs.declared.Key.{Key}
 use Rattle.exec.specs.declared.MaybeStatus.{MaybeStatus}

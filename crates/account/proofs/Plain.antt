@@ -9,7 +9,6 @@ use Rattle.exec.specs.Limits.{outputPool}
 use Rattle.inbox.specs.Need.{byteNeed}
 use Rattle.lifecycle.specs.Life.{isRequested}
 use Rattle.choice.specs.declared.Choice.{Choice}
-use Rattle.choice.specs.declared.Choice.TheVariants as Choice
 use Rattle.runner.specs.declared.runner.Runner.{Runner}
 use Rattle.runner.specs.Calls.{askedFor}
 use Rattle.runner.specs.Life.{closeRunnerInput, cancelAnswer, cancelNext, launchedNext, exitedNext, settledNext, detachNext, ticked, deadlineOf, outcomeOf}

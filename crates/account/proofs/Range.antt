@@ -9,15 +9,11 @@ use lib.Dec.{ltb, leb, eqb}
 use lib.ListN.{length}
 use borrow.Author.Tests.{le-leb, lt-ltb, ltb-true, leb-true, eq-eqb}
 use Rattle.exec.specs.declared.Admission.{Admission}
-use Rattle.exec.specs.declared.Admission.TheVariants as Admission
 use Rattle.exec.specs.declared.Cause.{Cause}
-use Rattle.exec.specs.declared.Cause.TheVariants as Cause
 use Rattle.exec.specs.declared.LaunchResult.{LaunchResult}
-use Rattle.exec.specs.declared.LaunchResult.TheVariants as LaunchResult
 use Rattle.exec.specs.declared.Limits.{Limits}
 use Rattle.exec.specs.declared.MaybeStatus.{MaybeStatus}
 use Rattle.exec.specs.declared.PoolIndex.{PoolIndex}
-use Rattle.exec.specs.declared.PoolIndex.TheVariants as PoolIndex
 use Rattle.exec.specs.declared.Reply.TheVariants as Reply
 use Rattle.exec.specs.declared.Stream.{Stream}
 use Rattle.exec.specs.declared.Stream.TheVariants.{Stdout, Stderr}
@@ -42,9 +38,7 @@ use Rattle.output.specs.declared.Output.{Output}
 use Rattle.output.specs.Output.{newOutput, graceEnded, givenUp, abandoned, sentOut, endedOut, askedOut, lostOut, closedOut, failedOut, hungUp, keeps, keeps-fit, outputFits}
 use Rattle.runner.specs.declared.answer.Request.TheVariants as Request
 use Rattle.choice.specs.declared.Choice.{Choice}
-use Rattle.choice.specs.declared.Choice.TheVariants as Choice
 use Rattle.runner.specs.declared.message.Wish.{Wish}
-use Rattle.runner.specs.declared.message.Wish.TheVariants as Wish
 use Rattle.runner.specs.declared.runner.Runner.{Runner}
 use Rattle.runner.specs.Life.{awaitsLaunch, isCleanedUp, isLate, is_over, closeRunnerInput, endGrace, giveUp, abandonLaunch, abandonOpenStreams, beginTermination, passGrace, terminate, passTimeout, passSettlement, giveUpUnlessClean, passGiveUp, dropLaunch, dropStreams, passAbandonment, fire, ticked, timeoutCleared, cancelNext, noteStarted, noteLaunch, launchedNext, noteExit, noteExitOnce, exitedNext, settledNext, silenced, giveUpSoon, cutOff, cutOffOnce, detachNext}
 use Rattle.runner.specs.Message.{choose, outputPaid, outputSent, effect, wish, wishEffect}
@@ -53,7 +47,6 @@ use Rattle.runner.specs.RangeLaws.{is-opened}
 use Rattle.runner.specs.State.{out_of, at, credit_at, putCredit}
 use Rattle.runner.specs.Streams as Streams
 use Rattle.runner.specs.Streams.{isShut, creditsIn, creditsAfter, creditNext, is_taken, inputNext, inputLengths, endNext, writtenNext, outputNext, discardedNext, closedNext, failedNext, hungUpNext}
-use Rattle.calls.specs.Call as Call
 use Rattle.calls.specs.Call.{Conf, Call}
 use Rattle.account.specs.Step.{State}
 use Rattle.account.proofs.Plain.{next, begun, afterAll}

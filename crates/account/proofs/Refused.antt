@@ -10,22 +10,16 @@ use native.Mathlib.Omega.{arith}
 use lib.Dec.{leb, ltb, eqb}
 use lib.ListN.{length, get_or}
 use Rattle.exec.specs.declared.Admission.{Admission}
-use Rattle.exec.specs.declared.Admission.TheVariants as Admission
 use Rattle.exec.specs.declared.Cause.{Cause}
 use Rattle.exec.specs.declared.Key.{Key}
 use Rattle.exec.specs.declared.Limits.{Limits}
 use Rattle.exec.specs.declared.MaybeStatus.{MaybeStatus}
 use Rattle.exec.specs.declared.Pool.{Pool}
-use Rattle.exec.specs.declared.Pool.TheVariants as Pool
 use Rattle.exec.specs.declared.PoolIndex.{PoolIndex}
-use Rattle.exec.specs.declared.PoolIndex.TheVariants as PoolIndex
 use Rattle.exec.specs.declared.Receipt.TheVariants as Receipt
 use Rattle.exec.specs.declared.Received.{Received}
-use Rattle.exec.specs.declared.Received.TheVariants as Received
 use Rattle.exec.specs.declared.Refusal.{Refusal}
-use Rattle.exec.specs.declared.Refusal.TheVariants as Refusal
 use Rattle.exec.specs.declared.Reply.{Reply}
-use Rattle.exec.specs.declared.Reply.TheVariants as Reply
 use Rattle.exec.specs.declared.Timers.{Timers}
 use Rattle.exec.specs.Key.{admits}
 use Rattle.exec.specs.Limits.{bytesWith, isValid, noLimits, outputPool}
@@ -36,9 +30,7 @@ use Rattle.input.specs.declared.Input.{Input}
 use Rattle.input.specs.Input as Input
 use Rattle.runner.specs.declared.answer.Request.TheVariants as Request
 use Rattle.choice.specs.declared.Choice.{Choice}
-use Rattle.choice.specs.declared.Choice.TheVariants as Choice
 use Rattle.runner.specs.declared.message.Wish.{Wish}
-use Rattle.runner.specs.declared.message.Wish.TheVariants as Wish
 use Rattle.runner.specs.declared.runner.Runner.{Runner}
 use Rattle.runner.specs.Calls as Calls
 use Rattle.runner.specs.Calls.{askedFor, storesDo, openBy}
@@ -53,7 +45,6 @@ use Rattle.codec.specs.declared.Written.TheVariants as Written
 use Rattle.codec.specs.Codec as Codec
 use Rattle.codec.specs.Codec.{start, size, WrittenAfter, writtenAfter}
 use Rattle.exits.specs.declared.Told.{Told}
-use Rattle.exits.specs.declared.Told.TheVariants as Told
 use Rattle.exits.specs.Exit as Exit
 use Rattle.exits.specs.Exit.{isTold, isUntold, request, isMine, guess}
 use Rattle.octets.specs.Text.{same}

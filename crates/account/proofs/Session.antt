@@ -1,6 +1,6 @@
 -- The session of 01's card, computed from the definitions: the answers of its 13 calls after open. The stores are any of which
 -- the bytes are at least the 16 that the limits need.
-use mathlib.Core.Bool.{Bool, true, false, cond, ◌&&◌}
+use mathlib.Core.Bool.{true, false}
 use mathlib.Core.Path.{◌≡◌, refl, ap, ◌∙◌}
 use mathlib.Core.List.{List, [], ◌∷◌, map}
 use Prim.Native.Nat.{ℕ, ◌≤◌}
@@ -15,10 +15,7 @@ use Rattle.exec.specs.declared.MaybeLaunchFailure.TheVariants as MaybeLaunchFail
 use Rattle.exec.specs.declared.MaybeStatus.TheVariants as MaybeStatus
 use Rattle.exec.specs.declared.Outcome.{Outcome}
 use Rattle.exec.specs.declared.Pool.TheVariants as Pool
-use Rattle.exec.specs.declared.Refusal.{Refusal}
-use Rattle.exec.specs.declared.Reply.TheVariants as Reply
 use Rattle.exec.specs.declared.Stream.TheVariants.{Stdout, Stderr}
-use Rattle.exec.specs.declared.Unit.TheVariants.{Bytes}
 use Rattle.exec.specs.Key.{admits}
 use Rattle.exec.specs.Limits.{cost, bytesWith, bytesWindow, limitsFor}
 use Rattle.ring.specs.Ring.{wrap, ringRead, ringFrom, ringWrite}

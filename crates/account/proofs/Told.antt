@@ -8,11 +8,9 @@ use Prim.Native.Nat.{ℕ, zero, suc}
 use lib.ListN.{length, take, drop}
 use Rattle.exec.specs.declared.Stream.{Stream}
 use Rattle.choice.specs.declared.Choice.{Choice}
-use Rattle.choice.specs.declared.Choice.TheVariants as Choice
 use Rattle.runner.specs.declared.runner.Runner.{Runner}
 use Rattle.runner.specs.Message.{choose, payload}
 use Rattle.codec.specs.declared.Parsed.{Parsed}
-use Rattle.codec.specs.declared.Parsed.TheVariants as Parsed
 use Rattle.codec.specs.declared.Record.TheVariants as Record
 use Rattle.channel.specs.Calls.{isChannel}
 use Rattle.codec.specs.Codec.{read}

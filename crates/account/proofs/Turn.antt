@@ -10,10 +10,8 @@ use lib.Dec.{ltb}
 use lib.ListN.{length, length-append}
 use borrow.Author.Tests.{ltb-false}
 use Rattle.exec.specs.declared.Admission.{Admission}
-use Rattle.exec.specs.declared.Admission.TheVariants as Admission
 use Rattle.exec.specs.declared.Cause.{Cause}
 use Rattle.exec.specs.declared.LaunchResult.{LaunchResult}
-use Rattle.exec.specs.declared.LaunchResult.TheVariants as LaunchResult
 use Rattle.exec.specs.declared.MaybeStatus.{MaybeStatus}
 use Rattle.exec.specs.declared.Outcome.{Outcome}
 use Rattle.exec.specs.declared.Stream.{Stream}
@@ -24,14 +22,12 @@ use Rattle.output.specs.declared.Output.{Output}
 use Rattle.output.specs.Output.{isDone, lostOut, closedOut, failedOut, hungUp, askedOut}
 use Rattle.runner.specs.declared.answer.Request.TheVariants as Request
 use Rattle.runner.specs.declared.message.Wish.{Wish}
-use Rattle.runner.specs.declared.message.Wish.TheVariants as Wish
 use Rattle.runner.specs.declared.runner.Runner.{Runner}
 use Rattle.runner.specs.Life.{awaitsLaunch, ticked, cancelNext, noteStarted, noteLaunch, launchedNext, closeRunnerInput, is_over, noteExit, noteExitOnce, timeoutCleared, exitedNext, cutOffOnce, detachNext, settledNext}
 use Rattle.runner.specs.Message.{effect, wish, wishEffect}
 use Rattle.runner.specs.State.{out_of, at}
 use Rattle.runner.specs.Streams.{outputTaken, outputNext, discardedNext, closedNext, failedNext, hungUpNext, creditNext, inputNext, endNext, writtenNext}
 use Rattle.codec.specs.declared.Parsed.{Parsed}
-use Rattle.codec.specs.declared.Parsed.TheVariants as Parsed
 use Rattle.codec.specs.declared.Record.TheVariants as Record
 use Rattle.channel.specs.Calls.{isChannel}
 use Rattle.codec.specs.Codec.{read}

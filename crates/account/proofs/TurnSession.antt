@@ -16,7 +16,6 @@ use Rattle.exec.specs.declared.MaybeCause.TheVariants as MaybeCause
 use Rattle.exec.specs.declared.MaybeDuration.TheVariants as MaybeDuration
 use Rattle.exec.specs.declared.MaybeLaunchFailure.TheVariants as MaybeLaunchFailure
 use Rattle.exec.specs.declared.MaybeStatus.{MaybeStatus}
-use Rattle.exec.specs.declared.MaybeStatus.TheVariants as MaybeStatus
 use Rattle.exec.specs.declared.Outcome.{Outcome}
 use Rattle.exec.specs.declared.Pool.TheVariants as Pool
 use Rattle.exec.specs.declared.Reply.TheVariants as Reply
@@ -40,7 +39,6 @@ use Rattle.octets.specs.Bytes.{be32At, number_at}
 use Rattle.octets.specs.Text as Text
 use Rattle.codec.specs.Codec.{header, bytes_of, kinded, fitting, checked, read}
 use Rattle.channel.specs.declared.calls.Wrote.{Wrote}
-use Rattle.channel.specs.declared.calls.Wrote.TheVariants as Wrote
 use Rattle.channel.specs.Calls as Channel
 use Rattle.channel.specs.Calls.{WriteAfter, isChannel, asked, isLeft, told, wrote, wroteBuffer, sentAs, sentBuffer}
 use Rattle.exits.specs.Exit.{isTold, isUntold, request, ending}
@@ -244,10 +242,10 @@ channel-calls status = Call.launched LaunchResult.Started
 
 -- made unless a Terminal is left
 abbrev AllAsk : Conf → List Entry → List Call → Type 0
-AllAsk conf [] [] = Unit
-AllAsk conf [] (c ∷ cs) = ⊥
-AllAsk conf (e ∷ es) [] = ⊥
-AllAsk conf (e ∷ es) (c ∷ cs) = (made conf e Call.Ok ≡ some c) × AllAsk conf es cs
+AllAsk k [] [] = Unit
+AllAsk k [] (c ∷ cs) = ⊥
+AllAsk k (e ∷ es) [] = ⊥
+AllAsk k (e ∷ es) (c ∷ cs) = (made k e Call.Ok ≡ some c) × AllAsk k es cs
 
 records-ask : (status : MaybeStatus) → AllAsk channel (records status) (channel-calls status)
 unfolding made call_of read kinded checked fitting number_at be32At

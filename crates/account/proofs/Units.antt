@@ -6,7 +6,6 @@ use Prim.Native.Nat.{ℕ, ◌+◌, ◌-◌, ◌≤◌, min}
 use native.Mathlib.Omega.{arith}
 use lib.ListN.{length}
 use Rattle.exec.specs.declared.Admission.{Admission}
-use Rattle.exec.specs.declared.Admission.TheVariants as Admission
 use Rattle.exec.specs.declared.Cause.TheVariants.{Dropped, Reset, Disconnected}
 use Rattle.exec.specs.declared.Limits.{Limits}
 use Rattle.exec.specs.declared.Unit as Kinds
@@ -19,20 +18,16 @@ use Rattle.inbox.specs.Inbox.{newInbox, inboxHeld, pushed, freedBy, framesPopped
 use Rattle.exec.specs.declared.Received.{Received}
 use Rattle.exec.specs.declared.Received.TheVariants.{Refused}
 use Rattle.exec.specs.declared.Refusal.{Refusal}
-use Rattle.exec.specs.declared.Refusal.TheVariants as Refusal
 use Rattle.input.specs.declared.Input.{Input}
 use Rattle.input.specs.Input.{receiveAnswer, isReceipt, answered, receiveInput, endInput, writtenInput}
 use Rattle.runner.specs.declared.answer.Request.TheVariants as Request
 use Rattle.choice.specs.declared.Choice.{Choice}
-use Rattle.choice.specs.declared.Choice.TheVariants as Choice
 use Rattle.runner.specs.declared.message.Wish.{Wish}
-use Rattle.runner.specs.declared.message.Wish.TheVariants as Wish
 use Rattle.runner.specs.declared.runner.Runner.{Runner}
 use Rattle.runner.specs.Life.{closeRunnerInput, ticked, cancelNext, launchedNext, exitedNext, settledNext, detachNext}
 use Rattle.runner.specs.Message.{choose, effect, outputSent, outputPaid, wish, wishEffect}
 use Rattle.runner.specs.Range.{fresh}
 use Rattle.runner.specs.Streams.{outputNext, discardedNext, closedNext, failedNext, hungUpNext, creditNext, inputAnswer, inputNext, endNext, writtenNext}
-use Rattle.calls.specs.Call as Call
 use Rattle.calls.specs.Call.{Conf, Call, Answer}
 use Rattle.account.specs.Claim.{Opens, isTerminal}
 use Rattle.account.specs.Step as Step

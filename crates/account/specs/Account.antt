@@ -2,11 +2,9 @@
 -- arguments of open and of the calls, by 01's Time; nothing here reads a runner, and this file knows none.
 use Rattle.std.specs.Prelude.{Bool, true, false, cond, not, ◌&&◌, ◌||◌, List, [], ◌∷◌, ◌++◌, ℕ, ltb, length, take}
 use Rattle.exec.specs.declared.Admission.{Admission}
-use Rattle.exec.specs.declared.Admission.TheVariants as Admission
 use Rattle.exec.specs.declared.Deadline.{Deadline}
 use Rattle.exec.specs.declared.Deadline.TheVariants.{Never}
 use Rattle.exec.specs.declared.Settlement.{Settlement}
-use Rattle.exec.specs.declared.Settlement.TheVariants as Settlement
 use Rattle.exec.specs.declared.Stream.{Stream}
 use Rattle.exec.specs.Each.{Each, one, onOne, alike, both, every}
 use Rattle.exec.specs.Key.{admits}

@@ -16,9 +16,7 @@ use Rattle.runner.specs.declared.answer.Message.TheVariants as Message
 use Rattle.channel.specs.declared.calls.Answer as Answers
 use Rattle.channel.specs.declared.calls.Answer.TheVariants as Reads
 use Rattle.channel.specs.declared.calls.Wrote.{Wrote}
-use Rattle.channel.specs.declared.calls.Wrote.TheVariants as Wrote
 use Rattle.codec.specs.declared.Parsed.{Parsed}
-use Rattle.codec.specs.declared.Parsed.TheVariants as Parsed
 use Rattle.codec.specs.declared.Record.TheVariants as Record
 use Rattle.channel.specs.Calls as Channel
 use Rattle.channel.specs.Calls.{isChannel, room}

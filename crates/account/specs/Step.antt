@@ -2,30 +2,20 @@
 use Rattle.std.specs.Prelude.{List, [], ◌∷◌, ℕ, zero, suc, take}
 use Rattle.exec.specs.declared.Receipt.TheVariants as Receipt
 use Rattle.exec.specs.declared.Received.{Received}
-use Rattle.exec.specs.declared.Received.TheVariants as Received
 use Rattle.exec.specs.declared.Reply.{Reply}
-use Rattle.exec.specs.declared.Reply.TheVariants as Reply
 use Rattle.exec.specs.Refusal.{number}
 use Rattle.runner.specs.declared.answer.Asked.{Asked}
-use Rattle.runner.specs.declared.answer.Asked.TheVariants as Asked
 use Rattle.runner.specs.declared.answer.Count.{Count}
-use Rattle.runner.specs.declared.answer.Count.TheVariants as Count
 use Rattle.runner.specs.declared.answer.KeyAnswer.{KeyAnswer}
-use Rattle.runner.specs.declared.answer.KeyAnswer.TheVariants as KeyAnswer
 use Rattle.runner.specs.declared.answer.LimitsAnswer.{LimitsAnswer}
-use Rattle.runner.specs.declared.answer.LimitsAnswer.TheVariants as LimitsAnswer
 use Rattle.runner.specs.declared.answer.Message as Messages
 use Rattle.runner.specs.declared.answer.Message.TheVariants as Message
 use Rattle.runner.specs.declared.answer.Request as Requests
 use Rattle.runner.specs.declared.answer.Request.TheVariants as Request
 use Rattle.runner.specs.declared.answer.Said.{Said}
-use Rattle.runner.specs.declared.answer.Said.TheVariants as Said
 use Rattle.runner.specs.declared.answer.Taken.{Taken}
-use Rattle.runner.specs.declared.answer.Taken.TheVariants as Taken
 use Rattle.runner.specs.declared.answer.Truth.{Truth}
-use Rattle.runner.specs.declared.answer.Truth.TheVariants as Truth
 use Rattle.runner.specs.declared.answer.When.{When}
-use Rattle.runner.specs.declared.answer.When.TheVariants as When
 use Rattle.runner.specs.declared.runner.Runner.{Runner}
 use Rattle.runner.specs.Calls as Calls
 use Rattle.calls.specs.Call as Call

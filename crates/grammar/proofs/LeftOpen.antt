@@ -11,9 +11,7 @@ use Rattle.exec.specs.declared.Cause.TheVariants as Cause
 use Rattle.exec.specs.declared.Deadline.{Deadline}
 use Rattle.exec.specs.declared.Deadline.TheVariants.{At, Never}
 use Rattle.exec.specs.declared.MaybeDuration.{MaybeDuration}
-use Rattle.exec.specs.declared.MaybeDuration.TheVariants as MaybeDuration
 use Rattle.exec.specs.declared.Reply.{Reply}
-use Rattle.exec.specs.declared.Reply.TheVariants as Reply
 use Rattle.exec.specs.Key.{newKey}
 use Rattle.exec.specs.Refusal.{number}
 use Rattle.exec.specs.Time.{earliest, timeoutAt}
@@ -33,7 +31,7 @@ use Rattle.account.proofs.Plain.{begun}
 use Rattle.account.proofs.Demand.{open-same, same_answer}
 use Rattle.syntax.specs.Table.{calls}
 use Rattle.syntax.specs.Words.{bytes}
-use Rattle.syntax.specs.Lines.{fields, u64, zeros}
+use Rattle.syntax.specs.Lines.{fields, zeros}
 use Rattle.syntax.specs.Zeros.{zeros-length}
 use Rattle.opening.specs.Open.{Opening, at, lineOpen, timeout, openOf, isOpen, openingOf, limitsOf, timersOf}
 use Rattle.opening.specs.Timeout.{number-else, number-itself, line-now, line-timeout, line-bad}

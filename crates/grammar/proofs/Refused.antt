@@ -5,7 +5,6 @@ use mathlib.Core.List.{List, [], ◌∷◌}
 use mathlib.Core.Option.{Option, none, some}
 use Prim.Native.Nat.{ℕ}
 use Rattle.exec.specs.declared.Reply.{Reply}
-use Rattle.exec.specs.declared.Reply.TheVariants as Reply
 use Rattle.exec.specs.Limits.{isValid}
 use Rattle.runner.specs.Calls as Calls
 use Rattle.runner.specs.Range.{bytesDo, lengthsDo}

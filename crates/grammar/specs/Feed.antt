@@ -3,7 +3,6 @@ use Rattle.std.specs.Prelude.{Bool, true, false, cond, ◌≡◌, refl, List, []
 use Rattle.std.proofs.Common.{sym, ap, ◌∙◌, append_assoc}
 use Rattle.std.proofs.Math.Option.{Option, none, some}
 use Rattle.exec.specs.declared.Reply.{Reply}
-use Rattle.exec.specs.declared.Reply.TheVariants as Reply
 use Rattle.runner.specs.Calls as Calls
 use Rattle.calls.specs.Call as Call
 use Rattle.calls.specs.Call.{Call, Answer, timeOf, is_refused}

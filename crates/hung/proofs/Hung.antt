@@ -9,22 +9,17 @@ use native.Mathlib.Nat.{le_refl}
 use lib.ListN.{length}
 use borrow.Author.Tests.{le-leb}
 use Rattle.exec.specs.declared.Admission.{Admission}
-use Rattle.exec.specs.declared.Admission.TheVariants as Admission
 use Rattle.exec.specs.declared.Cause.{Cause}
-use Rattle.exec.specs.declared.Cause.TheVariants as Cause
 use Rattle.exec.specs.declared.Deadline.{Deadline}
 use Rattle.exec.specs.declared.Deadline.TheVariants.{Never, At}
 use Rattle.exec.specs.declared.LaunchResult.{LaunchResult}
-use Rattle.exec.specs.declared.LaunchResult.TheVariants as LaunchResult
 use Rattle.exec.specs.Key.{admits}
 use Rattle.exec.specs.Time.{due, timeoutAt}
 use Rattle.lifecycle.specs.Life.{isFenced}
 use Rattle.lifecycle.specs.Setters.{setTimeoutAt}
 use Rattle.choice.specs.declared.Choice.{Choice}
-use Rattle.choice.specs.declared.Choice.TheVariants as Choice
 use Rattle.runner.specs.declared.answer.Request.TheVariants as Request
 use Rattle.runner.specs.declared.message.Wish.{Wish}
-use Rattle.runner.specs.declared.message.Wish.TheVariants as Wish
 use Rattle.runner.specs.declared.runner.Runner.{Runner}
 use Rattle.runner.specs.Life as Life
 use Rattle.runner.specs.Life.{awaitsLaunch, isCleanedUp, closeRunnerInput, endGrace, giveUp, abandonLaunch, abandonOpenStreams, terminate, dropLaunch, ticked, noteStarted, noteLaunch, launchedNext, settledNext, cutOff, cutOffOnce, detachNext}
@@ -32,7 +27,6 @@ use Rattle.runner.specs.Message.{choose, outputPaid, outputSent, effect, wish, w
 use Rattle.runner.specs.Range.{fresh}
 use Rattle.runner.specs.State.{withClocks}
 use Rattle.runner.specs.Streams.{outputNext, discardedNext, closedNext, failedNext, hungUpNext, creditNext, inputNext, endNext, writtenNext}
-use Rattle.calls.specs.Call as Call
 use Rattle.calls.specs.Call.{Conf, Call}
 use Rattle.account.specs.Step as Step
 use Rattle.account.specs.Step.{State}

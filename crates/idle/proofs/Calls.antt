@@ -6,17 +6,13 @@ use Prim.Native.Nat.{ℕ}
 use lib.Dec.{ltb}
 use lib.ListN.{length}
 use Rattle.exec.specs.declared.Admission.{Admission}
-use Rattle.exec.specs.declared.Admission.TheVariants as Admission
 use Rattle.exec.specs.declared.Cause.TheVariants.{Dropped, Reset, Disconnected}
 use Rattle.exec.specs.declared.Deadline.{Deadline}
 use Rattle.exec.specs.declared.Deadline.TheVariants.{Never}
 use Rattle.exec.specs.declared.LaunchResult.{LaunchResult}
-use Rattle.exec.specs.declared.LaunchResult.TheVariants as LaunchResult
 use Rattle.exec.specs.declared.PoolIndex.{PoolIndex}
-use Rattle.exec.specs.declared.PoolIndex.TheVariants as PoolIndex
 use Rattle.exec.specs.declared.Received.{Received}
 use Rattle.exec.specs.declared.Reply.{Reply}
-use Rattle.exec.specs.declared.Reply.TheVariants as Reply
 use Rattle.exec.specs.declared.Settlement.{Settlement}
 use Rattle.exec.specs.declared.Stream.{Stream}
 use Rattle.exec.specs.Key.{admits}
@@ -26,13 +22,11 @@ use Rattle.lifecycle.specs.declared.life.Settling.{Settling}
 use Rattle.lifecycle.specs.declared.life.Settling.TheVariants.{Idle, Requested, Settled, Fenced}
 use Rattle.lifecycle.specs.Life.{isFenced, isSettled, expectedBy, settleWith}
 use Rattle.choice.specs.declared.Choice.{Choice}
-use Rattle.choice.specs.declared.Choice.TheVariants as Choice
 use Rattle.output.specs.declared.Output.{Output}
 use Rattle.output.specs.Output.{is_held, closedOut, failedOut, hungUp, lostOut, intake, endedOut, askedOut, sentOut}
 use Rattle.output.specs.Outputs.{anyHeld}
 use Rattle.runner.specs.declared.answer.Request.TheVariants as Request
 use Rattle.runner.specs.declared.message.Wish.{Wish}
-use Rattle.runner.specs.declared.message.Wish.TheVariants as Wish
 use Rattle.runner.specs.declared.runner.Runner.{Runner}
 use Rattle.runner.specs.Calls as Calls
 use Rattle.runner.specs.Calls.{noting, hearing, storesDo, inputBy, outputBy, pendingBy, written_by, requestBy, messageBy, whenBy}

@@ -9,11 +9,8 @@ use Rattle.exec.specs.declared.Pool.TheVariants as Pool
 use Rattle.exec.specs.declared.Refusal.TheVariants.{BufferShort, UntoldStatus}
 use Rattle.exec.specs.declared.Received.{Received}
 use Rattle.exec.specs.declared.Reply.{Reply}
-use Rattle.exec.specs.declared.Reply.TheVariants as Reply
 use Rattle.codec.specs.declared.Parsed.{Parsed}
-use Rattle.codec.specs.declared.Parsed.TheVariants as Parsed
 use Rattle.codec.specs.declared.Record.{Record}
-use Rattle.codec.specs.declared.Record.TheVariants as Record
 use Rattle.codec.specs.Codec.{read}
 use Rattle.runner.specs.declared.runner.Runner.{Runner}
 use Rattle.runner.specs.Calls as Calls

@@ -8,7 +8,6 @@ use Rattle.exec.specs.declared.Deadline.{Deadline}
 use Rattle.exec.specs.declared.Deadline.TheVariants.{Never, At}
 use Rattle.exec.specs.declared.LaunchResult.TheVariants as LaunchResult
 use Rattle.exec.specs.declared.MaybeDuration.{MaybeDuration}
-use Rattle.exec.specs.declared.MaybeDuration.TheVariants as MaybeDuration
 use Rattle.exec.specs.declared.MaybeStatus.TheVariants as MaybeStatus
 use Rattle.exec.specs.declared.Settlement as Settlements
 use Rattle.exec.specs.declared.Settlement.TheVariants as Settlement

@@ -13,7 +13,6 @@ use Rattle.exec.specs.Each.{Each, one, onOne, per}
 use Rattle.exec.specs.Limits.{poolOf}
 use Rattle.exec.specs.Stream.{streamAt, following, sameStream}
 use Rattle.choice.specs.declared.Choice.{Choice}
-use Rattle.choice.specs.declared.Choice.TheVariants as Choice
 use Rattle.choice.specs.Order.{ifElse, order}
 use Rattle.output.specs.declared.Output.{Output}
 use Rattle.output.specs.Output.{isDone, endedOut, sentOut, keeps}

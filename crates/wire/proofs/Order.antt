@@ -9,7 +9,6 @@ use Rattle.exec.specs.Each.{one}
 use Rattle.runner.specs.declared.runner.Runner.{Runner}
 use Rattle.runner.specs.Range.{fresh}
 use Rattle.runner.specs.State.{out_of}
-use Rattle.calls.specs.Call as Call
 use Rattle.calls.specs.Call.{Conf, Call, Answer, Message}
 use Rattle.account.specs.Step as Step
 use Rattle.account.specs.Step.{State}

@@ -7,29 +7,23 @@ use lib.Dec.{ltb}
 use lib.ListN.{length}
 use mathlib.Core.List.{List}
 use Rattle.exec.specs.declared.Admission.{Admission}
-use Rattle.exec.specs.declared.Admission.TheVariants as Admission
 use Rattle.exec.specs.declared.Cause.{Cause}
-use Rattle.exec.specs.declared.Cause.TheVariants as Cause
 use Rattle.exec.specs.declared.LaunchResult.{LaunchResult}
-use Rattle.exec.specs.declared.LaunchResult.TheVariants as LaunchResult
 use Rattle.exec.specs.declared.MaybeStatus.{MaybeStatus}
 use Rattle.exec.specs.declared.Stream.{Stream}
 use Rattle.exec.specs.Key.{admits}
 use Rattle.exec.specs.Time.{due}
 use Rattle.lifecycle.specs.Life.{isFenced}
 use Rattle.choice.specs.declared.Choice.{Choice}
-use Rattle.choice.specs.declared.Choice.TheVariants as Choice
 use Rattle.output.specs.declared.Output.{Output}
 use Rattle.output.specs.Output.{graceEnded, givenUp, abandoned, askedOut, closedOut, failedOut, hungUp, lostOut, intake}
 use Rattle.runner.specs.declared.answer.Request.TheVariants as Request
 use Rattle.runner.specs.declared.message.Wish.{Wish}
-use Rattle.runner.specs.declared.message.Wish.TheVariants as Wish
 use Rattle.runner.specs.declared.runner.Runner.{Runner}
 use Rattle.runner.specs.Life.{awaitsLaunch, isCleanedUp, isLate, is_over, timeoutCleared, closeRunnerInput, endGrace, giveUp, abandonLaunch, abandonOpenStreams, beginTermination, passGrace, terminate, passTimeout, passSettlement, giveUpUnlessClean, passGiveUp, dropLaunch, dropStreams, passAbandonment, fire, ticked, cancelNext, noteStarted, noteLaunch, launchedNext, noteExit, noteExitOnce, exitedNext, settledNext, silenced, giveUpSoon, cutOff, cutOffOnce, detachNext}
 use Rattle.runner.specs.Message.{choose, effect, wish, wishEffect}
 use Rattle.runner.specs.State.{out_of, at}
 use Rattle.runner.specs.Streams.{isShut, room, outputNext, discardedNext, closedNext, failedNext, hungUpNext, creditNext, inputNext, endNext, writtenNext}
-use Rattle.calls.specs.Call as Call
 use Rattle.calls.specs.Call.{Call}
 use Rattle.account.specs.Step.{State}
 use Rattle.account.specs.Claim.{isMessage}

@@ -11,7 +11,6 @@ use lib.Seq.{take_at}
 use borrow.Author.Tests.{leb-true, eq-eqb, ne_eqb}
 use Rattle.exec.specs.declared.Limits.{Limits}
 use Rattle.exec.specs.declared.MaybeStatus.{MaybeStatus}
-use Rattle.exec.specs.declared.MaybeStatus.TheVariants as MaybeStatus
 use Rattle.exec.specs.declared.Reply.TheVariants as Reply
 use Rattle.exec.specs.declared.Status.{Status}
 use Rattle.exec.specs.declared.Status.TheVariants.{Exited, Signaled}
@@ -23,7 +22,6 @@ use Rattle.exec.specs.Each.{Each, onOne, every}
 use Rattle.octets.specs.Bytes.{number_at}
 use Rattle.inbox.specs.Need.{byteNeed}
 use Rattle.choice.specs.declared.Choice.{Choice}
-use Rattle.choice.specs.declared.Choice.TheVariants as Choice
 use Rattle.input.specs.declared.Input.{Input}
 use Rattle.runner.specs.declared.runner.Runner.{Runner}
 use Rattle.runner.specs.Calls as Calls
@@ -35,7 +33,6 @@ use Rattle.runner.specs.RangeLaws as RangeLaws
 use Rattle.runner.specs.RangeLaws.{is-good}
 use Rattle.codec.specs.declared.Parsed.TheVariants as Parsed
 use Rattle.codec.specs.declared.Record.{Record}
-use Rattle.codec.specs.declared.Record.TheVariants as Record
 use Rattle.codec.specs.Codec as Codec
 use Rattle.codec.specs.Codec.{start, size, Fits, laidRecord}
 use Rattle.codec.specs.CodecLaws.{Holds, read_is, start-least}

@@ -15,7 +15,6 @@ use Rattle.runner.specs.declared.answer.Message.TheVariants as Messages
 use Rattle.channel.specs.declared.calls.Answer as Answers
 use Rattle.channel.specs.declared.calls.Answer.TheVariants as Reads
 use Rattle.channel.specs.declared.calls.Wrote.{Wrote}
-use Rattle.channel.specs.declared.calls.Wrote.TheVariants as Wrote
 use Rattle.channel.specs.Calls as Channel
 use Rattle.calls.specs.Call as Call
 use Rattle.calls.specs.Call.{Conf, Call, Answer, Message}

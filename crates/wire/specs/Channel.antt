@@ -2,20 +2,16 @@
 -- heard of a message. The sender cuts what a write left by its answer; the peer has the bytes, and no message, length or answer.
 use Rattle.std.specs.Prelude.{Bool, cond, ◌&&◌, List, [], ◌∷◌, ◌++◌, map, ℕ, ◌-◌, eqb, length, take, drop, get_or}
 use Rattle.exec.specs.declared.MaybeStatus.{MaybeStatus}
-use Rattle.exec.specs.declared.MaybeStatus.TheVariants as MaybeStatus
 use Rattle.exec.specs.declared.Stream.TheVariants.{Stdout, Stderr}
 use Rattle.exec.specs.Each.{Each, every}
 use Rattle.runner.specs.declared.answer.Message as Messages
 use Rattle.runner.specs.declared.answer.Message.TheVariants as Message
 use Rattle.octets.specs.Bytes.{number_at}
 use Rattle.codec.specs.declared.Parsed.{Parsed}
-use Rattle.codec.specs.declared.Parsed.TheVariants as Parsed
 use Rattle.codec.specs.Codec as Codec
 use Rattle.exits.specs.declared.Told.{Told}
-use Rattle.exits.specs.declared.Told.TheVariants as Told
 use Rattle.exits.specs.Exit as Exits
 use Rattle.channel.specs.declared.calls.Wrote.{Wrote}
-use Rattle.channel.specs.declared.calls.Wrote.TheVariants as Wrote
 use Rattle.channel.specs.Calls as Channel
 use Rattle.calls.specs.Call as Call
 use Rattle.account.specs.Step.{State}
