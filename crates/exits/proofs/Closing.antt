@@ -9,7 +9,6 @@ use borrow.Author.Tests.{le-leb}
 use Rattle.exec.specs.declared.MaybeStatus.{MaybeStatus}
 use Rattle.codec.specs.declared.Record.TheVariants.{Close}
 use Rattle.codec.specs.declared.Written.{Written}
-use Rattle.codec.specs.declared.Written.TheVariants as Written
 use Rattle.codec.specs.Codec.{bytes_of, WrittenAfter, writtenAfter, write}
 use Rattle.exits.specs.Exit.{requestOf, ending, closed}
 use Rattle.exits.specs.ExitLaws.{ending-length}

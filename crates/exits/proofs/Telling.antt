@@ -13,7 +13,6 @@ use mir.Syntax.{w32}
 use mir.Val.{to_z}
 use mir.ValLaws.{to_z_pos}
 use Rattle.exec.specs.declared.MaybeStatus.{MaybeStatus}
-use Rattle.exec.specs.declared.MaybeStatus.TheVariants as MaybeStatus
 use Rattle.exec.specs.declared.Refusal.TheVariants.{BadRequest}
 use Rattle.exec.specs.declared.Status.{Status}
 use Rattle.exec.specs.declared.Status.TheVariants.{Exited, Signaled}

@@ -4,7 +4,6 @@ use Rattle.std.specs.Prelude.{Bool, true, false, cond, ◌&&◌, ◌||◌, List,
 use Rattle.std.proofs.Common.{arith, lt-ltb, le-ltb, ne_eqb}
 use Rattle.std.proofs.lemmas.Bool.{lt-leb}
 use Rattle.exec.specs.declared.MaybeStatus.{MaybeStatus}
-use Rattle.exec.specs.declared.MaybeStatus.TheVariants as MaybeStatus
 use Rattle.exec.specs.declared.Refusal.TheVariants.{BadLength, UnknownKind, OtherChannel, BufferShort, UntoldStatus, BadRequest}
 use Rattle.exec.specs.declared.Status.{Status}
 use Rattle.exec.specs.declared.Status.TheVariants.{Exited, Signaled}
@@ -15,7 +14,6 @@ use Rattle.octets.specs.Text.{bytes, same, same-is}
 use Rattle.codec.specs.declared.Written.TheVariants as Written
 use Rattle.codec.specs.Codec.{header, bytes_of, WrittenAfter, writtenAfter}
 use Rattle.exits.specs.declared.Told.{Told}
-use Rattle.exits.specs.declared.Told.TheVariants as Told
 use Rattle.exits.specs.Signals.{signals, find, is_number, name_of, signalOf, signalNamed, signalFor}
 use Rattle.exits.specs.SignalLaws.{find-any}
 use Rattle.exits.specs.Exit.{request, isTold, isUntold, ending, closed, close, guess, matching, isMine, read}

@@ -1,7 +1,6 @@
 -- How a program ended, on the wire: RFC 4254, 6.10, exit-status or exit-signal, and CLOSE behind it.
 use Rattle.std.specs.Prelude.{Bool, false, cond, not, ◌&&◌, ◌||◌, List, [], ◌∷◌, ◌++◌, ℕ, ◌-◌, ◌^◌, eqb, leb, ltb, pos, negsuc, length, take, drop, get_or}
 use Rattle.exec.specs.declared.MaybeStatus.{MaybeStatus}
-use Rattle.exec.specs.declared.MaybeStatus.TheVariants as MaybeStatus
 use Rattle.exec.specs.declared.Refusal.TheVariants.{BadLength, UnknownKind, OtherChannel, BufferShort, UntoldStatus, BadRequest}
 use Rattle.exec.specs.declared.Status.{Status}
 use Rattle.exec.specs.declared.Status.TheVariants.{Exited, Signaled}
@@ -11,7 +10,6 @@ use Rattle.codec.specs.declared.Record.TheVariants.{Close}
 use Rattle.codec.specs.declared.Written.TheVariants as Written
 use Rattle.codec.specs.Codec.{bytes_of, WrittenAfter, writtenAfter}
 use Rattle.exits.specs.declared.Told.{Told}
-use Rattle.exits.specs.declared.Told.TheVariants as Told
 use Rattle.exits.specs.declared.signals.Signal.{Signal}
 use Rattle.exits.specs.Signals.{name_of, signalNamed, signalFor}
 

@@ -2,7 +2,6 @@
 use Rattle.std.specs.Prelude.{false, List, [], ◌≡◌, ℕ, ◌+◌, ◌≤◌, pos, negsuc, length}
 use Rattle.std.proofs.Common.{sym, arith, length-append, length-take-le, le-leb}
 use Rattle.exec.specs.declared.MaybeStatus.{MaybeStatus}
-use Rattle.exec.specs.declared.MaybeStatus.TheVariants as MaybeStatus
 use Rattle.exec.specs.declared.Status.{Status}
 use Rattle.exec.specs.declared.Status.TheVariants.{Exited, Signaled}
 use Rattle.octets.specs.Text.{bytes}

@@ -5,7 +5,6 @@ use Rattle.std.proofs.Math.Bool.{or-true}
 use Rattle.std.proofs.Common.{append_assoc, ap, ◌∙◌, arith, length-append, take_at, drop_at, eq-eqb, ne_eqb, ltb-true}
 use Rattle.std.proofs.Math.Path.{subst⁻¹}
 use Rattle.exec.specs.declared.MaybeStatus.{MaybeStatus}
-use Rattle.exec.specs.declared.MaybeStatus.TheVariants as MaybeStatus
 use Rattle.exec.specs.declared.Refusal.{Refusal}
 use Rattle.exec.specs.declared.Status.{Status}
 use Rattle.exec.specs.declared.Status.TheVariants.{Exited, Signaled}
@@ -19,7 +18,6 @@ use Rattle.codec.specs.Codec as Codec
 use Rattle.codec.specs.Codec.{bytes_of, header}
 use Rattle.codec.specs.RoundTrip as Records
 use Rattle.exits.specs.declared.Told.{Told}
-use Rattle.exits.specs.declared.Told.TheVariants as Told
 use Rattle.exits.specs.declared.signals.Signal.{Signal}
 use Rattle.exits.specs.Signals.{name_of, signalOf, signalFor, signalNamed}
 use Rattle.exits.specs.SignalLaws.{name-number}
