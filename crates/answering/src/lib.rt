@@ -203,7 +203,6 @@ fn put_answer(answer: Answer, work: &[u8], out: &mut [u8], at: usize) -> usize
 }
 
 // The line of an answer, with its end, and the index behind it.
-#[tactic(auto, unfolding(syntax::specs::Words::bytes, syntax::specs::Answers::lineText))]
 pub fn write_line(line: u64, answer: Answer, work: &[u8], out: &mut [u8], at: usize) -> usize
     requires { (length work.now ≤ 65536) × (at + 131200 ≤ length out.old) }
     ensures { Wrote 131200 out.old out.new at result (lineText line (answerIs answer work.now)) }

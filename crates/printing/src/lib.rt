@@ -149,7 +149,6 @@ fn put_maybe_status(status: MaybeStatus, out: &mut [u8], at: usize) -> usize
     }
 }
 
-#[tactic(auto, unfolding(syntax::specs::Words::bytes))]
 fn put_failure(failure: LaunchFailure, out: &mut [u8], at: usize) -> usize
     requires { at + 42 ≤ length out.old }
     ensures { Wrote 33 out.old out.new at result (failureText (MaybeLaunchFailure.Some failure)) }
@@ -172,7 +171,6 @@ fn put_maybe_failure(failure: MaybeLaunchFailure, out: &mut [u8], at: usize) -> 
 
 // ---- answers by their kind: a word of at most 12 bytes, a number or a name, bytes
 
-#[tactic(auto, unfolding(syntax::specs::Words::bytes))]
 pub fn alone(name: &[u8], out: &mut [u8], at: usize) -> usize
     requires { (length name.now ≤ 12) × (at + 16 ≤ length out.old) }
     ensures { Wrote 16 out.old out.new at result (word name.now) }
@@ -181,7 +179,6 @@ pub fn alone(name: &[u8], out: &mut [u8], at: usize) -> usize
     put(b",-,-", out, m)
 }
 
-#[tactic(auto, unfolding(syntax::specs::Words::bytes))]
 pub fn with_number(name: &[u8], n: u64, out: &mut [u8], at: usize) -> usize
     requires { (length name.now ≤ 12) × (at + 35 ≤ length out.old) }
     ensures { Wrote 35 out.old out.new at result (counted name.now n) }
@@ -192,7 +189,6 @@ pub fn with_number(name: &[u8], n: u64, out: &mut [u8], at: usize) -> usize
     put(b",-", out, m3)
 }
 
-#[tactic(auto, unfolding(syntax::specs::Words::bytes))]
 pub fn with_stream(name: &[u8], stream: Stream, out: &mut [u8], at: usize) -> usize
     requires { (length name.now ≤ 12) × (at + 35 ≤ length out.old) }
     ensures { Wrote 35 out.old out.new at result (three name.now (streamName stream) dash) }
@@ -203,7 +199,6 @@ pub fn with_stream(name: &[u8], stream: Stream, out: &mut [u8], at: usize) -> us
     put(b",-", out, m3)
 }
 
-#[tactic(auto, unfolding(syntax::specs::Words::bytes))]
 pub fn with_cause(name: &[u8], cause: Cause, out: &mut [u8], at: usize) -> usize
     requires { (length name.now ≤ 12) × (at + 35 ≤ length out.old) }
     ensures { Wrote 35 out.old out.new at result (three name.now (causeName cause) dash) }
@@ -214,7 +209,6 @@ pub fn with_cause(name: &[u8], cause: Cause, out: &mut [u8], at: usize) -> usize
     put(b",-", out, m3)
 }
 
-#[tactic(auto, unfolding(syntax::specs::Words::bytes))]
 pub fn with_flag(name: &[u8], b: bool, out: &mut [u8], at: usize) -> usize
     requires { (length name.now ≤ 12) × (at + 35 ≤ length out.old) }
     ensures { Wrote 35 out.old out.new at result (three name.now (flag b) dash) }
@@ -225,7 +219,6 @@ pub fn with_flag(name: &[u8], b: bool, out: &mut [u8], at: usize) -> usize
     put(b",-", out, m3)
 }
 
-#[tactic(auto, unfolding(syntax::specs::Words::bytes))]
 fn with_bytes(name: &[u8], bytes: &[u8], out: &mut [u8], at: usize) -> usize
     requires { (length name.now ≤ 12) × (length bytes.now ≤ 65536) × (at + 131106 ≤ length out.old) }
     ensures { Wrote 131106 out.old out.new at result (filled name.now bytes.now) }
@@ -259,7 +252,6 @@ pub fn put_output(stream: Stream, n: usize, work: &[u8], out: &mut [u8], at: usi
 
 // ---- a terminal outcome, in three parts
 
-#[tactic(auto, unfolding(syntax::specs::Words::bytes))]
 fn put_ended(outcome: Outcome, out: &mut [u8], at: usize) -> usize
     requires { at + 60 ≤ length out.old }
     ensures { Wrote 39 out.old out.new at result
@@ -273,7 +265,6 @@ fn put_ended(outcome: Outcome, out: &mut [u8], at: usize) -> usize
     put_maybe_cause(cause, out, m3)
 }
 
-#[tactic(auto, unfolding(syntax::specs::Words::bytes))]
 fn put_flags(outcome: Outcome, out: &mut [u8], at: usize) -> usize
     requires { at + 4 ≤ length out.old }
     ensures { Wrote 4 out.old out.new at result
@@ -285,7 +276,6 @@ fn put_flags(outcome: Outcome, out: &mut [u8], at: usize) -> usize
     put_flag(outcome.reusable, out, m3)
 }
 
-#[tactic(auto, unfolding(syntax::specs::Words::bytes))]
 pub fn put_outcome(outcome: Outcome, out: &mut [u8], at: usize) -> usize
     requires { at + 131106 ≤ length out.old }
     ensures { Wrote 131106 out.old out.new at result (outcomeText outcome) }

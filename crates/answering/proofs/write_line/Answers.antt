@@ -1,0 +1,10 @@
+-- What each call wrote stands behind what the one before it wrote.
+use Rattle.std.proofs.Common.{arith}
+use Rattle.syntax.specs.Words.{bytes}
+use Rattle.syntax.specs.Answers.{lineText}
+use Rattle.printing.specs.Written.{joined, within}
+use Rattle.answering.proofs.write_line.Goals as goal
+
+pub returns : goal.returns
+unfolding bytes lineText
+returns c = within (joined (joined (joined c.put_number-m.ensures c.put_byte-m2.ensures) c.put_answer-m3.ensures) c.put_byte.ensures) (omega arith)
