@@ -132,6 +132,7 @@ impl Input {
     }
 
     // Takes bytes from the peer: they are charged to the window, and dropped once the input is closed.
+    #[tactic(auto, unfolding(crate::specs::Input::receiveAnswer, crate::specs::Input::receiveInput, crate::specs::Input::receiveBytes, crate::specs::Input::receiveLengths))]
     pub fn receive(
         self,
         limits: Limits,
@@ -152,6 +153,7 @@ impl Input {
         self.receive_checked(checked, limits, store, lengths, bytes)
     }
 
+    #[tactic(auto, unfolding(crate::specs::Input::receiveAnswer, crate::specs::Input::receiveInput, crate::specs::Input::receiveBytes, crate::specs::Input::receiveLengths, exec::specs::Limits::checkChunk))]
     fn receive_checked(
         self,
         checked: ChunkLength,
@@ -178,6 +180,7 @@ impl Input {
         }
     }
 
+    #[tactic(auto, unfolding(crate::specs::Input::receiveAnswer, crate::specs::Input::receiveInput, crate::specs::Input::receiveBytes, crate::specs::Input::receiveLengths))]
     fn receive_charged(
         self,
         charging: Charging,
@@ -204,6 +207,7 @@ impl Input {
     }
 
     // Keeps a message that is paid for, unless the input is closed: then the charge stands, and the bytes are dropped.
+    #[tactic(auto, unfolding(crate::specs::Input::receiveAnswer, crate::specs::Input::receiveInput, crate::specs::Input::receiveBytes, crate::specs::Input::receiveLengths, inbox::specs::Inbox::push))]
     fn receive_paid(
         self,
         granted: Granted,
@@ -273,7 +277,7 @@ impl Input {
     }
 
     // Notes how many of the waiting bytes the workload took, whose units are granted again.
-    #[tactic(auto, unfolding(inbox::specs::Inbox::pop))]
+    #[tactic(auto, unfolding(crate::specs::Input::writtenInput, crate::specs::Input::writtenLengths, inbox::specs::Inbox::pop))]
     pub fn written(self, limits: Limits, lengths: &mut [u32], count: usize) -> Input
         requires { Writable limits self lengths.old }
         ensures { writtenAfter result lengths.new ≡ written limits self count lengths.old }

@@ -1,0 +1,13 @@
+-- A message that is paid for has room in the inbox, as it is no longer than a chunk.
+use Rattle.std.proofs.Common.{length, arith, ltb-false}
+use Rattle.inbox.specs.RangeLaws.{is-pushable}
+use Rattle.input.proofs.Receives.{chunk-fits}
+use Rattle.input.proofs.Input.receive_paid.Goals as goal
+
+pub push-inbox-requires : goal.push-inbox-requires
+push-inbox-requires c =
+    let a = c.args in
+    let l = c.requires.lent in
+    let p = c.requires.paid.0 in
+    let n = length a.bytes.now in
+    is-pushable a.limits a.self.window a.self.inbox l.range n _ _ (chunk-fits a.limits n p.chunk) (ltb-false _ _ p.window) (grind arith) (grind arith) l.bytes l.slots
