@@ -17,8 +17,8 @@ for name in calls output input frames adapter; do
     build --crate-type rlib --crate-name rust_$name --out-dir target --extern room src/rust/$name.rs
     linked="$linked --extern rust_$name"
 done
-for name in bench bench_output bench_input bench_frames bench_adapter; do
-    (cd .. && rt staticlib $name) >&2
-    linked="$linked -l static=$name"
+for name in calls output input frames adapter; do
+    (cd ../crates/bench_$name && rt lib) >&2
+    linked="$linked -L ../crates/bench_$name/out -l static=bench_$name"
 done
-build -L ../target/staticlib $linked -o target/bench src/main.rs
+build $linked -o target/bench src/main.rs

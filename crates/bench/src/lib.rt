@@ -1,6 +1,6 @@
-// The runner's calls in loops, for Rust to link and time beside its own (bench/): the loops of one call a turn, and what all
-// loops share. The loops of several calls are crates of their own, so that in each library each measured call has one caller,
-// as in an adapter's event loop: there the compiler makes it a part of its caller, and where it has several it does not.
+// What all loops share that Rust links and times beside its own (bench/): a runner that runs, what an answer adds to a sum, and the
+// work between two turns. The loops are crates of their own, so that in each library each measured call has one caller, as in an
+// adapter's event loop: there the compiler makes it a part of its caller, and where it has several it does not.
 // An exported loop opens a runner over the lent stores, makes the calls of a turn `turns` times, with `steps` steps of
 // arithmetic after each turn, and returns the sum of the answers and of the arithmetic. It is proved safe and to end, and
 // promises nothing else. What is lent has a fixed length, so that nothing has to be known of it after a turn; chunk, window and
@@ -11,8 +11,8 @@
 
 use credit::sender::Credit;
 use exec::{
-    Cause, Deadline, Key, LaunchResult, Limits, MaybeStatus, Pool, Receipt, Received, Reply,
-    Stream, Timers, Window,
+    Cause, Deadline, Key, LaunchResult, Limits, MaybeStatus, Receipt, Received, Reply, Timers,
+    Window,
 };
 use inbox::receiver::Granted;
 use runner::answer::{Message, Said, Taken, When};
@@ -25,16 +25,6 @@ pub fn work(start: u64, steps: u64) -> u64 {
         x = (x % 4294967291) * 1664525 + 1013904223;
     }
     x
-}
-
-// The work alone, to be subtracted.
-#[unsafe(no_mangle)]
-pub extern "C" fn bench_work(turns: u64, steps: u64) -> u64 {
-    let mut other = 1;
-    for _ in 0..turns {
-        other = work(other, steps);
-    }
-    other
 }
 
 pub fn add(a: u64, b: u64) -> u64 {
@@ -145,126 +135,6 @@ pub fn in_frames(chunk: u32, window: u32) -> Limits {
     Limits::of(chunk, Window::frames(window), Window::frames(window), false)
 }
 
-// tick, with nothing due.
-#[unsafe(no_mangle)]
-pub extern "C" fn bench_tick(
-    store: &mut [u8; 49152],
-    lengths: &mut [u32; 1024],
-    _buffer: &mut [u8; 16384],
-    chunk: u32,
-    window: u32,
-    timeout: u64,
-    turns: u64,
-    steps: u64,
-) -> u64 {
-    let first = running(in_bytes(chunk, window), timeout, store, lengths, u32::MAX);
-    let mut r = first;
-    let mut sum = 0;
-    let mut other = 1;
-    for i in 0..turns {
-        let noting = r.tick(i % 64);
-        let reply = noting.reply;
-        sum = add(sum, of_reply(reply));
-        r = noting.runner;
-        other = work(other, steps);
-    }
-    add(sum, other)
-}
-
-// credit of one unit.
-#[unsafe(no_mangle)]
-pub extern "C" fn bench_credit(
-    store: &mut [u8; 49152],
-    lengths: &mut [u32; 1024],
-    _buffer: &mut [u8; 16384],
-    chunk: u32,
-    window: u32,
-    timeout: u64,
-    turns: u64,
-    steps: u64,
-) -> u64 {
-    let first = running(in_bytes(chunk, window), timeout, store, lengths, 1);
-    let mut r = first;
-    let mut sum = 0;
-    let mut other = 1;
-    for _ in 0..turns {
-        let hearing = r.credit(key(), Pool::Stdout, 1);
-        let received = hearing.received;
-        sum = add(sum, of_received(received));
-        r = hearing.runner;
-        other = work(other, steps);
-    }
-    add(sum, other)
-}
-
-// next_message, with nothing waiting.
-#[unsafe(no_mangle)]
-pub extern "C" fn bench_idle(
-    store: &mut [u8; 49152],
-    lengths: &mut [u32; 1024],
-    buffer: &mut [u8; 16384],
-    chunk: u32,
-    window: u32,
-    timeout: u64,
-    turns: u64,
-    steps: u64,
-) -> u64 {
-    let first = running(in_bytes(chunk, window), timeout, store, lengths, u32::MAX);
-    let mut r = first;
-    let mut sum = 0;
-    let mut other = 1;
-    for _ in 0..turns {
-        let saying = r.next_message(store, buffer);
-        let said = saying.said;
-        sum = add(sum, of_said(said));
-        r = saying.runner;
-        other = work(other, steps);
-    }
-    add(sum, other)
-}
-
-// deadline, of four runners by turns: of one alone the compiler would ask once.
-#[unsafe(no_mangle)]
-pub extern "C" fn bench_deadline(
-    store: &mut [u8; 49152],
-    lengths: &mut [u32; 1024],
-    _buffer: &mut [u8; 16384],
-    chunk: u32,
-    window: u32,
-    timeout: u64,
-    turns: u64,
-    steps: u64,
-) -> u64 {
-    let all = four(running(in_bytes(chunk, window), timeout, store, lengths, u32::MAX));
-    let mut sum = 0;
-    let mut other = 1;
-    for i in 0..turns {
-        let k = (i / 3) % 4;
-        let at = k as usize;
-        let r = all[at];
-        let when = r.deadline();
-        sum = add(sum, of_when(when, 1000 + 1000 * k));
-        other = work(other, steps);
-    }
-    add(sum, other)
-}
-
-fn four(r: Runner) -> [Runner; 4] {
-    [
-        due_at(r, 1000),
-        due_at(r, 2000),
-        due_at(r, 3000),
-        due_at(r, 4000),
-    ]
-}
-
-fn due_at(mut runner: Runner, at: u64) -> Runner {
-    let clocks = runner.clocks;
-    let next = clocks.set_timeout_at(Deadline::At(at));
-    runner.clocks = next;
-    runner
-}
-
 // The other calls that tick, once each: with them `fire` has several callers, as in any adapter, and is a part of none. A
 // library whose loop ticks exports it beside the loop.
 pub fn rest(r: Runner, now: u64) -> u64 {
@@ -273,18 +143,4 @@ pub fn rest(r: Runner, now: u64) -> u64 {
     let noting = exited.disconnect(now);
     let reply = noting.reply;
     of_reply(reply)
-}
-
-#[unsafe(no_mangle)]
-pub extern "C" fn bench_rest(
-    store: &mut [u8; 49152],
-    lengths: &mut [u32; 1024],
-    chunk: u32,
-    window: u32,
-    now: u64,
-) -> u64 {
-    rest(
-        running(in_bytes(chunk, window), now, store, lengths, u32::MAX),
-        now,
-    )
 }
