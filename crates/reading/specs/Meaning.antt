@@ -5,45 +5,29 @@ use Rattle.syntax.specs.Lines.{on, u32, missing}
 use Rattle.exec.specs.declared.Cause.{Cause}
 use Rattle.exec.specs.declared.Key.{Key}
 use Rattle.exec.specs.declared.LaunchResult.{LaunchResult}
-use Rattle.exec.specs.declared.LaunchResult.TheVariants as LaunchResult
 use Rattle.exec.specs.declared.MaybeCause.{MaybeCause}
-use Rattle.exec.specs.declared.MaybeCause.TheVariants as MaybeCause
 use Rattle.exec.specs.declared.MaybeStatus.{MaybeStatus}
-use Rattle.exec.specs.declared.MaybeStatus.TheVariants as MaybeStatus
 use Rattle.exec.specs.declared.Pool.{Pool}
 use Rattle.exec.specs.declared.Settlement.{Settlement}
 use Rattle.exec.specs.declared.Status.TheVariants as Status
 use Rattle.exec.specs.declared.Stream.{Stream}
 use Rattle.exec.specs.declared.Unit as Units
 use Rattle.decimal.specs.declared.MaybeNumber.{MaybeNumber}
-use Rattle.decimal.specs.declared.MaybeNumber.TheVariants as MaybeNumber
 use Rattle.decimal.specs.declared.MaybeSigned.{MaybeSigned}
-use Rattle.decimal.specs.declared.MaybeSigned.TheVariants as MaybeSigned
 use Rattle.hexadecimal.specs.declared.MaybeLength.{MaybeLength}
-use Rattle.hexadecimal.specs.declared.MaybeLength.TheVariants as MaybeLength
 use Rattle.decimal.specs.Decimal.{signed}
 use Rattle.calls.specs.Call.{Call}
 use Rattle.syntax.specs.Meaning.{callIs}
 use Rattle.reading.specs.declared.words.MaybeFlag.{MaybeFlag}
-use Rattle.reading.specs.declared.words.MaybeFlag.TheVariants as MaybeFlag
 use Rattle.reading.specs.declared.words.MaybePool.{MaybePool}
-use Rattle.reading.specs.declared.words.MaybePool.TheVariants as MaybePool
 use Rattle.reading.specs.declared.words.MaybeSettlement.{MaybeSettlement}
-use Rattle.reading.specs.declared.words.MaybeSettlement.TheVariants as MaybeSettlement
 use Rattle.reading.specs.declared.words.MaybeStream.{MaybeStream}
-use Rattle.reading.specs.declared.words.MaybeStream.TheVariants as MaybeStream
 use Rattle.reading.specs.declared.words.MaybeUnit.{MaybeUnit}
-use Rattle.reading.specs.declared.words.MaybeUnit.TheVariants as MaybeUnit
 use Rattle.reading.specs.declared.fields.MaybeU32.{MaybeU32}
-use Rattle.reading.specs.declared.fields.MaybeU32.TheVariants as MaybeU32
 use Rattle.reading.specs.declared.fields.MaybeKey.{MaybeKey}
-use Rattle.reading.specs.declared.fields.MaybeKey.TheVariants as MaybeKey
 use Rattle.reading.specs.declared.fields.FoundStatus.{FoundStatus}
-use Rattle.reading.specs.declared.fields.FoundStatus.TheVariants as FoundStatus
 use Rattle.reading.specs.declared.fields.FoundLaunch.{FoundLaunch}
-use Rattle.reading.specs.declared.fields.FoundLaunch.TheVariants as FoundLaunch
 use Rattle.reading.specs.declared.lines.Line.{Line}
-use Rattle.reading.specs.declared.lines.Line.TheVariants as Line
 
 abbrev pub streamIs : MaybeStream → Option Stream
 streamIs MaybeStream.None = none

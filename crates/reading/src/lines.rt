@@ -23,7 +23,7 @@ pub enum Line {
 
 // ---- with no argument
 
-#[tactic(auto, unfolding(syntax::specs::Words::bytes, crate::specs::Naming::Beyond, crate::specs::Naming::placeNamed, crate::specs::Naming::standsAt))]
+#[tactic(auto, unfolding(syntax::specs::Words::bytes, syntax::specs::Lines::find, crate::specs::Naming::placeNamed))]
 fn plain(name: &[u8]) -> Line
     ensures { LineIs result (find name.now plainCalls) }
 {
@@ -46,7 +46,7 @@ fn plain(name: &[u8]) -> Line
 }
 
 // (A table of more than five names is read in parts.)
-#[tactic(auto, unfolding(syntax::specs::Words::bytes, crate::specs::Naming::Beyond, crate::specs::Naming::placeNamed, crate::specs::Naming::standsAt))]
+#[tactic(auto, unfolding(syntax::specs::Words::bytes, syntax::specs::Lines::find, crate::specs::Naming::placeNamed))]
 fn plain_from_5(name: &[u8]) -> Line
     ensures { LineIs result (find name.now (drop 5 plainCalls)) }
 {
@@ -169,7 +169,7 @@ fn message(a: &[u8]) -> Line
     Line::Call(Call::NextMessage(n as u16))
 }
 
-#[tactic(auto, unfolding(syntax::specs::Words::bytes, crate::specs::Naming::Beyond, crate::specs::Naming::placeNamed, crate::specs::Naming::standsAt, syntax::specs::Lines::call_of, crate::specs::Naming::call1From))]
+#[tactic(auto, unfolding(syntax::specs::Words::bytes, syntax::specs::Lines::find, crate::specs::Naming::placeNamed, syntax::specs::Lines::call_of, crate::specs::Naming::call1From))]
 fn call1(name: &[u8], a: &[u8]) -> Line
     ensures { LineIs result (call_of (name.now ∷ a.now ∷ [])) }
 {
@@ -189,7 +189,7 @@ fn call1(name: &[u8], a: &[u8]) -> Line
     }
 }
 
-#[tactic(auto, unfolding(syntax::specs::Words::bytes, crate::specs::Naming::Beyond, crate::specs::Naming::placeNamed, crate::specs::Naming::standsAt, crate::specs::Naming::call1From))]
+#[tactic(auto, unfolding(syntax::specs::Words::bytes, syntax::specs::Lines::find, crate::specs::Naming::placeNamed, crate::specs::Naming::call1From))]
 fn call1_from_4(name: &[u8], a: &[u8]) -> Line
     ensures { LineIs result (call1From 4 name.now a.now) }
 {
@@ -211,7 +211,7 @@ fn call1_from_4(name: &[u8], a: &[u8]) -> Line
     }
 }
 
-#[tactic(auto, unfolding(syntax::specs::Words::bytes, crate::specs::Naming::Beyond, crate::specs::Naming::placeNamed, crate::specs::Naming::standsAt))]
+#[tactic(auto, unfolding(syntax::specs::Words::bytes, syntax::specs::Lines::find, crate::specs::Naming::placeNamed, crate::specs::Naming::call1From))]
 fn call1_from_9(name: &[u8], a: &[u8]) -> Line
     ensures { LineIs result (call1From 9 name.now a.now) }
 {
@@ -271,7 +271,7 @@ fn exited(a: &[u8], b: &[u8]) -> Line
     Line::Call(Call::At(now, Timed::Exited(x)))
 }
 
-#[tactic(auto, unfolding(syntax::specs::Lines::call_of, syntax::specs::Words::bytes, crate::specs::Naming::Beyond, crate::specs::Naming::placeNamed, crate::specs::Naming::standsAt))]
+#[tactic(auto, unfolding(syntax::specs::Lines::call_of, syntax::specs::Words::bytes, syntax::specs::Lines::find, crate::specs::Naming::placeNamed))]
 fn call2(name: &[u8], a: &[u8], b: &[u8], work: &mut [u8]) -> Line
     requires { length b.now / 2 ≤ length work.old }
     ensures { lineIs result work.new ≡ call_of (name.now ∷ a.now ∷ b.now ∷ []) }
@@ -310,7 +310,7 @@ fn input(a: &[u8], b: &[u8], c: &[u8], work: &mut [u8]) -> Line
     Line::Call(Call::Input(key, n))
 }
 
-#[tactic(auto, unfolding(syntax::specs::Lines::call_of, syntax::specs::Words::bytes, crate::specs::Naming::Beyond, crate::specs::Naming::placeNamed, crate::specs::Naming::standsAt))]
+#[tactic(auto, unfolding(syntax::specs::Lines::call_of, syntax::specs::Words::bytes, syntax::specs::Lines::find, crate::specs::Naming::placeNamed))]
 fn call3(name: &[u8], a: &[u8], b: &[u8], c: &[u8], work: &mut [u8]) -> Line
     requires { length c.now / 2 ≤ length work.old }
     ensures { lineIs result work.new ≡ call_of (name.now ∷ a.now ∷ b.now ∷ c.now ∷ []) }
@@ -355,7 +355,7 @@ fn cancel(a: &[u8], b: &[u8], c: &[u8], d: &[u8]) -> Line
     Line::Call(Call::At(now, Timed::Cancel(key, x)))
 }
 
-#[tactic(auto, unfolding(syntax::specs::Lines::call_of, syntax::specs::Words::bytes, crate::specs::Naming::Beyond, crate::specs::Naming::placeNamed, crate::specs::Naming::standsAt))]
+#[tactic(auto, unfolding(syntax::specs::Lines::call_of, syntax::specs::Words::bytes, syntax::specs::Lines::find, crate::specs::Naming::placeNamed))]
 fn call4(name: &[u8], a: &[u8], b: &[u8], c: &[u8], d: &[u8]) -> Line
     ensures { LineIs result (call_of (name.now ∷ a.now ∷ b.now ∷ c.now ∷ d.now ∷ [])) }
 {

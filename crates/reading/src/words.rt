@@ -96,7 +96,7 @@ pub(crate) fn place5(field: &[u8], a: &[u8], b: &[u8], c: &[u8], d: &[u8], e: &[
 
 // ---- words
 
-#[tactic(auto, unfolding(syntax::specs::Words::bytes, crate::specs::Naming::Beyond, crate::specs::Naming::placeNamed, crate::specs::Naming::standsAt))]
+#[tactic(auto, unfolding(syntax::specs::Words::bytes, syntax::specs::Words::named, crate::specs::Naming::placeNamed))]
 pub(crate) fn stream(field: &[u8]) -> MaybeStream
     ensures { streamIs result ≡ stream field.now }
 {
@@ -108,7 +108,7 @@ pub(crate) fn stream(field: &[u8]) -> MaybeStream
     }
 }
 
-#[tactic(auto, unfolding(syntax::specs::Words::bytes, crate::specs::Naming::Beyond, crate::specs::Naming::placeNamed, crate::specs::Naming::standsAt))]
+#[tactic(auto, unfolding(syntax::specs::Words::bytes, syntax::specs::Words::named, crate::specs::Naming::placeNamed))]
 pub(crate) fn pool(field: &[u8]) -> MaybePool
     ensures { poolIs result ≡ pool field.now }
 {
@@ -122,7 +122,7 @@ pub(crate) fn pool(field: &[u8]) -> MaybePool
     }
 }
 
-#[tactic(auto, unfolding(syntax::specs::Words::bytes, crate::specs::Naming::Beyond, crate::specs::Naming::placeNamed, crate::specs::Naming::standsAt))]
+#[tactic(auto, unfolding(syntax::specs::Words::bytes, syntax::specs::Words::named, crate::specs::Naming::placeNamed))]
 pub(crate) fn cause(field: &[u8]) -> MaybeCause
     ensures { causeIs result ≡ cause field.now }
 {
@@ -144,7 +144,7 @@ pub(crate) fn cause(field: &[u8]) -> MaybeCause
     }
 }
 
-#[tactic(auto, unfolding(syntax::specs::Words::bytes, crate::specs::Naming::Beyond, crate::specs::Naming::placeNamed, crate::specs::Naming::standsAt))]
+#[tactic(auto, unfolding(syntax::specs::Words::bytes, syntax::specs::Words::named, crate::specs::Naming::placeNamed))]
 pub(crate) fn settlement(field: &[u8]) -> MaybeSettlement
     ensures { settlementIs result ≡ settlement field.now }
 {
@@ -156,7 +156,7 @@ pub(crate) fn settlement(field: &[u8]) -> MaybeSettlement
     }
 }
 
-#[tactic(auto, unfolding(syntax::specs::Words::bytes, crate::specs::Naming::Beyond, crate::specs::Naming::placeNamed, crate::specs::Naming::standsAt))]
+#[tactic(auto, unfolding(syntax::specs::Words::bytes, syntax::specs::Words::named, crate::specs::Naming::placeNamed))]
 pub fn unit(field: &[u8]) -> MaybeUnit
     ensures { unitIs result ≡ unit field.now }
 {
