@@ -5,15 +5,10 @@ use Rattle.exec.specs.declared.MaybeDuration.{MaybeDuration}
 use Rattle.exec.specs.declared.Timers.{Timers}
 use Rattle.exec.specs.declared.Window.{Window}
 use Rattle.opening.specs.declared.FoundTimeout.{FoundTimeout}
-use Rattle.opening.specs.declared.FoundTimeout.TheVariants as FoundTimeout
 use Rattle.opening.specs.declared.MaybeLimits.{MaybeLimits}
-use Rattle.opening.specs.declared.MaybeLimits.TheVariants as MaybeLimits
 use Rattle.opening.specs.declared.MaybeOpening.{MaybeOpening}
-use Rattle.opening.specs.declared.MaybeOpening.TheVariants as MaybeOpening
 use Rattle.opening.specs.declared.MaybeTimers.{MaybeTimers}
-use Rattle.opening.specs.declared.MaybeTimers.TheVariants as MaybeTimers
 use Rattle.opening.specs.declared.MaybeWindow.{MaybeWindow}
-use Rattle.opening.specs.declared.MaybeWindow.TheVariants as MaybeWindow
 use Rattle.opening.specs.Open.{Opening}
 
 abbrev pub timeoutIs : FoundTimeout → Option MaybeDuration

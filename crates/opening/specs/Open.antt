@@ -3,7 +3,6 @@ use Rattle.std.specs.Prelude.{Bool, cond, ◌&&◌, List, [], ℕ, eqb, length, 
 use Rattle.std.proofs.Math.Option.{Option, none, some, map}
 use Rattle.exec.specs.declared.Limits.{Limits}
 use Rattle.exec.specs.declared.MaybeDuration.{MaybeDuration}
-use Rattle.exec.specs.declared.MaybeDuration.TheVariants as MaybeDuration
 use Rattle.exec.specs.declared.Timers.{Timers}
 use Rattle.exec.specs.declared.Window.{Window}
 use Rattle.exec.specs.Key.{newKey}

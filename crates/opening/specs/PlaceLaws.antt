@@ -92,8 +92,8 @@ place-turn s k i j b l x =
     rw m (place-on (drop i s) (k - (j + 1)) (comma-most (drop i s)) ∙ rw (← x.is, further) refl)
 
 -- the k-th field as the code makes it
-pub place-part : (s : List ℕ) (k i e : ℕ) → Begins s k i → e ≡ i + commaAt (drop i s) → take (e - i) (drop i s) ≡ at (fields s) k
-place-part s k i e p h =
+pub place_part : (s : List ℕ) (k i e : ℕ) → Begins s k i → e ≡ i + commaAt (drop i s) → take (e - i) (drop i s) ≡ at (fields s) k
+place_part s k i e p h =
     let n : e - i ≡ commaAt (drop i s) = omega arith in ap (λ (x : ℕ). take x (drop i s)) n ∙ sym (place-field s k i p)
 
 -- the first field as the code makes it

@@ -4,7 +4,6 @@ use Rattle.std.proofs.Common.{sym, ap, ◌∙◌}
 use Rattle.std.proofs.Math.Option.{Option, none, some, map, some-injective, none-ne-some}
 use Rattle.exec.specs.declared.Limits.{Limits}
 use Rattle.exec.specs.declared.MaybeDuration.{MaybeDuration}
-use Rattle.exec.specs.declared.MaybeDuration.TheVariants as MaybeDuration
 use Rattle.exec.specs.declared.Timers.{Timers}
 use Rattle.exec.specs.Key.{newKey}
 use Rattle.octets.specs.Text.{same-is}

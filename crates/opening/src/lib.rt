@@ -138,7 +138,7 @@ fn end(line: &[u8], i: usize) -> usize
 
 // ---- the fields at places
 
-#[tactic(auto, unfolding(crate::specs::Open::isOpen, syntax::specs::Words::bytes))]
+#[tactic(auto, using(crate::specs::PlaceLaws::first_part), unfolding(crate::specs::Open::isOpen, syntax::specs::Words::bytes))]
 fn is_open(line: &[u8]) -> bool
     requires { length line.now ≤ 65535 }
     ensures { result ≡ isOpen (fields line.now) }
@@ -148,6 +148,7 @@ fn is_open(line: &[u8]) -> bool
     (n == 13) & octets::same(&line[0..e], b"open")
 }
 
+#[tactic(auto, using(crate::specs::PlaceLaws::place_part))]
 fn number_at(line: &[u8], k: usize) -> MaybeNumber
     ensures { numberIs result ≡ u64 (at (fields line.now) k) }
 {
@@ -156,6 +157,7 @@ fn number_at(line: &[u8], k: usize) -> MaybeNumber
     fields::wide(&line[i..e])
 }
 
+#[tactic(auto, using(crate::specs::PlaceLaws::place_part))]
 fn narrow_at(line: &[u8], k: usize) -> MaybeU32
     ensures { narrowIs result ≡ u32 (at (fields line.now) k) }
 {
@@ -164,6 +166,7 @@ fn narrow_at(line: &[u8], k: usize) -> MaybeU32
     fields::narrow(&line[i..e])
 }
 
+#[tactic(auto, using(crate::specs::PlaceLaws::place_part))]
 fn unit_at(line: &[u8], k: usize) -> MaybeUnit
     ensures { unitIs result ≡ unit (at (fields line.now) k) }
 {
@@ -172,6 +175,7 @@ fn unit_at(line: &[u8], k: usize) -> MaybeUnit
     words::unit(&line[i..e])
 }
 
+#[tactic(auto, using(crate::specs::PlaceLaws::place_part))]
 fn flag_at(line: &[u8], k: usize) -> MaybeFlag
     ensures { flagIs result ≡ digit (at (fields line.now) k) }
 {
@@ -180,6 +184,7 @@ fn flag_at(line: &[u8], k: usize) -> MaybeFlag
     words::flag(&line[i..e])
 }
 
+#[tactic(auto, using(crate::specs::PlaceLaws::place_part))]
 fn timeout_at(line: &[u8], k: usize) -> FoundTimeout
     ensures { timeoutIs result ≡ timeout (at (fields line.now) k) }
 {
