@@ -3,11 +3,8 @@ use Rattle.std.specs.Prelude.{Bool, true, false, List, [], ◌∷◌, ◌++◌, 
 use Rattle.exec.specs.declared.Deadline.{Deadline}
 use Rattle.exec.specs.declared.Deadline.TheVariants.{Never, At}
 use Rattle.exec.specs.declared.MaybeCause.{MaybeCause}
-use Rattle.exec.specs.declared.MaybeCause.TheVariants as MaybeCause
 use Rattle.exec.specs.declared.MaybeLaunchFailure.{MaybeLaunchFailure}
-use Rattle.exec.specs.declared.MaybeLaunchFailure.TheVariants as MaybeLaunchFailure
 use Rattle.exec.specs.declared.MaybeStatus.{MaybeStatus}
-use Rattle.exec.specs.declared.MaybeStatus.TheVariants as MaybeStatus
 use Rattle.exec.specs.declared.Outcome.{Outcome}
 use Rattle.exec.specs.declared.Status.TheVariants as Status
 use Rattle.decimal.specs.Decimal.{digitsOf, signed_of}

@@ -3,14 +3,11 @@ use Rattle.std.specs.Prelude.{Bool, true, false, cond, ◌&&◌, List, [], ◌�
 use Rattle.std.proofs.Math.Option.{Option, none, some, map}
 use Rattle.exec.specs.declared.Key.{Key}
 use Rattle.exec.specs.declared.LaunchResult.{LaunchResult}
-use Rattle.exec.specs.declared.LaunchResult.TheVariants as LaunchResult
 use Rattle.exec.specs.declared.MaybeStatus.{MaybeStatus}
-use Rattle.exec.specs.declared.MaybeStatus.TheVariants as MaybeStatus
 use Rattle.exec.specs.declared.Status.TheVariants as Status
 use Rattle.exec.specs.Key.{newKey}
 use Rattle.decimal.specs.Decimal.{number, signed}
 use Rattle.hexadecimal.specs.Hexadecimal.{unhex}
-use Rattle.calls.specs.Call as Call
 use Rattle.calls.specs.Call.{Call}
 use Rattle.syntax.specs.Words.{bytes, same, stream, pool, cause, settlement}
 

@@ -1,13 +1,10 @@
 -- What a call of the code stands for.
 use Rattle.std.specs.Prelude.{List, ℕ, take}
-use Rattle.calls.specs.Call as Call
 use Rattle.calls.specs.Call.{Call}
 use Rattle.syntax.specs.declared.Call as Calls
 use Rattle.syntax.specs.declared.Call.TheVariants as Made
 use Rattle.syntax.specs.declared.Question.{Question}
-use Rattle.syntax.specs.declared.Question.TheVariants as Question
 use Rattle.syntax.specs.declared.Timed.{Timed}
-use Rattle.syntax.specs.declared.Timed.TheVariants as Timed
 use Rattle.syntax.specs.Lines.{zeros}
 
 abbrev pub timedIs : (now : ℕ) → Timed → Call

@@ -1,6 +1,6 @@
 -- A run of zeros at the start of an area.
-use Rattle.std.specs.Prelude.{◌≡◌, refl, List, [], ◌∷◌, ◌++◌, ℕ, zero, suc, ◌+◌, ◌≤◌, ◌<◌, length, drop, set}
-use Rattle.std.proofs.Common.{ap, ◌∙◌, append-nil, arith, add-one, length-append, length-drop}
+use Rattle.std.specs.Prelude.{◌≡◌, refl, List, [], ◌∷◌, ◌++◌, ℕ, zero, suc, ◌+◌, ◌<◌, length, drop, set}
+use Rattle.std.proofs.Common.{ap, append-nil, arith, add-one}
 use Rattle.std.proofs.Math.Seq.{drop-length}
 use Rattle.syntax.specs.Lines.{zeros}
 
