@@ -24,9 +24,13 @@ pub mod Units
 pub mod Session
 pub mod Tight
 pub mod InputFifo
+pub mod EachRecord
 pub mod Records
+pub mod Tells
 pub mod Told
 pub mod Spared
+pub mod Shut
 pub mod Turn
+pub mod Safe
 pub mod Refused
 pub mod TurnSession

@@ -7,25 +7,21 @@ use mathlib.Core.List.{List, [], ◌∷◌}
 use mathlib.Core.Option.{Option, none, some}
 use Prim.Native.Nat.{ℕ, ◌+◌}
 use native.Mathlib.Omega.{arith}
-use lib.Dec.{leb, ltb, eqb}
+use lib.Dec.{leb, eqb}
 use lib.ListN.{length, get_or}
 use Rattle.exec.specs.declared.Admission.{Admission}
 use Rattle.exec.specs.declared.Cause.{Cause}
 use Rattle.exec.specs.declared.Key.{Key}
 use Rattle.exec.specs.declared.Limits.{Limits}
 use Rattle.exec.specs.declared.MaybeStatus.{MaybeStatus}
-use Rattle.exec.specs.declared.Pool.{Pool}
-use Rattle.exec.specs.declared.PoolIndex.{PoolIndex}
 use Rattle.exec.specs.declared.Receipt.TheVariants as Receipt
 use Rattle.exec.specs.declared.Received.{Received}
 use Rattle.exec.specs.declared.Refusal.{Refusal}
 use Rattle.exec.specs.declared.Reply.{Reply}
 use Rattle.exec.specs.declared.Timers.{Timers}
 use Rattle.exec.specs.Key.{admits}
-use Rattle.exec.specs.Limits.{bytesWith, isValid, noLimits, outputPool}
+use Rattle.exec.specs.Limits.{bytesWith, isValid, noLimits}
 use Rattle.exec.specs.Refusal.{number}
-use Rattle.credit.specs.declared.sender.Credit.{Credit}
-use Rattle.credit.specs.Sender.{grantable, grant}
 use Rattle.input.specs.declared.Input.{Input}
 use Rattle.input.specs.Input as Input
 use Rattle.runner.specs.declared.answer.Request.TheVariants as Request
@@ -37,7 +33,7 @@ use Rattle.runner.specs.Calls.{askedFor, storesDo, openBy}
 use Rattle.runner.specs.Life.{isLate, ticked, cancelAnswer, cancelNext}
 use Rattle.runner.specs.Message.{choose, wish}
 use Rattle.runner.specs.Range.{in_range, bytesDo, lengthsDo, stop, openStop, fresh}
-use Rattle.runner.specs.State.{credit_at, putCredit, withFlow, withInput}
+use Rattle.runner.specs.State.{withFlow, withInput}
 use Rattle.runner.specs.Streams as Streams
 use Rattle.output.specs.Output.{outputFits}
 use Rattle.codec.specs.declared.Record.{Record}
@@ -61,34 +57,9 @@ use Rattle.account.proofs.Plain.{said}
 use Rattle.account.proofs.Flags.{either, or_right}
 use Rattle.account.proofs.Guarded.{next-is, answer-is}
 use Rattle.channel.specs.Ended.{Writes, elsewhere, short, left, taken, tells, writes}
-use Rattle.account.proofs.Records.{RefusedBy, reads-by, Among, Does, told-as, answers, read-does, write-does}
-
--- ---- what is to be shown of a call that leaves the state t and has the answer a
-
--- of Stale, and of a refusal's number
-abbrev IfRefused : (stale : Type 0) → (ℕ → Type 0) → Answer → Type 0
-IfRefused Q P Call.Ok = Unit
-IfRefused Q P Call.Applied = Unit
-IfRefused Q P Call.Stale = Q
-IfRefused Q P Call.Late = Unit
-IfRefused Q P (Call.Refused n) = P n
-IfRefused Q P (Call.Taken n) = Unit
-IfRefused Q P (Call.Pending b) = Unit
-IfRefused Q P (Call.Value n) = Unit
-IfRefused Q P (Call.Time d) = Unit
-IfRefused Q P (Call.Truth b) = Unit
-IfRefused Q P (Call.Asks r) = Unit
-IfRefused Q P (Call.Says m) = Unit
-IfRefused Q P (Call.IsKey k) = Unit
-IfRefused Q P (Call.AreLimits l) = Unit
-IfRefused Q P Call.Nothing = Unit
-
-record Kept (s t : State) (n : ℕ) : Type 0 where
-  same : t ≡ s
-  known : among n ofCalls ≡ true
-
-abbrev Safe : (s t : State) → Answer → Type 0
-Safe s t a = IfRefused (t ≡ s) (Kept s t) a
+use Rattle.account.proofs.EachRecord.{RefusedBy, reads-by, Among, Does, told-as, answers}
+use Rattle.account.proofs.Records.{read-does, write-does}
+use Rattle.account.proofs.Safe.{IfRefused, Kept, Safe, admits-by, credit-safe, late-safe}
 
 -- ---- refused by 12, 10 or 11
 
@@ -138,56 +109,6 @@ stopped s Call.awaitsSettlement x g = rw g (refl, refl)
 stopped s Call.memoryBound x g = rw g (refl, refl)
 stopped s Call.buffered x g = rw g (refl, refl)
 stopped s Call.highWater x g = rw g (refl, refl)
-
--- ---- refused by 1 to 6
-
--- a key is the runner's own, stale, or refused by 1
-admits-by : (P : Admission → Type 0) → P Admission.Own → P Admission.Stale → P (Admission.Refused Refusal.Key) → (own message : Key) → P (admits own message)
-unfolding admits
-admits-by P own stale other k m =
-    either P (eqb m.id k.id) _ _
-    (either P (ltb m.generation k.generation) _ _ stale (either P (eqb m.generation k.generation) _ _ own other))
-    other
-
--- a pool is refused by 2, or has an account
-pool-by : (P : PoolIndex → Type 0) → P (PoolIndex.Refused Refusal.Pool) → ((i : ℕ) → P (PoolIndex.At i)) → (shared : Bool) (p : Pool) → P (outputPool shared p)
-pool-by P other at true Pool.Input = other
-pool-by P other at true Pool.Stdout = other
-pool-by P other at true Pool.Stderr = other
-pool-by P other at true Pool.Output = at 0
-pool-by P other at false Pool.Input = other
-pool-by P other at false Pool.Stdout = at 0
-pool-by P other at false Pool.Stderr = at 1
-pool-by P other at false Pool.Output = other
-
--- the state with other accounts
-accounts : State → List Credit → State
-accounts s cs = onRunner (withFlow cs s.runner.turn s.runner.flags s.runner.high_water s.runner) s
-
-granted : (s : State) (cs : List Credit) (finished fits : Bool)
-    → Safe s (accounts s (cond (not finished && fits) cs s.runner.credits))
-    (receivedAs (cond finished (Received.Receipt Receipt.Late) (cond fits (Received.Receipt Receipt.Applied) (Received.Refused Refusal.Credit))))
-unfolding accounts
-granted s cs true fits = tt
-granted s cs false true = tt
-granted s cs false false = record { same = refl; known = refl }
-
-abbrev CreditSafe : State → ℕ → Admission → PoolIndex → Type 0
-CreditSafe s u a p = Safe s (onRunner (Streams.creditNext a p s.runner u) s) (receivedAs (Streams.creditAnswer a p s.runner u))
-
-credit-safe : (s : State) (k : Key) (p : Pool) (u : ℕ) → CreditSafe s u (admits s.runner.key k) (outputPool s.runner.limits.shared p)
-unfolding Streams.creditNext Streams.creditAnswer Streams.creditIn accounts
-credit-safe s k p u =
-    let cs = s.runner.credits in
-    admits-by (λ a. CreditSafe s u a (outputPool s.runner.limits.shared p))
-    (pool-by (CreditSafe s u Admission.Own) (record { same = refl; known = refl })
-    (λ i. granted s (putCredit i (grant (credit_at i cs) u).credit cs) s.runner.flags.finished (grantable (credit_at i cs) u))
-    s.runner.limits.shared p)
-    refl (record { same = refl; known = refl }) s.runner.key k
-
-late-safe : (s t : State) (late : Bool) → Safe s t (receivedAs (cond late (Received.Receipt Receipt.Late) (Received.Receipt Receipt.Applied)))
-late-safe s t true = tt
-late-safe s t false = tt
 
 -- ---- input
 

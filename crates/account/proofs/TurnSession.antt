@@ -58,7 +58,8 @@ use Rattle.account.proofs.Finish.{Ends, ends, ends-answer}
 use Rattle.account.proofs.Lists.{plain_of}
 use Rattle.account.proofs.Demand.{goes, answer-same, same-run, same_answer, same-account as plain-account}
 use Rattle.channel.specs.Ended.{Writes, elsewhere, short, left, taken, writes}
-use Rattle.account.proofs.Records.{Does, answers, Good, does, made_so, good-open, good-entry, good-at, same-account}
+use Rattle.account.proofs.EachRecord.{Does, answers}
+use Rattle.account.proofs.Records.{Good, does, made_so, good-open, good-entry, good-at, same-account}
 use Rattle.account.proofs.Session.{conf, message, answersOf, open-ok, named-four}
 use Rattle.account.proofs.Told.{tallied, taken-told}
 use Rattle.account.proofs.Turn.{turn}

@@ -37,7 +37,8 @@ use Rattle.opening.specs.Open.{Opening, at, lineOpen, timeout, openOf, isOpen, o
 use Rattle.opening.specs.Timeout.{number-else, number-itself, line-now, line-timeout, line-bad}
 use Rattle.grammar.specs.Feed.{First, Running, Over, Answered, bad, prints, isShort, answer_of, answered, openedBy, first, later, tooLong}
 use Rattle.grammar.specs.LeftOpen.{asked, Starts, EveryCard}
-use Rattle.grammar.specs.ByLine.{cardOf, is_line, areLines, answersFrom, textFrom, by-line}
+use Rattle.grammar.specs.ByLine.{cardOf, is_line, areLines, answersFrom, textFrom}
+use Rattle.grammar.proofs.ByLine.{by-line}
 
 -- ---- the first line
 

@@ -1,3 +1,5 @@
--- The proof of what is claimed of refused lines.
+-- The proofs of what is claimed of cards, line by line.
+pub mod Called
 pub mod Refused
+pub mod ByLine
 pub mod LeftOpen

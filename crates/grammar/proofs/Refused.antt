@@ -1,5 +1,5 @@
 -- A refused line changes nothing: the card's refusals give back the stage, and a call that is refused leaves its state.
-use mathlib.Core.Bool.{true, ◌&&◌, ◌||◌, false≢true}
+use mathlib.Core.Bool.{true, ◌&&◌, false≢true}
 use mathlib.Core.Path.{◌≡◌, refl, ap, subst, subst⁻¹}
 use mathlib.Core.List.{List, [], ◌∷◌}
 use mathlib.Core.Option.{Option, none, some}
@@ -10,31 +10,18 @@ use Rattle.runner.specs.Calls as Calls
 use Rattle.runner.specs.Range.{bytesDo, lengthsDo}
 use Rattle.calls.specs.Call as Call
 use Rattle.calls.specs.Call.{Call, Answer, timeOf, is_refused}
-use Rattle.account.specs.Step.{State, replied, next, answer}
+use Rattle.account.specs.Step.{State, replied}
 use Rattle.account.specs.Records.{among}
-use Rattle.account.specs.Refused.{ofCalls, openAnswer}
+use Rattle.account.specs.Refused.{openAnswer}
 use Rattle.account.proofs.Refused.{refusals}
 use Rattle.account.proofs.Flags.{either}
 use Rattle.opening.specs.Open.{Opening, lineOpen}
 use Rattle.syntax.specs.Lines.{lineCall, zeros}
-use Rattle.grammar.specs.Feed.{Running, Over, Answered, bad, isBack, remembered, openedBy, first, later, answered, tooLong, isShort, answer_of}
-use Rattle.grammar.specs.Calls.{ofLines}
+use Rattle.grammar.specs.Feed.{Running, Over, Answered, bad, isBack, openedBy, first, later, answered, tooLong, isShort, answer_of}
 use Rattle.grammar.specs.Refused.{RefusedLines}
+use Rattle.grammar.proofs.Called.{Safe, own, called}
 
 -- ---- once a runner is open
-
-abbrev Known : ℕ → Type 0
-Known n = (among n ofCalls || among n ofLines) ≡ true
-
--- what is to be shown of what a line makes of the stage, and of its answer
-abbrev Safe : State → (last : ℕ) → Answered → Type 0
-Safe s last x = (n : ℕ) → x.answer ≡ Call.Refused n → (x.stage ≡ Running s last) × Known n
-
-own : (s : State) (last m : ℕ) → Known m → Safe s last (record { stage = Running s last; answer = Call.Refused m })
-own s last m h n e = let k : m ≡ n = cc in (refl, subst Known k h)
-
-called : (s : State) (last : ℕ) (c : Call) → Safe s last (record { stage = Running (next s c) (remembered (is_refused (answer s c)) (timeOf c) last); answer = answer s c })
-called s last c n e = (rw (refusals.call_kept s c n e, e) refl, rw (refusals.call-number s c n e) refl)
 
 later-safe : (c : Option Call) (s : State) (last : ℕ) → Safe s last (later c s last)
 unfolding later

@@ -22,7 +22,7 @@ use Rattle.channel.specs.Calls.{ReadAfter, WriteAfter, writeAfter, heardAs, note
 use Rattle.calls.specs.Call as Call
 use Rattle.account.specs.Step.{State, onRunner, next, answer, replied, receivedAs}
 use Rattle.account.specs.Records.{Entry, call, readRecord, writeRecord, nextEntry, answerEntry, readAs}
-use Rattle.account.proofs.Records.{heard-as, noted-as, leaves}
+use Rattle.account.proofs.EachRecord.{heard-as, noted-as, leaves}
 use Rattle.idle.proofs.Calm.{calm, calmS, still}
 use Rattle.idle.proofs.Calls.{Alike, Messages, message-sees, getting, call-sees}
 

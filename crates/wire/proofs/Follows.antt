@@ -13,7 +13,7 @@ use Rattle.account.specs.Records.{Entry, EntryDone, nextEntry, answerEntry, afte
 use Rattle.account.specs.TurnClaim.{carriedBy, carried, sentIn}
 use Rattle.account.proofs.Flags.{or-false-l, or-false-r}
 use Rattle.account.proofs.Records.{Good, good-entry}
-use Rattle.account.proofs.Told.{quiet-carries}
+use Rattle.account.proofs.Tells.{quiet-carries}
 use Rattle.wire.specs.Messages.{saidIn, saidBy, saidFrom, is_of, any, endsBy}
 use Rattle.wire.specs.Heard.{Heard, AllOf, joined, wire, toldBy}
 use Rattle.wire.proofs.Ends.{Muted, ends, endsAll, Speech, none, some, speech}

@@ -18,7 +18,8 @@ use Rattle.account.proofs.Plain.{next, answer}
 use Rattle.account.proofs.Demand.{Fine, next-same, answer-same, open-same}
 use Rattle.account.proofs.Finish as Finish
 use Rattle.account.proofs.Finish.{fin-stays, no_more, ends-fin}
-use Rattle.account.proofs.Records.{Does, Good, does, good-entry, good-open, good-at}
+use Rattle.account.proofs.EachRecord.{Does}
+use Rattle.account.proofs.Records.{Good, does, good-entry, good-open, good-at}
 use Rattle.account.proofs.Sides.{out-alike}
 use Rattle.output.specs.Output.{newOutput}
 use Rattle.wire.specs.Messages.{saidIn, saidFrom, isEnd, any, noEnds, Ordered}

@@ -53,7 +53,7 @@ use Rattle.account.proofs.Demand.{Fine, goes, answer-same}
 use Rattle.account.proofs.Lives.{confOf}
 use Rattle.account.proofs.Sides.{last_of}
 use Rattle.account.proofs.InputRange.{HeldIn}
-use Rattle.account.proofs.Records.{Does, answers, told-does, part_in, part-long}
+use Rattle.account.proofs.EachRecord.{Does, answers, told-does, part_in, part-long}
 use Rattle.wire.specs.Messages.{saidIn}
 use Rattle.wire.specs.Heard.{Heard, Window, Bytes, Eof, Exit, Close, toldBy}
 use Rattle.wire.specs.Channel.{packet, written, onWire, hear, heard, exit_of, speaks}

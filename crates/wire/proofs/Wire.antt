@@ -27,7 +27,8 @@ use Rattle.account.proofs.Plain.{answer}
 use Rattle.account.proofs.Demand.{answer-same}
 use Rattle.account.proofs.Finish as Finish
 use Rattle.account.proofs.Finish.{Kind, kind}
-use Rattle.account.proofs.Records.{Does, Good, does, good-open, good-at, whole}
+use Rattle.account.proofs.EachRecord.{Does}
+use Rattle.account.proofs.Records.{Good, does, good-open, good-at, whole}
 use Rattle.account.proofs.Sides.{one-per, every-same}
 use Rattle.account.proofs.Told.{taken-told, sent-told}
 use Rattle.account.proofs.Turn.{turn}
