@@ -1,56 +1,23 @@
--- Bytes and credit through the runner: output, grants and input, from what the calls on the parts ensure.
-use mathlib.Core.Path.{◌≡◌, refl, sym, ap, ◌∙◌}
-use mathlib.Core.Bool.{Bool, true, false, cond, not}
-use Prim.Native.Nat.{ℕ, ◌+◌, ◌-◌, ◌≤◌, ◌<◌, ◌^◌, max}
-use native.Mathlib.Omega.{arith}
-use mathlib.Core.List.{List, [], ◌∷◌}
-use lib.Dec.{eqb}
-use lib.ListN.{length}
-use borrow.Author.Tests.{ltb-false}
-use Rattle.exec.specs.declared.Admission.{Admission}
-use Rattle.exec.specs.declared.Admission.TheVariants as Admission
-use Rattle.exec.specs.declared.PoolIndex.TheVariants as PoolIndex
-use Rattle.exec.specs.declared.Received.{Received}
-use Rattle.exec.specs.declared.Received.TheVariants.{Receipt, Refused}
-use Rattle.exec.specs.declared.Receipt.TheVariants.{Applied, Stale, Late}
-use Rattle.exec.specs.declared.Refusal.{Refusal}
-use Rattle.exec.specs.declared.Refusal.TheVariants as Refusal
-use Rattle.exec.specs.declared.Reply.TheVariants as Reply
+-- The bytes that are held once a call has kept some are no more than the need of the byte store, a number of 64 bits.
+use Rattle.std.proofs.Common.{◌≡◌, refl, ap, ◌∙◌, Bool, true, false, cond, ℕ, ◌+◌, ◌-◌, ◌≤◌, ◌<◌, ◌^◌, arith, List, length, ltb-false}
+use Rattle.exec.specs.declared.Limits.{Limits}
 use Rattle.exec.specs.declared.Stream.{Stream}
 use Rattle.exec.specs.declared.Stream.TheVariants.{Stdout, Stderr}
-use Rattle.exec.specs.declared.Limits.{Limits}
 use Rattle.exec.specs.Limits.{cost, inputBytes as inboxBytes}
-use Rattle.credit.specs.declared.sender.Credit.{Credit}
-use Rattle.credit.specs.declared.sender.Granting.{Granting}
 use Rattle.inbox.specs.Need.{byteNeed}
 use Rattle.inbox.specs.RangeLaws as Inbox
-use Rattle.credit.specs.Sender.{grantable, grant}
 use Rattle.input.specs.declared.Input.{Input}
 use Rattle.input.specs.declared.Receiving.{Receiving}
+use Rattle.input.specs.Input as In
+use Rattle.input.proofs.Receives.{chunk-fits}
 use Rattle.output.specs.declared.Intake.{Intake}
 use Rattle.output.specs.declared.Output.{Output}
-use Rattle.input.specs.Input as In
-use Rattle.input.specs.Input.{isApplied}
 use Rattle.output.specs.Output.{IntakeAfter, intakeAfter, takenIn, keeps, keeps-fit}
 use Rattle.output.specs.Outputs.{putOutput}
-use Rattle.input.proofs.Receives.{chunk-fits}
-use Rattle.runner.specs.declared.answer.Taken.TheVariants as Taken
 use Rattle.runner.specs.declared.runner.Runner.{Runner}
-use Rattle.runner.specs.declared.streams.Accounting.{Accounting}
 use Rattle.runner.specs.RangeLaws.{InRange}
-use Rattle.runner.specs.State.{withInput, withOutputs, withFlow, out_of, base, credit0, credit1, credit_at, putCredit, buffered}
-use Rattle.runner.specs.Streams.{keepsNone, isShut, room, outputFilled, outputNext, outputTaken, outputStore, outputAfter, outputTook, creditIn, creditNext, receiptOf, inputAnswer, inputNext, inputStore, inputLengths, inputAfter, received}
-
--- ---- output
-
-module _ (r : Runner) (x : Stream) (bytes store : List ℕ) where
-  pub took-is : (o : Output) (at : ℕ) (t : Intake) (store' : List ℕ) (next : List Output) (none : Bool) (mark : ℕ) → o ≡ out_of x r → at ≡ base x r.limits.chunk
-      → intakeAfter t store' ≡ takenIn o r.flags.gave_up at r.limits.chunk bytes store → next ≡ putOutput x t.output r.outputs
-      → none ≡ keepsNone x r → mark ≡ cond none r.high_water (max r.high_water (buffered (withOutputs next r)))
-      → outputAfter (record { runner = withFlow r.credits r.turn r.flags mark (withOutputs next r); taken = Taken.Bytes t.taken }) store' ≡ outputTook r x bytes store
-  unfolding outputTook outputNext outputTaken outputStore takenIn
-  took-is o at t store' next none mark ho ha e hn hk hm =
-      rw (hm, hk, hn, ap (λ (a : IntakeAfter). a.answer.output) e, ap (λ (a : IntakeAfter). a.answer.taken) e, ap (λ (a : IntakeAfter). a.bytes) e, ho, ha)
+use Rattle.runner.specs.State.{withInput, withOutputs, out_of, buffered}
+use Rattle.runner.specs.Streams.{isShut, room, outputFilled}
 
 -- the queue that was filled is within its chunk, so all that is held is within the need
 pub filled-fits : (r : Runner) (x : Stream) (n : ℕ) → InRange r → buffered (outputFilled r x n) ≤ byteNeed r.limits
@@ -72,62 +39,7 @@ filled-small r x bytes store o at t store' next ho e hn h need =
 pub held_fits : (r : Runner) → InRange r → buffered r ≤ byteNeed r.limits
 held_fits r h = omega (arith, (h.queue Stdout).most, (h.queue Stderr).most, h.input.most)
 
--- ---- credit
-
--- an account that is put back leaves both as they were
-put_back : (first : Bool) (cs : List Credit) → length cs ≡ 2
-    → cond first (cond first (credit0 cs) (credit1 cs)) (credit0 cs) ∷ cond first (credit1 cs) (cond first (credit0 cs) (credit1 cs)) ∷ [] ≡ cs
-put_back first [] h = absurd (omega arith)
-put_back first (a ∷ []) h = absurd (omega arith)
-put_back true (a ∷ b ∷ []) h = refl
-put_back false (a ∷ b ∷ []) h = refl
-put_back first (a ∷ b ∷ c ∷ cs) h = absurd (omega arith)
-
-pub grant-is : (r : Runner) (i units : ℕ) (c : Credit) (g : Granting) (next : List Credit) (x : Received) → length r.credits ≡ 2
-    → r.flags.finished ≡ false → c ≡ credit_at i r.credits → g ≡ grant c units → next ≡ putCredit i g.credit r.credits → x ≡ receiptOf g.reply
-    → ◌≡◌ {A = Accounting} (record { credits = next; received = x })
-    (record { credits = (creditNext Admission.Own (PoolIndex.At i) r units).credits; received = creditIn (PoolIndex.At i) r units })
-unfolding creditNext creditIn
-grant-is r i units c g next x two f hc hg hn hx = rw (hx, hn, hg, hc, f) (by (grantable (credit_at i cs) units) refl)
-  where
-    cs : List Credit
-    cs = r.credits
-
-    -- by whether it was granted: refused, the account is as it was
-    by : (b : Bool) → grantable (credit_at i cs) units ≡ b
-        → ◌≡◌ {A = Accounting}
-        (record { credits = putCredit i (grant (credit_at i cs) units).credit cs; received = receiptOf (cond b Reply.Ok (Reply.Refused Refusal.Credit)) })
-        (record { credits = cond b (putCredit i (grant (credit_at i cs) units).credit cs) cs; received = cond b (Receipt Applied) (Refused Refusal.Credit) })
-    by true e = refl
-    by false e =
-        let same : (grant (credit_at i cs) units).credit ≡ credit_at i cs = rw e refl in
-        rw (same, put_back (eqb i 0) cs two)
-
 -- ---- input
-
--- the high water is noted where it was kept
-noted-by : (kept : Bool) (high held : ℕ) → cond (not kept) high held ≡ cond kept held high
-noted-by true high held = refl
-noted-by false high held = refl
-
-pub received-own : (r : Runner) (bytes store lengths : List ℕ) (v : Receiving) (dropped : Bool) (mark : ℕ) (store' lengths' : List ℕ) → r.flags.finished ≡ false
-    → In.receiveAfter v store' lengths' ≡ In.receive r.limits r.input bytes store lengths
-    → dropped ≡ not (isApplied v.received) → mark ≡ cond dropped r.high_water (max r.high_water (buffered (withInput v.input r)))
-    → inputAfter (record { runner = withFlow r.credits r.turn r.flags mark (withInput v.input r); received = v.received }) store' lengths'
-    ≡ received Admission.Own r bytes store lengths
-unfolding received inputNext inputAnswer inputStore inputLengths
-received-own r bytes store lengths v dropped mark store' lengths' f e hd hm =
-    let n = length bytes in
-    rw (
-      hm,
-      hd,
-      ap (λ (a : In.ReceiveAfter). a.receiving.received) e,
-      ap (λ (a : In.ReceiveAfter). a.receiving.input) e,
-      ap (λ (a : In.ReceiveAfter). a.bytes) e,
-      ap (λ (a : In.ReceiveAfter). a.lengths) e,
-      noted-by (In.isKept r.limits r.input n) r.high_water (max r.high_water (buffered (withInput (In.receiveInput r.limits r.input n) r))),
-      f,
-    )
 
 -- what is kept has room, so all that is held is within the need
 kept-length : (l : Limits) (i : Input) (n : ℕ) (b : Bool) → In.isKept l i n ≡ b → Inbox.InRange l i.window i.inbox

@@ -1,8 +1,5 @@
--- What the proofs of several functions share. The laws are over plain variables, since there is too much to compute at the
--- calls' own places.
-pub mod Branch
+-- What the proofs of several functions share.
 pub mod Quiet
-pub mod Says
-pub mod Flows
 pub mod Guards
-pub mod Cancels
+pub mod Flows
+pub mod Says

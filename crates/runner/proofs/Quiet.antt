@@ -1,28 +1,19 @@
 -- A tick with nothing due changes nothing, and any other fires the timers, which leave some parts of the runner in their place.
-use Prim.Native.Nat.{ℕ}
-use mathlib.Core.Path.{◌≡◌, refl, sym, ◌∙◌, ap}
-use native.Mathlib.Omega.{arith}
-use mathlib.Core.Bool.{Bool, true, false, cond, not, ◌&&◌, ◌||◌}
+use Rattle.std.proofs.Common.{◌≡◌, refl, sym, ◌∙◌, ap, ℕ, arith, Bool, true, false, cond, ◌&&◌, ◌||◌}
+use Rattle.std.specs.Prelude.{not}
 use Rattle.exec.specs.declared.Cause.{Cause}
 use Rattle.exec.specs.declared.Cause.TheVariants.{TimedOut}
 use Rattle.exec.specs.declared.Deadline.TheVariants.{Never}
-use Rattle.exec.specs.declared.Reply.{Reply}
-use Rattle.exec.specs.declared.Reply.TheVariants as Reply
 use Rattle.exec.specs.Time.{due}
-use Rattle.inbox.specs.RangeLaws.{both}
-use Rattle.lifecycle.specs.declared.clocks.Clocks.{Clocks}
-use Rattle.lifecycle.specs.declared.life.Life.{Life}
 use Rattle.lifecycle.specs.Clocks.{clocksDue, timeout-waits, grace-waits, give-up-waits, abandon-waits}
 use Rattle.lifecycle.specs.Life.{settlingLate, expired-in-time, isFenced}
 use Rattle.lifecycle.specs.Setters.{setSettling, setTimeoutAt, setGiveUpAt}
-use Rattle.runner.specs.declared.answer.Noting.{Noting}
 use Rattle.runner.specs.declared.runner.Runner.{Runner}
-use Rattle.runner.specs.Calls.{noting, tick}
 use Rattle.runner.specs.Life.{awaitsLaunch, isCleanedUp, endGrace, giveUp, abandonLaunch, abandonOpenStreams, beginTermination, terminate, giveUpUnlessClean, dropLaunch, dropStreams, fire, ticked, anyDue, passTimeout, passGrace, passSettlement, passGiveUp, passAbandonment}
-use Rattle.runner.specs.Range.{stop}
-use Rattle.runner.specs.RangeLaws.{stopIf}
 use Rattle.runner.specs.State.{with, withClocks, withLife}
-use Rattle.runner.proofs.Branch.{no}
+
+no : {A : Type 0} {b : Bool} (x y : A) → b ≡ false → cond b x y ≡ y
+no x y h = rw h
 
 module _ (r : Runner) (now : ℕ) where
   timeout : due r.clocks.timeout_at now ≡ false → passTimeout r now ≡ r
@@ -46,7 +37,7 @@ module _ (r : Runner) (now : ℕ) where
   abandonment h = no _ _ h
 
   -- nothing is due
-  pub idle : clocksDue r.clocks now ≡ false → settlingLate r.life.settling now ≡ false → fire r now ≡ r
+  idle : clocksDue r.clocks now ≡ false → settlingLate r.life.settling now ≡ false → fire r now ≡ r
   unfolding fire
   idle h l =
       ap (λ x. passAbandonment (passGiveUp (passSettlement (passGrace x now) now) now) now) (timeout (timeout-waits r.clocks now h))
@@ -70,7 +61,7 @@ tick-by : (finished : Bool) (r r' : Runner) → (finished ≡ false → r' ≡ r
 tick-by true r r' h = refl
 tick-by false r r' h = sym (h refl)
 
-pub quiet : (r : Runner) (now : ℕ) → anyDue r now ≡ false → r ≡ ticked r now
+quiet : (r : Runner) (now : ℕ) → anyDue r now ≡ false → r ≡ ticked r now
 unfolding ticked
 quiet r now h =
     tick-by r.flags.finished r (fire r now)
@@ -78,9 +69,17 @@ quiet r now h =
     let p = idle-of r.flags.finished (clocksDue r.clocks now) (settlingLate r.life.settling now) h f in
     idle r now p.0 p.1)
 
-pub busy : (r : Runner) (now : ℕ) → anyDue r now ≡ true → fire r now ≡ ticked r now
+busy : (r : Runner) (now : ℕ) → anyDue r now ≡ true → fire r now ≡ ticked r now
 unfolding ticked
 busy r now h = sym (no _ _ (busy-of r.flags.finished (clocksDue r.clocks now || settlingLate r.life.settling now) h))
+
+-- a tick fires the timers where one is due
+pub ticked_is : (r : Runner) (now : ℕ) → ticked r now ≡ cond (anyDue r now) (fire r now) r
+ticked_is r now = by (anyDue r now) refl
+  where
+    by : (b : Bool) → anyDue r now ≡ b → ticked r now ≡ cond b (fire r now) r
+    by true h = sym (busy r now h)
+    by false h = sym (quiet r now h)
 
 -- ---- the timers move clocks, life, flags, input and outputs alone
 
@@ -142,9 +141,9 @@ module _ (r : Runner) (now : ℕ) where
   in-abandonment =
       one_of (due r.clocks.abandon_at now) r (dropStreams (dropLaunch r)) r (then r (dropLaunch r) (dropStreams (dropLaunch r)) (in-launch r) (in-streams (dropLaunch r))) refl
 
-pub in-fire : (r : Runner) (now : ℕ) → inPlace (fire r now) r ≡ fire r now
+pub in_fire : (r : Runner) (now : ℕ) → inPlace (fire r now) r ≡ fire r now
 unfolding fire
-in-fire r now =
+in_fire r now =
     let a = passTimeout r now in
     let b = passGrace a now in
     let c = passSettlement b now in
@@ -152,24 +151,3 @@ in-fire r now =
     then r d (passAbandonment d now)
     (then r c d (then r b c (then r a b (in-timeout r now) (in-grace a now)) (in-settlement b now)) (in-giving-up c now))
     (in-abandonment d now)
-
--- ---- tick, from its tests and what they found
-
-module _ (r : Runner) (now : ℕ) (good due : Bool) (x : Reply) (hg : stop r true ≡ stopIf good r) (hd : due ≡ anyDue r now) where
-  pub tick-due : (r' : Runner) (cs : Clocks) (l : Life) → (good && due) ≡ true → x ≡ stopIf good r
-      → r' ≡ fire r now → cs ≡ r'.clocks → l ≡ r'.life
-      → ◌≡◌ {A = Noting} (record { runner = with cs l r'.flags r'.input r'.outputs r; reply = x }) (tick r now)
-  unfolding tick stopIf
-  tick-due r' cs l t hx e hc hl =
-      let b = both good due t in
-      rw (hc, hl, hx, e, hg, b.0, in-fire r now, busy r now (sym hd ∙ b.1))
-
-  pub tick-quiet : (good && due) ≡ false → x ≡ stopIf good r
-      → ◌≡◌ {A = Noting} (record { runner = r; reply = x }) (tick r now)
-  unfolding tick stopIf
-  tick-quiet f hx = rw (hx, hg) (by good due f (λ e. quiet r now (sym hd ∙ e)))
-    where
-      by : (good due : Bool) → (good && due) ≡ false → (due ≡ false → r ≡ ticked r now)
-          → ◌≡◌ {A = Noting} (record { runner = r; reply = stopIf good r }) (noting (stopIf good r) (ticked r now) r)
-      by true due f h = ap (λ (next : Runner). record { runner = next; reply = Reply.Ok }) (h f)
-      by false due f h = refl

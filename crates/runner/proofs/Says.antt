@@ -1,31 +1,34 @@
--- What saying a message leaves, from what the calls on the parts ensure.
-use mathlib.Core.Bool.{false}
-use mathlib.Core.Path.{◌≡◌, ap}
-use Prim.Native.Nat.{ℕ}
-use mathlib.Core.List.{List}
-use Rattle.exec.specs.declared.Stream.{Stream}
-use Rattle.exec.specs.Stream.{index, following}
-use Rattle.credit.specs.declared.sender.Credit.{Credit}
-use Rattle.output.specs.declared.Output.{Output}
-use Rattle.output.specs.Output.{SendAfter, sendAfter, sent}
-use Rattle.output.specs.Outputs.{putOutput}
+-- What next_message says, and what it leaves, by whether it meets a refusal.
+use Rattle.std.proofs.Common.{◌≡◌, refl, ap, Bool, true, false, ℕ, ◌≤◌, List, length}
+use Rattle.std.proofs.lemmas.Bool.{false≢true}
+use Rattle.inbox.specs.Need.{byteNeed}
 use Rattle.choice.specs.declared.Choice.{Choice}
-use Rattle.choice.specs.declared.Choice.TheVariants as Choice
+use Rattle.runner.specs.declared.answer.Said.{Said}
 use Rattle.runner.specs.declared.runner.Runner.{Runner}
-use Rattle.runner.specs.Message.{messageFlags, effect, outputPaid, outputSent, SentAfter, sentAfter, sentOutput, payload, bufferAfter, sayAfter, say}
-use Rattle.runner.specs.State.{withOutputs, withFlow, out_of, base}
+use Rattle.runner.specs.Calls.{messageBy, nextMessage}
+use Rattle.runner.specs.Message.{choose, choice_of, answer_of, effect, bufferAfter, messageAfter, SayAfter, sayAfter, say}
+use Rattle.runner.specs.MessageLaws.{isSaid, Sayable}
+use Rattle.runner.specs.Range.{bytesDo, stop}
+use Rattle.runner.specs.RangeLaws.{InRange, stopIf}
 
--- the bytes of an output message
-pub sent_is : (r : Runner) (x : Stream) (n : ℕ) (store buffer : List ℕ) (o : Output) (at : ℕ) (o' : Output) (buffer' : List ℕ) (next : List Output)
-    → o ≡ out_of x r → at ≡ base x r.limits.chunk → sendAfter o' buffer' ≡ sent r.limits.chunk at n o store buffer
-    → next ≡ putOutput x o' r.outputs → sentAfter next buffer' ≡ sentOutput x n r store buffer
-unfolding sentOutput payload sent
-sent_is r x n store buffer o at o' buffer' next ho ha e hn =
-    rw (hn, ap (λ (a : SendAfter). a.output) e, ap (λ (a : SendAfter). a.buffer) e, ho, ha)
+module _ (r : Runner) (store buffer : List ℕ) (good : Bool) (c : Choice) (hc : c ≡ choice_of good r (length buffer)) where
+  pub sayable : (good ≡ true → InRange r × (byteNeed r.limits ≤ length store)) → Sayable c r store buffer
+  sayable h = rw hc (by good h)
+    where
+      by : (good : Bool) → (good ≡ true → InRange r × (byteNeed r.limits ≤ length store)) → isSaid (choice_of good r (length buffer)) ≡ true
+          → InRange r × (byteNeed r.limits ≤ length store) × (choice_of good r (length buffer) ≡ choose r (length buffer))
+      by true h s = let p = h refl in (p.0, p.1, refl)
+      by false h s = absurd (false≢true s)
 
-pub say-output : (c : Choice) (r : Runner) (store buffer : List ℕ) (x : Stream) (n : ℕ) (cs : List Credit) (os : List Output) (turn : ℕ) (buffer' : List ℕ)
-    → c ≡ Choice.Output x n → cs ≡ (outputPaid x n r).credits → sentAfter os buffer' ≡ sentOutput x n r store buffer → turn ≡ index (following x)
-    → sayAfter (withFlow cs turn (messageFlags r.flags.started_message false r.flags.finished r.flags) r.high_water (withOutputs os r)) buffer' ≡ say c r store buffer
-unfolding say effect bufferAfter outputSent outputPaid sentOutput payload
-say-output c r store buffer x n cs os turn buffer' hc hp e ht =
-    rw (hc, hp, ap (λ (a : SentAfter). a.outputs) e, ap (λ (a : SentAfter). a.buffer) e, ht)
+  pub message-is : (r' : Runner) (s : Said) (buffer' : List ℕ) → stop r (bytesDo r.limits store) ≡ stopIf good r → s ≡ answer_of good c r
+      → sayAfter r' buffer' ≡ say c r store buffer → messageAfter (record { runner = r'; said = s }) buffer' ≡ nextMessage r store buffer
+  unfolding nextMessage say effect bufferAfter stopIf
+  message-is r' s buffer' g hs e =
+      rw (ap (λ (a : SayAfter). a.runner) e, ap (λ (a : SayAfter). a.buffer) e, hs, hc, g) (by good)
+    where
+      by : (good : Bool)
+          → messageAfter (record { runner = effect (choice_of good r (length buffer)) r; said = answer_of good (choice_of good r (length buffer)) r })
+          (bufferAfter (choice_of good r (length buffer)) r store buffer)
+          ≡ messageBy (stopIf good r) r store buffer
+      by true = refl
+      by false = refl

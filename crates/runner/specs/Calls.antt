@@ -1,9 +1,8 @@
 -- The calls, each whole: refusals 12, 10 and 11 first, which change nothing, and then what the call does. One definition a
 -- call, named after it: its answer, the next state and every lent list that it writes.
-use Rattle.std.specs.Prelude.{ℕ, Bool, true, cond, ◌&&◌, List, [], length}
+use Rattle.std.specs.Prelude.{ℕ, Bool, true, ◌&&◌, List, [], length}
 use Rattle.exec.specs.declared.Admission.{Admission}
 use Rattle.exec.specs.declared.Cause.{Cause}
-use Rattle.exec.specs.declared.Cause.TheVariants as Cause
 use Rattle.exec.specs.declared.Deadline.{Deadline}
 use Rattle.exec.specs.declared.Key.{Key}
 use Rattle.exec.specs.declared.LaunchResult.{LaunchResult}
@@ -11,9 +10,7 @@ use Rattle.exec.specs.declared.Limits.{Limits}
 use Rattle.exec.specs.declared.MaybeStatus.{MaybeStatus}
 use Rattle.exec.specs.declared.Pool.{Pool}
 use Rattle.exec.specs.declared.Received.{Received}
-use Rattle.exec.specs.declared.Received.TheVariants as Received
 use Rattle.exec.specs.declared.Reply.{Reply}
-use Rattle.exec.specs.declared.Reply.TheVariants as Reply
 use Rattle.exec.specs.declared.Settlement.{Settlement}
 use Rattle.exec.specs.declared.Stream.{Stream}
 use Rattle.exec.specs.declared.Timers.{Timers}
@@ -23,27 +20,18 @@ use Rattle.exec.specs.Refusal.{number}
 use Rattle.inbox.specs.Need.{byteNeed}
 use Rattle.lifecycle.specs.Life.{isRequested}
 use Rattle.runner.specs.declared.answer.Asked.{Asked}
-use Rattle.runner.specs.declared.answer.Asked.TheVariants as Asked
 use Rattle.runner.specs.declared.answer.Asking.{Asking}
 use Rattle.runner.specs.declared.answer.Count.{Count}
-use Rattle.runner.specs.declared.answer.Count.TheVariants as Count
 use Rattle.runner.specs.declared.answer.Hearing.{Hearing}
 use Rattle.runner.specs.declared.answer.KeyAnswer.{KeyAnswer}
-use Rattle.runner.specs.declared.answer.KeyAnswer.TheVariants as KeyAnswer
 use Rattle.runner.specs.declared.answer.LimitsAnswer.{LimitsAnswer}
-use Rattle.runner.specs.declared.answer.LimitsAnswer.TheVariants as LimitsAnswer
 use Rattle.runner.specs.declared.answer.Noting.{Noting}
 use Rattle.runner.specs.declared.answer.Said.{Said}
-use Rattle.runner.specs.declared.answer.Said.TheVariants as Said
 use Rattle.runner.specs.declared.answer.Taken.{Taken}
-use Rattle.runner.specs.declared.answer.Taken.TheVariants as Taken
 use Rattle.runner.specs.declared.answer.Truth.{Truth}
-use Rattle.runner.specs.declared.answer.Truth.TheVariants as Truth
 use Rattle.runner.specs.declared.answer.When.{When}
-use Rattle.runner.specs.declared.answer.When.TheVariants as When
 use Rattle.choice.specs.declared.Choice.{Choice}
 use Rattle.runner.specs.declared.message.Wish.{Wish}
-use Rattle.runner.specs.declared.message.Wish.TheVariants as Wish
 use Rattle.runner.specs.declared.runner.Runner.{Runner}
 use Rattle.runner.specs.declared.streams.Accounting.{Accounting}
 use Rattle.runner.specs.Life.{closeRunnerInput, cancelAnswer, cancelNext, launchedNext, exitedNext, settledNext, detachNext, ticked, deadlineOf}

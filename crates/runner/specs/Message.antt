@@ -1,7 +1,6 @@
 -- The next message and the next request: a choice by what the state shows, and then its effect.
-use Rattle.std.specs.Prelude.{ℕ, min, Bool, true, false, cond, not, ◌&&◌, List, ◌++◌, ltb, drop}
+use Rattle.std.specs.Prelude.{ℕ, min, Bool, true, false, cond, not, ◌&&◌, List, ◌++◌, drop}
 use Rattle.exec.specs.declared.MaybeCause.{MaybeCause}
-use Rattle.exec.specs.declared.MaybeCause.TheVariants as MaybeCause
 use Rattle.exec.specs.declared.Stream.{Stream}
 use Rattle.exec.specs.declared.Stream.TheVariants.{Stdout, Stderr}
 use Rattle.exec.specs.Limits.{cost, poolOf}
@@ -15,16 +14,12 @@ use Rattle.input.specs.Input.{canGrant, grantedIn, messageTold, closeAsked}
 use Rattle.output.specs.Output.{isDone, endedOut, askedOut, sentOut}
 use Rattle.runner.specs.declared.answer.Message.TheVariants as Message
 use Rattle.runner.specs.declared.answer.Request.{Request}
-use Rattle.runner.specs.declared.answer.Request.TheVariants as Request
 use Rattle.runner.specs.declared.answer.Said.{Said}
-use Rattle.runner.specs.declared.answer.Said.TheVariants as Said
 use Rattle.runner.specs.declared.answer.Saying.{Saying}
 use Rattle.choice.specs.declared.Choice.{Choice}
-use Rattle.choice.specs.declared.Choice.TheVariants as Choice
 use Rattle.runner.specs.declared.message.Wish.{Wish}
-use Rattle.runner.specs.declared.message.Wish.TheVariants as Wish
 use Rattle.runner.specs.declared.runner.Runner.{Runner}
-use Rattle.choice.specs.Order.{ifElse, order}
+use Rattle.choice.specs.Order.{order}
 use Rattle.runner.specs.Life.{awaitsLaunch, isReady, outcomeOf}
 use Rattle.runner.specs.RangeLaws.{stopped}
 use Rattle.runner.specs.State.{withLife, with_flags, withInput, withFlow, flags_of, out_of, at, base, credit_at, putCredit}

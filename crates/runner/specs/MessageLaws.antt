@@ -16,7 +16,6 @@ use Rattle.inbox.specs.Need.{byteNeed}
 use Rattle.inbox.specs.RangeLaws.{both}
 use Rattle.credit.specs.Sender.{sendable}
 use Rattle.choice.specs.declared.Choice.{Choice}
-use Rattle.choice.specs.declared.Choice.TheVariants as Choice
 use Rattle.runner.specs.declared.runner.Runner.{Runner}
 use Rattle.choice.specs.Order.{ifElse, order}
 use Rattle.input.specs.Input.{canGrant}

@@ -6,7 +6,6 @@ use Rattle.exec.specs.declared.Limits.{Limits}
 use Rattle.exec.specs.declared.MaybeCause.TheVariants as MaybeCause
 use Rattle.exec.specs.declared.Refusal.TheVariants.{NoLimits, StoreShort, StateOutOfRange}
 use Rattle.exec.specs.declared.Reply.{Reply}
-use Rattle.exec.specs.declared.Reply.TheVariants as Reply
 use Rattle.exec.specs.declared.Timers.{Timers}
 use Rattle.exec.specs.Limits.{isValid}
 use Rattle.exec.specs.Time.{timeoutAt}

@@ -1,23 +1,22 @@
 -- A state in range, as facts, which the calls' parts ask; and the code's own test of it, which is quicker.
-use Rattle.std.specs.Prelude.{ℕ, ◌≤◌, ◌<◌, ◌≡◌, refl, Bool, not, ◌&&◌, List, leb, ltb}
+use Rattle.std.specs.Prelude.{ℕ, ◌≤◌, ◌≡◌, refl, Bool, not, ◌&&◌, leb, ltb}
 use Rattle.std.proofs.Common.{arith, sym, ◌∙◌, leb-true, ltb-true}
 use Rattle.std.proofs.Math.Bool.{true, false, cond, and-true, and-false}
 use Rattle.exec.specs.declared.Limits.{Limits}
 use Rattle.exec.specs.declared.Refusal.{Refusal}
 use Rattle.exec.specs.declared.Refusal.TheVariants.{NoLimits, StoreShort, StateOutOfRange}
 use Rattle.exec.specs.declared.Reply.{Reply}
-use Rattle.exec.specs.declared.Reply.TheVariants as Reply
 use Rattle.exec.specs.declared.Stream.{Stream}
 use Rattle.exec.specs.declared.Stream.TheVariants.{Stdout, Stderr}
 use Rattle.exec.specs.Limits.{isValid}
-use Rattle.exec.specs.Stream.{index, everyStream, every-stream}
+use Rattle.exec.specs.Stream.{index, every-stream}
 use Rattle.inbox.specs.Range.{inboxFits, inboxWithin}
 use Rattle.inbox.specs.RangeLaws as Inbox
 use Rattle.credit.specs.Sender.{creditFits}
 use Rattle.output.specs.declared.Output.{Output}
 use Rattle.output.specs.Output as Queue
 use Rattle.output.specs.Output.{outputFits, output-range}
-use Rattle.output.specs.Outputs.{outputIn, outputsFit, outputsWithin}
+use Rattle.output.specs.Outputs.{outputsFit, outputsWithin}
 use Rattle.runner.specs.declared.runner.Runner.{Runner}
 use Rattle.runner.specs.Range.{in_range, openStop, stop}
 use Rattle.runner.specs.State.{out_of, credit_at, creditsFit}

@@ -1,20 +1,16 @@
 -- The output streams and the input: what each call does once it is not refused by 12, 10 or 11.
-use Rattle.std.specs.Prelude.{ℕ, ◌-◌, max, Bool, true, false, cond, not, ◌&&◌, ◌||◌, List, ltb, length}
+use Rattle.std.specs.Prelude.{ℕ, ◌-◌, max, Bool, false, cond, not, ◌&&◌, ◌||◌, List, ltb, length}
 use Rattle.exec.specs.declared.Admission.{Admission}
-use Rattle.exec.specs.declared.Admission.TheVariants as Admission
 use Rattle.exec.specs.declared.PoolIndex.{PoolIndex}
-use Rattle.exec.specs.declared.PoolIndex.TheVariants as PoolIndex
 use Rattle.exec.specs.declared.Receipt.TheVariants.{Applied, Stale, Late}
 use Rattle.exec.specs.declared.Received.{Received}
 use Rattle.exec.specs.declared.Received.TheVariants.{Receipt, Refused}
 use Rattle.exec.specs.declared.Refusal.TheVariants as Refusal
 use Rattle.exec.specs.declared.Reply.{Reply}
-use Rattle.exec.specs.declared.Reply.TheVariants as Reply
 use Rattle.exec.specs.declared.Stream.{Stream}
 use Rattle.ring.specs.Ring.{ringWrite}
 use Rattle.credit.specs.declared.sender.Credit.{Credit}
 use Rattle.credit.specs.Sender.{grantable, grant}
-use Rattle.input.specs.declared.Input.{Input}
 use Rattle.input.specs.Input as Input
 use Rattle.output.specs.Output.{allowance, takes, keeps, intake, closedOut, failedOut, hungUp, lostOut}
 use Rattle.runner.specs.declared.answer.Hearing.{Hearing}

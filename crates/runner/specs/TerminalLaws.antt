@@ -10,7 +10,6 @@ use Rattle.lifecycle.specs.Life.{exitKnown, isFenced, isSettled}
 use Rattle.output.specs.Output.{isDone, isDelivered}
 use Rattle.output.specs.Outputs.{allDelivered}
 use Rattle.choice.specs.declared.Choice.{Choice}
-use Rattle.choice.specs.declared.Choice.TheVariants as Choice
 use Rattle.choice.specs.Order.{ifElse, order}
 use Rattle.runner.specs.declared.runner.Runner.{Runner}
 use Rattle.runner.specs.Life.{awaitsLaunch, isReady}

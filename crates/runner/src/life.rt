@@ -291,6 +291,7 @@ impl Runner {
     }
 
     // The tick that comes first in a call. It is small, as `fire` stands outside of it.
+    #[tactic(auto, using(crate::proofs::Quiet::ticked_is))]
     fn ticked(self, now: u64) -> Runner
         ensures { result ≡ ticked self now }
     {

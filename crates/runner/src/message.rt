@@ -144,7 +144,7 @@ impl Runner {
     }
 
     // The runner once it is said. It is changed in place and handed back at one place, so that saying nothing copies nothing.
-    #[tactic(auto, unfolding(crate::specs::Message::say, crate::specs::Message::effect, crate::specs::Message::bufferAfter))]
+    #[tactic(auto, unfolding(crate::specs::Message::say, crate::specs::Message::effect, crate::specs::Message::bufferAfter, crate::specs::Message::outputSent, crate::specs::Message::outputPaid, crate::specs::Message::sentOutput))]
     pub(crate) fn say(mut self, choice: Choice, store: &[u8], buffer: &mut [u8]) -> Runner
         requires { Sayable choice self store.now buffer.old }
         ensures { sayAfter result buffer.new ≡ say choice self store.now buffer.old }
@@ -206,6 +206,7 @@ impl Runner {
     }
 
     // The outputs once n bytes of a stream's queue are moved to the start of the buffer.
+    #[tactic(auto, unfolding(crate::specs::Message::sentOutput, crate::specs::Message::payload, output::specs::Output::sent))]
     fn sent(self, stream: Stream, n: u32, store: &[u8], buffer: &mut [u8]) -> [Output; 2]
         requires { Sendable self stream n store.now buffer.old }
         ensures { sentAfter result buffer.new ≡ sentOutput stream n self store.now buffer.old }

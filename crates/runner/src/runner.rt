@@ -87,6 +87,7 @@ pub struct Runner {
 impl Runner {
     // A fresh runner of the execution `key`, created at an instant from which its timeout runs. A refused open hands back a
     // runner without limits, on which every call is refused by 10.
+    #[tactic(auto, unfolding(crate::specs::Calls::open))]
     pub fn open(
         key: Key,
         limits: Limits,
@@ -159,7 +160,7 @@ impl Runner {
     }
 
     // The execution's key.
-    #[tactic(auto, unfolding(crate::specs::Calls::key))]
+    #[tactic(auto, unfolding(crate::specs::Calls::key), using(crate::proofs::Guards::tested_stop))]
     pub fn key(self) -> KeyAnswer
         ensures { result ≡ key self }
     {
@@ -171,7 +172,7 @@ impl Runner {
     }
 
     // The limits that both sides agreed on.
-    #[tactic(auto, unfolding(crate::specs::Calls::limits))]
+    #[tactic(auto, unfolding(crate::specs::Calls::limits), using(crate::proofs::Guards::tested_stop))]
     pub fn limits(self) -> LimitsAnswer
         ensures { result ≡ limits self }
     {
@@ -198,6 +199,7 @@ impl Runner {
     }
 
     // Bytes of the workload's input from the peer. Once the input is closed they are dropped, and the charge stands.
+    #[tactic(auto, unfolding(crate::specs::Calls::input, crate::specs::Streams::received, crate::specs::Streams::inputNext, crate::specs::Streams::inputAnswer, crate::specs::Streams::inputStore, crate::specs::Streams::inputLengths), using(crate::proofs::Guards::tested_stop))]
     pub fn input(mut self, key: Key, store: &mut [u8], lengths: &mut [u32], bytes: &[u8]) -> Hearing
         ensures { inputAfter result store.new lengths.new ≡ input self key bytes.now store.old lengths.old }
     {
@@ -223,7 +225,7 @@ impl Runner {
     }
 
     // The end of the workload's input from the peer.
-    #[tactic(auto, unfolding(crate::specs::Calls::endInput))]
+    #[tactic(auto, unfolding(crate::specs::Calls::endInput), using(crate::proofs::Guards::tested_stop))]
     pub fn end_input(self, key: Key) -> Hearing
         ensures { result ≡ endInput self key }
     {
@@ -237,7 +239,7 @@ impl Runner {
     // The peer's cancellation: it ends the workload for `cause`, and begins the grace of its pending output. Late once a
     // termination began or the execution ended; nothing at all for a stale key.
     // Its answers are all given here: a function below would copy the runner once more.
-    #[tactic(auto, unfolding(crate::specs::Calls::cancel))]
+    #[tactic(auto, unfolding(crate::specs::Calls::cancel, crate::specs::Life::cancelAnswer, crate::specs::Life::cancelNext, crate::specs::Life::cancelled), using(crate::proofs::Guards::tested_stop, crate::proofs::Quiet::ticked_is))]
     pub fn cancel(self, now: u64, key: Key, cause: Cause) -> Hearing
         ensures { result ≡ cancel self now key cause }
     {
@@ -280,7 +282,7 @@ impl Runner {
     }
 
     // The workload's launch result. Only the first counts, and none once the runner gave up on it.
-    #[tactic(auto, unfolding(crate::specs::Calls::launched))]
+    #[tactic(auto, unfolding(crate::specs::Calls::launched), using(crate::proofs::Guards::tested_stop))]
     pub fn launched(self, res: LaunchResult) -> Noting
         ensures { result ≡ launched self res }
     {
@@ -295,7 +297,7 @@ impl Runner {
     }
 
     // How many more bytes of a stream may be read and handed over with `output`.
-    #[tactic(auto, unfolding(crate::specs::Calls::readAllowance))]
+    #[tactic(auto, unfolding(crate::specs::Calls::readAllowance), using(crate::proofs::Guards::tested_stop))]
     pub fn read_allowance(self, stream: Stream) -> Count
         ensures { result ≡ readAllowance self stream }
     {
@@ -307,6 +309,7 @@ impl Runner {
 
     // Bytes that were read from a stream, in order, of which it takes as many as the allowance lets it. While the stream is
     // discarded it takes all, and drops them.
+    #[tactic(auto, unfolding(crate::specs::Calls::output, crate::specs::Streams::outputTook, crate::specs::Streams::outputNext, crate::specs::Streams::outputTaken, crate::specs::Streams::outputStore, output::specs::Output::takenIn), using(crate::proofs::Guards::tested_stop))]
     pub fn output(mut self, stream: Stream, store: &mut [u8], bytes: &[u8]) -> Taking
         ensures { outputAfter result store.new ≡ output self stream bytes.now store.old }
     {
@@ -334,7 +337,7 @@ impl Runner {
     }
 
     // So many bytes of a stream were read and dropped, which truncates it unless there were none.
-    #[tactic(auto, unfolding(crate::specs::Calls::discarded))]
+    #[tactic(auto, unfolding(crate::specs::Calls::discarded), using(crate::proofs::Guards::tested_stop))]
     pub fn discarded(self, stream: Stream, bytes: usize) -> Noting
         ensures { result ≡ discarded self stream bytes }
     {
@@ -349,7 +352,7 @@ impl Runner {
     }
 
     // Every writer of a stream closed it.
-    #[tactic(auto, unfolding(crate::specs::Calls::outputClosed))]
+    #[tactic(auto, unfolding(crate::specs::Calls::outputClosed), using(crate::proofs::Guards::tested_stop))]
     pub fn output_closed(self, stream: Stream) -> Noting
         ensures { result ≡ outputClosed self stream }
     {
@@ -364,7 +367,7 @@ impl Runner {
     }
 
     // Reading a stream failed, which ends and truncates it.
-    #[tactic(auto, unfolding(crate::specs::Calls::outputFailed))]
+    #[tactic(auto, unfolding(crate::specs::Calls::outputFailed), using(crate::proofs::Guards::tested_stop))]
     pub fn output_failed(self, stream: Stream) -> Noting
         ensures { result ≡ outputFailed self stream }
     {
@@ -379,7 +382,7 @@ impl Runner {
     }
 
     // Every writer of a stream closed it, though it is not read to its end.
-    #[tactic(auto, unfolding(crate::specs::Calls::outputHungUp))]
+    #[tactic(auto, unfolding(crate::specs::Calls::outputHungUp), using(crate::proofs::Guards::tested_stop))]
     pub fn output_hung_up(self, stream: Stream) -> Noting
         ensures { result ≡ outputHungUp self stream }
     {
@@ -395,6 +398,7 @@ impl Runner {
 
     // The bytes of input that the adapter writes to the workload next: those that wait from the ring's head to the end of its
     // area, as a part of the byte store. The refusal's number is left in `refusal`, 0 where there is none.
+    #[tactic(auto, unfolding(crate::specs::Calls::pendingInput, crate::specs::Streams::pendingOf), using(crate::proofs::Guards::tested_stop))]
     pub fn pending_input<'a>(self, store: &'a [u8], refusal: &mut u32) -> &'a [u8]
         ensures { pendingAfter result.now refusal.new ≡ pendingInput self store.now }
     {
@@ -410,6 +414,7 @@ impl Runner {
     }
 
     // The workload took so many bytes of its input.
+    #[tactic(auto, unfolding(crate::specs::Calls::inputWritten, crate::specs::Streams::writtenNext, crate::specs::Streams::writtenLengths, crate::specs::RangeLaws::stopIf), using(crate::proofs::Guards::tested_stop))]
     pub fn input_written(mut self, lengths: &mut [u32], bytes: usize) -> Noting
         ensures { writtenAfter result lengths.new ≡ inputWritten self bytes lengths.old }
     {
@@ -429,7 +434,7 @@ impl Runner {
     }
 
     // The workload's input closed, other than by the runner's request.
-    #[tactic(auto, unfolding(crate::specs::Calls::inputClosed))]
+    #[tactic(auto, unfolding(crate::specs::Calls::inputClosed), using(crate::proofs::Guards::tested_stop))]
     pub fn input_closed(self) -> Noting
         ensures { result ≡ inputClosed self }
     {
@@ -444,7 +449,7 @@ impl Runner {
     }
 
     // The workload's end, with its status unless that is lost. Only the first counts.
-    #[tactic(auto, unfolding(crate::specs::Calls::exited))]
+    #[tactic(auto, unfolding(crate::specs::Calls::exited), using(crate::proofs::Guards::tested_stop))]
     pub fn exited(self, now: u64, status: MaybeStatus) -> Noting
         ensures { result ≡ exited self now status }
     {
@@ -459,7 +464,7 @@ impl Runner {
     }
 
     // The result of the settlement that was requested.
-    #[tactic(auto, unfolding(crate::specs::Calls::settled))]
+    #[tactic(auto, unfolding(crate::specs::Calls::settled), using(crate::proofs::Guards::tested_stop))]
     pub fn settled(self, res: Settlement) -> Noting
         ensures { result ≡ settled self res }
     {
@@ -474,7 +479,7 @@ impl Runner {
     }
 
     // Ends the workload, as the adapter abandons the execution, and detaches the runner from the peer.
-    #[tactic(auto, unfolding(crate::specs::Calls::dropped))]
+    #[tactic(auto, unfolding(crate::specs::Calls::dropped), using(crate::proofs::Guards::tested_stop))]
     pub fn dropped(self, now: u64) -> Noting
         ensures { result ≡ dropped self now }
     {
@@ -489,7 +494,7 @@ impl Runner {
     }
 
     // Ends the workload, as the session with the peer was reset, and detaches the runner from the peer.
-    #[tactic(auto, unfolding(crate::specs::Calls::reset))]
+    #[tactic(auto, unfolding(crate::specs::Calls::reset), using(crate::proofs::Guards::tested_stop))]
     pub fn reset(self, now: u64) -> Noting
         ensures { result ≡ reset self now }
     {
@@ -504,7 +509,7 @@ impl Runner {
     }
 
     // Ends the workload, as the transport to the peer was lost, and detaches the runner from the peer.
-    #[tactic(auto, unfolding(crate::specs::Calls::disconnect))]
+    #[tactic(auto, unfolding(crate::specs::Calls::disconnect), using(crate::proofs::Guards::tested_stop))]
     pub fn disconnect(self, now: u64) -> Noting
         ensures { result ≡ disconnect self now }
     {
@@ -520,6 +525,7 @@ impl Runner {
 
     // Fires the timers whose instants `now` has reached. They are handed a copy, and what they do not move is left in its place, so
     // that a tick with nothing due copies nothing.
+    #[tactic(auto, unfolding(crate::specs::Calls::tick, crate::specs::RangeLaws::stopIf), using(crate::proofs::Guards::tested_stop, crate::proofs::Quiet::ticked_is, crate::proofs::Quiet::in_fire))]
     pub fn tick(mut self, now: u64) -> Noting
         ensures { result ≡ tick self now }
     {
@@ -548,7 +554,7 @@ impl Runner {
     }
 
     // When the next timer fires.
-    #[tactic(auto, unfolding(crate::specs::Calls::deadline))]
+    #[tactic(auto, unfolding(crate::specs::Calls::deadline), using(crate::proofs::Guards::tested_stop))]
     pub fn deadline(self) -> When
         ensures { result ≡ deadline self }
     {
@@ -559,7 +565,7 @@ impl Runner {
     }
 
     // The next request to apply to the workload, if one waits.
-    #[tactic(auto, unfolding(crate::specs::Calls::nextRequest, crate::specs::Message::wishEffect))]
+    #[tactic(auto, unfolding(crate::specs::Calls::nextRequest, crate::specs::Message::wishEffect), using(crate::proofs::Guards::tested_stop))]
     pub fn next_request(self) -> Asking
         ensures { result ≡ nextRequest self }
     {
@@ -589,6 +595,7 @@ impl Runner {
     }
 
     // The next message to send the peer, if one waits. An output message stands at the start of `buffer`.
+    #[tactic(auto, unfolding(crate::specs::Calls::nextMessage, crate::specs::Message::say), using(crate::proofs::Guards::tested_stop))]
     pub fn next_message(self, store: &[u8], buffer: &mut [u8]) -> Saying
         ensures { messageAfter result buffer.new ≡ nextMessage self store.now buffer.old }
     {
@@ -602,7 +609,7 @@ impl Runner {
     }
 
     // Whether the terminal outcome was returned.
-    #[tactic(auto, unfolding(crate::specs::Calls::isFinished))]
+    #[tactic(auto, unfolding(crate::specs::Calls::isFinished), using(crate::proofs::Guards::tested_stop))]
     pub fn is_finished(self) -> Truth
         ensures { result ≡ isFinished self }
     {
@@ -613,7 +620,7 @@ impl Runner {
     }
 
     // Whether the runner is detached from the peer.
-    #[tactic(auto, unfolding(crate::specs::Calls::isDetached))]
+    #[tactic(auto, unfolding(crate::specs::Calls::isDetached), using(crate::proofs::Guards::tested_stop))]
     pub fn is_detached(self) -> Truth
         ensures { result ≡ isDetached self }
     {
@@ -624,7 +631,7 @@ impl Runner {
     }
 
     // Whether the result of the settlement is awaited.
-    #[tactic(auto, unfolding(crate::specs::Calls::awaitsSettlement))]
+    #[tactic(auto, unfolding(crate::specs::Calls::awaitsSettlement), using(crate::proofs::Guards::tested_stop))]
     pub fn awaits_settlement(self) -> Truth
         ensures { result ≡ awaitsSettlement self }
     {
@@ -637,7 +644,7 @@ impl Runner {
     }
 
     // The most bytes that the runner holds at once.
-    #[tactic(auto, unfolding(crate::specs::Calls::memoryBound))]
+    #[tactic(auto, unfolding(crate::specs::Calls::memoryBound), using(crate::proofs::Guards::tested_stop))]
     pub fn memory_bound(self) -> Count
         ensures { result ≡ memoryBound self }
     {
@@ -649,7 +656,7 @@ impl Runner {
     }
 
     // The bytes that the runner holds now.
-    #[tactic(auto, unfolding(crate::specs::Calls::buffered))]
+    #[tactic(auto, unfolding(crate::specs::Calls::buffered), using(crate::proofs::Guards::tested_stop))]
     pub fn buffered(self) -> Count
         ensures { result ≡ buffered self }
     {
@@ -660,7 +667,7 @@ impl Runner {
     }
 
     // The most bytes that the runner has held at once.
-    #[tactic(auto, unfolding(crate::specs::Calls::highWater))]
+    #[tactic(auto, unfolding(crate::specs::Calls::highWater), using(crate::proofs::Guards::tested_stop))]
     pub fn high_water(self) -> Count
         ensures { result ≡ highWater self }
     {

@@ -159,7 +159,7 @@ impl Runner {
     }
 
     // The peer's credit: what becomes of the accounts.
-    #[tactic(auto, unfolding(crate::specs::Calls::credit))]
+    #[tactic(auto, unfolding(crate::specs::Calls::credit), using(crate::proofs::Guards::tested_stop))]
     pub(crate) fn account_for(self, key: Key, pool: Pool, units: u32) -> Accounting
         ensures { result ≡ accountingOf (credit self key pool units) }
     {
