@@ -1,24 +1,13 @@
 -- Laws of the record calls' code, over plain variables: there is too much to compute at the calls' own places.
-use mathlib.Core.Bool.{Bool, true, false, cond, not, ◌&&◌}
-use mathlib.Core.Path.{◌≡◌, refl, sym, ap, ◌∙◌}
-use mathlib.Core.List.{List, ◌++◌}
-use Prim.Native.Nat.{ℕ, ◌+◌, ◌-◌, ◌^◌, ◌≤◌, ◌<◌, min}
-use native.Mathlib.Omega.{arith}
-use lib.Dec.{leb}
-use lib.ListN.{length, take, drop, length-append, length-take, length-drop, take-append-drop}
-use lib.Seq.{drop-drop}
+use Rattle.std.proofs.Common.{Bool, true, false, cond, ◌≡◌, refl, sym, ap, ◌∙◌, List, ◌++◌, ℕ, ◌+◌, ◌^◌, ◌≤◌, ◌<◌, arith, length, take, drop, length-append, length-take, length-drop, take-append-drop, drop-drop}
+use Rattle.std.specs.Prelude.{not, min}
 use Rattle.exec.specs.declared.Limits.{Limits}
 use Rattle.exec.specs.declared.Refusal.TheVariants.{NoLimits, StoreShort, StateOutOfRange, UntoldStatus}
 use Rattle.exec.specs.declared.Reply.{Reply}
 use Rattle.exec.specs.Limits.{isValid, poolOf}
-use Rattle.inbox.specs.Need.{byteNeed, lengthNeed}
-use Rattle.runner.specs.declared.answer.Hearing.{Hearing}
-use Rattle.runner.specs.declared.answer.LimitsAnswer.{LimitsAnswer}
 use Rattle.runner.specs.declared.answer.Message.{Message}
-use Rattle.runner.specs.declared.answer.Message.TheVariants as Message
 use Rattle.runner.specs.declared.answer.Saying.{Saying}
 use Rattle.choice.specs.declared.Choice.{Choice}
-use Rattle.choice.specs.declared.Choice.TheVariants as Choice
 use Rattle.runner.specs.declared.runner.Runner.{Runner}
 use Rattle.runner.specs.Calls as Calls
 use Rattle.runner.specs.Calls.{limitsBy, messageBy}
@@ -26,17 +15,12 @@ use Rattle.runner.specs.Message.{MessageAfter, messageAfter, choose, saidFor, se
 use Rattle.runner.specs.MessageLaws.{chosen, least}
 use Rattle.runner.specs.Range.{in_range, bytesDo, stop}
 use Rattle.runner.specs.State.{out_of, credit_at}
-use Rattle.runner.specs.Streams.{InputAfter, inputAfter}
-use Rattle.channel.specs.declared.calls.Reading.{Reading}
 use Rattle.channel.specs.declared.calls.Writing.{Writing}
-use Rattle.codec.specs.declared.Record.{Record}
-use Rattle.codec.specs.declared.Record.TheVariants.{Data}
 use Rattle.codec.specs.Codec.{size}
 use Rattle.exec.specs.declared.Stream.{Stream}
 use Rattle.exec.specs.declared.Stream.TheVariants.{Stdout, Stderr}
-use Rattle.exec.specs.declared.Reply.TheVariants as Reply
-use Rattle.channel.specs.Calls.{outputRecord, onChannel, admitted, readAfter, heard, made, admittedRead, readRecord, writeAfter, hasEnded, sentAs, partBack, told, asked, isLeft, unwritten, sent, room, admittedWrite, writeRecord}
-use Rattle.channel.specs.CallLaws.{admittedLimits, admittedBy, rest, Narrow, Roomy, RoomyFor, Sayable, left-kept}
+use Rattle.channel.specs.Calls.{outputRecord, onChannel, admitted, writeAfter, hasEnded, sentAs, partBack, told, asked, isLeft, unwritten, sent, room}
+use Rattle.channel.specs.CallLaws.{admittedLimits, admittedBy, Narrow, Roomy, RoomyFor, Sayable, left-kept}
 
 -- ---- what is met before a record
 
@@ -55,38 +39,9 @@ admitted-as true true false l = refl
 admitted-as true false enough l = refl
 admitted-as false valid enough l = refl
 
-admitted-by : (r : Runner) (enough : Bool) → admittedBy (Calls.limits r) enough ≡ admitted r enough
+pub admitted_by : (r : Runner) (enough : Bool) → admitted r enough ≡ admittedBy (Calls.limits r) enough
 unfolding Calls.limits stop admitted
-admitted-by r enough = admitted-as (in_range r) (isValid r.limits) enough r.limits
-
-pub read_goes : (r : Runner) (at channel : ℕ) (s store lengths : List ℕ) (told : LimitsAnswer) (need1 need2 : ℕ) (reply : Reply) (x : Reading) (b l : List ℕ)
-    → need1 ≡ byteNeed r.limits → need2 ≡ lengthNeed r.limits → told ≡ Calls.limits r
-    → reply ≡ admittedBy told (leb need1 (length store) && leb need2 (length lengths))
-    → readAfter x b l ≡ admittedRead reply r at channel s store lengths → readAfter x b l ≡ readRecord r at channel s store lengths
-unfolding readRecord
-read_goes r at channel s store lengths told need1 need2 reply x b l e1 e2 e3 e4 e5 =
-    let enough = leb (byteNeed r.limits) (length store) && leb (lengthNeed r.limits) (length lengths) in
-    let e : reply ≡ admitted r enough = rw (e1, e2, e3) at e4 ∙ admitted-by r enough in
-    e5 ∙ ap (λ (y : Reply). admittedRead y r at channel s store lengths) e
-
-pub write_goes : (r : Runner) (channel : ℕ) (store buffer : List ℕ) (told : LimitsAnswer) (need : ℕ) (reply : Reply) (x : Writing) (b : List ℕ)
-    → need ≡ byteNeed r.limits → told ≡ Calls.limits r → reply ≡ admittedBy told (leb need (length store))
-    → writeAfter x b ≡ admittedWrite reply r channel store buffer → writeAfter x b ≡ writeRecord r channel store buffer
-unfolding writeRecord
-write_goes r channel store buffer told need reply x b e1 e2 e3 e4 =
-    let enough = leb (byteNeed r.limits) (length store) in
-    let e : reply ≡ admitted r enough = rw (e1, e2) at e3 ∙ admitted-by r enough in
-    e4 ∙ ap (λ (y : Reply). admittedWrite y r channel store buffer) e
-
--- ---- a record read
-
-pub data-made : (rec : Record) (n : ℕ) (r : Runner) (at : ℕ) (s store lengths : List ℕ) (x : Reading) (h : Hearing) (b l : List ℕ)
-    → rec ≡ Data n → x ≡ heard h → inputAfter h b l ≡ Calls.input r r.key (take (length s - 9) (drop 9 s)) store lengths
-    → readAfter x b l ≡ made rec r at s store lengths
-unfolding made
-data-made rec n r at s store lengths x h b l e ex eh =
-    let i : inputAfter h b l ≡ Calls.input r r.key (drop 9 s) store lengths = rw (rest s) at eh in
-    rw (e, ex) (ap (λ (y : InputAfter). readAfter (heard y.hearing) y.bytes y.lengths) i)
+admitted_by r enough = sym (admitted-as (in_range r) (isValid r.limits) enough r.limits)
 
 -- ---- a record written
 

@@ -6,31 +6,23 @@ use Rattle.std.proofs.Common.{sym, ap, ◌∙◌, arith, length-drop, take-appen
 use Rattle.exec.specs.declared.Limits.{Limits}
 use Rattle.exec.specs.declared.Refusal.TheVariants.{StoreShort, NotAChannel}
 use Rattle.exec.specs.declared.Reply.{Reply}
-use Rattle.exec.specs.declared.Reply.TheVariants as Reply
 use Rattle.exec.specs.declared.Stream.{Stream}
 use Rattle.runner.specs.declared.answer.LimitsAnswer.{LimitsAnswer}
-use Rattle.runner.specs.declared.answer.LimitsAnswer.TheVariants as LimitsAnswer
 use Rattle.runner.specs.declared.answer.Message.{Message}
-use Rattle.runner.specs.declared.answer.Message.TheVariants as Message
 use Rattle.runner.specs.declared.answer.Said.{Said}
-use Rattle.runner.specs.declared.answer.Said.TheVariants as Said
 use Rattle.choice.specs.declared.Choice.{Choice}
-use Rattle.choice.specs.declared.Choice.TheVariants as Choice
 use Rattle.runner.specs.declared.runner.Runner.{Runner}
 use Rattle.runner.specs.Calls as Calls
 use Rattle.runner.specs.Calls.{messageBy}
 use Rattle.runner.specs.Message.{choose, saidFor, bufferAfter}
 use Rattle.runner.specs.Range.{bytesDo, stop}
 use Rattle.channel.specs.declared.calls.Sending.{Sending}
-use Rattle.channel.specs.declared.calls.Sending.TheVariants as Sending
 use Rattle.channel.specs.declared.calls.Wrote.TheVariants as Wrote
 use Rattle.codec.specs.declared.Parsed.{Parsed}
-use Rattle.codec.specs.declared.Parsed.TheVariants as Parsed
 use Rattle.channel.specs.Calls.{isChannel, admitted, hasEnded, wrote, wroteBuffer, partBack, told, asked, isLeft, sent, room, roomyWrite, admittedWrite, writeRecord}
 use Rattle.codec.specs.declared.Record.{Record}
 use Rattle.codec.specs.declared.Record.TheVariants.{Data}
 use Rattle.codec.specs.declared.Written.{Written}
-use Rattle.codec.specs.declared.Written.TheVariants as Written
 use Rattle.codec.specs.Codec.{start, size, read}
 use Rattle.codec.specs.CodecLaws.{read_is}
 use Rattle.exits.specs.Exit.{isUntold}

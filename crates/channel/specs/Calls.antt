@@ -4,21 +4,17 @@ use Rattle.std.specs.Prelude.{Bool, true, false, cond, ◌&&◌, List, ◌++◌,
 use Rattle.exec.specs.declared.Limits.{Limits}
 use Rattle.exec.specs.declared.Pool.TheVariants as Pool
 use Rattle.exec.specs.declared.Received.{Received}
-use Rattle.exec.specs.declared.Received.TheVariants as Received
 use Rattle.exec.specs.declared.Refusal.{Refusal}
 use Rattle.exec.specs.declared.Refusal.TheVariants.{NotAChannel, NotInbound, BufferShort, UntoldStatus}
 use Rattle.exec.specs.declared.Reply.{Reply}
-use Rattle.exec.specs.declared.Reply.TheVariants as Reply
 use Rattle.exec.specs.declared.Stream.{Stream}
 use Rattle.exec.specs.declared.Stream.TheVariants.{Stdout, Stderr}
 use Rattle.exec.specs.declared.Unit as Units
 use Rattle.exec.specs.declared.Unit.TheVariants.{Bytes, Frames}
 use Rattle.runner.specs.declared.answer.Hearing.{Hearing}
 use Rattle.runner.specs.declared.answer.Message.{Message}
-use Rattle.runner.specs.declared.answer.Message.TheVariants as Message
 use Rattle.runner.specs.declared.answer.Noting.{Noting}
 use Rattle.runner.specs.declared.answer.Said.{Said}
-use Rattle.runner.specs.declared.answer.Said.TheVariants as Said
 use Rattle.runner.specs.declared.answer.Saying.{Saying}
 use Rattle.runner.specs.declared.runner.Runner.{Runner}
 use Rattle.runner.specs.Calls as Calls
@@ -28,15 +24,11 @@ use Rattle.runner.specs.Range.{bytesDo, stop}
 use Rattle.exec.specs.Stream.{anyStream}
 use Rattle.runner.specs.State.{out_of}
 use Rattle.channel.specs.declared.calls.Answer.{Answer}
-use Rattle.channel.specs.declared.calls.Answer.TheVariants as Answer
 use Rattle.channel.specs.declared.calls.Reading.{Reading}
 use Rattle.channel.specs.declared.calls.Sending.{Sending}
-use Rattle.channel.specs.declared.calls.Sending.TheVariants as Sending
 use Rattle.channel.specs.declared.calls.Writing.{Writing}
 use Rattle.channel.specs.declared.calls.Wrote.{Wrote}
-use Rattle.channel.specs.declared.calls.Wrote.TheVariants as Wrote
 use Rattle.codec.specs.declared.Parsed.{Parsed}
-use Rattle.codec.specs.declared.Parsed.TheVariants as Parsed
 use Rattle.codec.specs.declared.Record.{Record}
 use Rattle.codec.specs.declared.Record.TheVariants.{Adjust, Data, Extended, Eof, Close}
 use Rattle.codec.specs.Codec.{start, size, read, laidRecord}

@@ -12,9 +12,7 @@ use Rattle.exec.specs.declared.Receipt.TheVariants.{Applied, Stale, Late}
 use Rattle.exec.specs.declared.Received.{Received}
 use Rattle.exec.specs.declared.Received.TheVariants.{Receipt, Refused}
 use Rattle.exec.specs.declared.Refusal.{Refusal}
-use Rattle.exec.specs.declared.Refusal.TheVariants as Refusal
 use Rattle.exec.specs.declared.Reply.{Reply}
-use Rattle.exec.specs.declared.Reply.TheVariants as Reply
 use Rattle.exec.specs.declared.Timers.{Timers}
 use Rattle.exec.specs.Key.{newKey, admits}
 use Rattle.exec.specs.Limits.{bytesWindow, framesWindow, limitsFor, sharedOutput, cost, bytesWith}
@@ -29,7 +27,6 @@ use Rattle.output.specs.Output.{outputFits}
 use Rattle.runner.specs.declared.answer.Hearing.{Hearing}
 use Rattle.runner.specs.declared.answer.Message.TheVariants as Messages
 use Rattle.runner.specs.declared.answer.When.{When}
-use Rattle.runner.specs.declared.answer.When.TheVariants as When
 use Rattle.runner.specs.declared.runner.Runner.{Runner}
 use Rattle.runner.specs.Calls as Calls
 use Rattle.runner.specs.Calls.{WrittenAfter, pendingAfter}
@@ -42,7 +39,6 @@ use Rattle.runner.specs.Streams.{InputAfter, inputAfter}
 use Rattle.codec.specs.declared.Parsed.TheVariants as Parsed
 use Rattle.codec.specs.declared.Record.TheVariants.{Adjust, Data}
 use Rattle.channel.specs.declared.calls.Wrote.{Wrote}
-use Rattle.channel.specs.declared.calls.Wrote.TheVariants as Wrote
 use Rattle.channel.specs.Calls as Channel
 use Rattle.channel.specs.Calls.{room}
 use Rattle.octets.specs.Bytes.{be32At, number_at}

@@ -8,15 +8,11 @@ use Rattle.exec.specs.declared.Outcome.{Outcome}
 use Rattle.exec.specs.declared.Refusal.{Refusal}
 use Rattle.exec.specs.declared.Refusal.TheVariants.{NoLimits, StoreShort, StateOutOfRange, NotAChannel, BufferShort, UntoldStatus}
 use Rattle.exec.specs.declared.Reply.{Reply}
-use Rattle.exec.specs.declared.Reply.TheVariants as Reply
 use Rattle.exec.specs.Limits.{isValid}
 use Rattle.exec.specs.Refusal.{number}
 use Rattle.choice.specs.declared.Choice.{Choice}
-use Rattle.choice.specs.declared.Choice.TheVariants as Choice
 use Rattle.runner.specs.declared.answer.Message.{Message}
-use Rattle.runner.specs.declared.answer.Message.TheVariants as Message
 use Rattle.runner.specs.declared.answer.Said.{Said}
-use Rattle.runner.specs.declared.answer.Said.TheVariants as Said
 use Rattle.runner.specs.declared.runner.Runner.{Runner}
 use Rattle.runner.specs.Calls as Calls
 use Rattle.runner.specs.Life.{outcomeOf}
@@ -29,7 +25,6 @@ use Rattle.codec.specs.Codec.{read}
 use Rattle.exits.specs.Exit.{isUntold, ending}
 use Rattle.exits.specs.RoundTrip.{Tells, ended-reads}
 use Rattle.channel.specs.declared.calls.Wrote.{Wrote}
-use Rattle.channel.specs.declared.calls.Wrote.TheVariants as Wrote
 use Rattle.channel.specs.Calls.{WriteAfter, writeAfter, isChannel, admitted, hasEnded, sentAs, sentBuffer, wrote, wroteBuffer, partBack, told, asked, isLeft, unwritten, sent, room, roomyWrite, admittedWrite, writeRecord}
 
 -- ---- the ways of a write

@@ -128,6 +128,7 @@ fn admit_limits(limits: Limits, enough: bool) -> Reply
 // ---- a record read
 
 // Reads a record for the channel at an instant, and makes the call that it stands for under the runner's own key.
+#[tactic(auto, unfolding(crate::specs::Calls::readRecord), using(crate::proofs::Steps::admitted_by))]
 pub fn read_record(
     runner: Runner,
     at: u64,
@@ -191,7 +192,7 @@ fn read_parsed(
 }
 
 // Makes the call that a record stands for.
-#[tactic(auto, unfolding(crate::specs::Calls::made))]
+#[tactic(auto, unfolding(crate::specs::Calls::made), using(crate::specs::CallLaws::rest))]
 fn make(
     rec: Record,
     runner: Runner,
@@ -259,6 +260,7 @@ fn noted_as(reply: Reply) -> Answer
 
 // Takes the next message, and leaves its record for the channel at the buffer's start. A buffer below chunk + 13 bytes, or
 // below 43, is refused before a message is taken; so is a Terminal whose status no request tells, which next_message still gives.
+#[tactic(auto, unfolding(crate::specs::Calls::writeRecord), using(crate::proofs::Steps::admitted_by))]
 pub fn write_record(runner: Runner, channel: u32, store: &[u8], buffer: &mut [u8]) -> Writing
     ensures { writeAfter result buffer.new ≡ writeRecord runner channel store.now buffer.old }
 {
@@ -396,7 +398,7 @@ fn tell_said(said: Said, ended: bool, channel: u32, buffer: &mut [u8]) -> Wrote
 }
 
 // What a message is sent as, where `ended` is whether an End came before it.
-#[tactic(auto, unfolding(crate::specs::Calls::sentAs))]
+#[tactic(auto, unfolding(crate::specs::Calls::sentAs, crate::specs::CallLaws::Narrow))]
 fn sent_as(ended: bool, message: Message) -> Sending
     requires { Narrow message }
     ensures { result ≡ sentAs ended message }
@@ -432,7 +434,7 @@ fn output_record(stream: Stream, n: u32) -> Record
 }
 
 // Lays what is sent at the buffer's start, and returns how many bytes of it that has.
-#[tactic(auto, unfolding(crate::specs::Calls::sentBuffer, crate::specs::CallLaws::Roomy, exits::specs::Exit::closed))]
+#[tactic(auto, unfolding(crate::specs::Calls::sentBuffer, crate::specs::CallLaws::Roomy, codec::specs::Codec::lay, exits::specs::Exit::close, exits::specs::Exit::closed))]
 fn lay_out(out: Sending, channel: u32, buffer: &mut [u8]) -> usize
     requires { Roomy out (length buffer.old) }
     ensures { (result ≡ length_of channel out) × (buffer.new ≡ sentBuffer channel out buffer.old) }
