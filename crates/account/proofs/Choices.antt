@@ -5,7 +5,7 @@ use Rattle.choice.specs.declared.Choice.{Choice}
 use Rattle.runner.specs.declared.runner.Runner.{Runner}
 use Rattle.choice.specs.Order.{ifElse, order}
 use Rattle.exec.specs.Stream.{streamAt, following}
-use Rattle.runner.specs.State.{out_of}
+use Rattle.runner.specs.State.{outOf}
 use Rattle.runner.specs.Message.{choose}
 use Rattle.runner.specs.TerminalLaws.{sendable-count}
 
@@ -16,7 +16,7 @@ Sound s Choice.Credit = Unit
 Sound s Choice.Started = Unit
 Sound s Choice.InputClosed = Unit
 Sound s (Choice.End x) = Unit
-Sound s (Choice.Output x n) = n ≤ (out_of x s).queued
+Sound s (Choice.Output x n) = n ≤ (outOf x s).queued
 Sound s Choice.Terminal = Unit
 
 pub record Sent (s : Runner) (m : Choice) : Type 0 where

@@ -25,7 +25,7 @@ use Rattle.calls.specs.Call as Call
 use Rattle.calls.specs.Call.{Conf, Call, Done}
 use Rattle.account.specs.Step as Step
 use Rattle.account.specs.Step.{State}
-use Rattle.account.specs.Account.{Account, start, account, tally_of, cut, tickA}
+use Rattle.account.specs.Account.{Account, start, account, tallyOf, cut, tickA}
 use Rattle.account.specs.LateClaim.{tickOf}
 use Rattle.account.specs.Claim.{Demand3, Opens, IsPrefix, Silent, accountOf, isStop, isTerminal, anyTerminal, messages}
 use Rattle.account.proofs.Plain.{enough, next, answer, afterAll, run, begun}
@@ -33,7 +33,7 @@ use Rattle.account.proofs.Guarded.{next-is, answer-is, not_stopped}
 use Rattle.account.proofs.Range.{Lent, lent, in-range}
 use Rattle.account.proofs.Finish.{framed, framed-conf}
 use Rattle.account.proofs.Lists
-use Rattle.account.proofs.Lists.{Sound, sound-next, sound-open, plain_of}
+use Rattle.account.proofs.Lists.{Sound, sound-next, sound-open, plainOf}
 use Rattle.account.proofs.Five
 use Rattle.account.proofs.Late
 use Rattle.account.proofs.InputRange.{HeldIn}
@@ -152,7 +152,7 @@ module _ (conf : Conf) (now : ℕ) (bytes lengths : List ℕ) (op : Opens conf n
   pub same-run : (cs : List Call) → Step.run (Step.opened conf now bytes lengths) cs ≡ run (begun conf now bytes lengths) cs
   same-run cs = ap (λ (s : State). Step.run s cs) (open-same conf now bytes lengths op) ∙ run-same cs (begun conf now bytes lengths) f0
 
-  pub same-account : (cs : List Call) → accountOf conf now bytes lengths cs ≡ plain_of conf now bytes lengths cs
+  pub same-account : (cs : List Call) → accountOf conf now bytes lengths cs ≡ plainOf conf now bytes lengths cs
   same-account cs = ap (λ (ds : List Done). account (start conf now) ds) (same-run cs)
 
   pub same_answer : (cs : List Call) (c : Call) → Step.answer (Step.after (Step.opened conf now bytes lengths) cs) c ≡ answer (afterAll (begun conf now bytes lengths) cs) c
@@ -177,9 +177,9 @@ module _ (conf : Conf) (now : ℕ) (bytes lengths : List ℕ) (op : Opens conf n
 
   pub demand3 : Demand3 conf now bytes lengths
   demand3 = record {
-    joined = λ cs x. subst⁻¹ (λ (a : Account). IsPrefix (tally_of x a).sent (tally_of x a).taken) (same-account cs) (Lists.joined conf now bytes lengths lt cs x);
+    joined = λ cs x. subst⁻¹ (λ (a : Account). IsPrefix (tallyOf x a).sent (tallyOf x a).taken) (same-account cs) (Lists.joined conf now bytes lengths lt cs x);
     once = λ cs c ds e. subst⁻¹ Silent (same_rest cs c ds) (Lists.once (afterAll (begun conf now bytes lengths) cs) c ds (sym (ap isTerminal (same_answer cs c)) ∙ e));
-    marks = λ cs c o e. subst⁻¹ (λ (a : Account). (x : Stream) → isTruncated o x ≡ cut (tally_of x a)) (same-account cs)
+    marks = λ cs c o e. subst⁻¹ (λ (a : Account). (x : Stream) → isTruncated o x ≡ cut (tallyOf x a)) (same-account cs)
         (Lists.marks-at _ _ c o (Lists.open-course conf now bytes lengths lt cs) (sym (same_answer cs c) ∙ e));
     first = λ cs t k c e. (let p = Five.first t k c (afterAll (begun conf now bytes lengths) cs) (sym (same_answer cs _) ∙ e) in
         subst⁻¹ (λ (a : Account). (tickA t a).rep.begun ≡ false) (same-account cs) (Lists.course-begun t _ _ p.0 (Lists.open-course conf now bytes lengths lt cs) ∙ p.1));

@@ -32,13 +32,13 @@ use Rattle.runner.specs.declared.runner.Runner.{Runner}
 use Rattle.runner.specs.Life.{awaitsLaunch, ticked, isLate, cancelAnswer, closeRunnerInput, noteStarted, noteLaunch, launchedNext, settledNext}
 use Rattle.runner.specs.Message.{choose, outputPaid, outputSent, effect, payload, wish, wishEffect}
 use Rattle.output.specs.Outputs.{putOutput}
-use Rattle.runner.specs.State.{out_of, withOutputs, at, base}
-use Rattle.runner.specs.Streams.{isShut, room, outputTaken, outputNext, outputStore, discardedNext, closedNext, failedNext, hungUpNext, creditNext, is_taken, inputNext, inputStore, endNext, writtenNext}
+use Rattle.runner.specs.State.{outOf, withOutputs, at, base}
+use Rattle.runner.specs.Streams.{isShut, room, outputTaken, outputNext, outputStore, discardedNext, closedNext, failedNext, hungUpNext, creditNext, isTaken, inputNext, inputStore, endNext, writtenNext}
 use Rattle.calls.specs.Call as Call
-use Rattle.calls.specs.Call.{Conf, Call, is_refused}
+use Rattle.calls.specs.Call.{Conf, Call, isRefused}
 use Rattle.account.specs.Step.{State, receivedAs}
 use Rattle.account.specs.Account
-use Rattle.account.specs.Account.{Tally, tally_of, marked, sentBy, mk, adds, add, hear, heard, onTally, takenBy, launchR, closeR, hangR, settlingR}
+use Rattle.account.specs.Account.{Tally, tallyOf, marked, sentBy, mk, adds, add, hear, heard, onTally, takenBy, launchR, closeR, hangR, settlingR}
 use Rattle.account.proofs.Plain.{said, next, answer}
 use Rattle.account.proofs.Stages.{launchedIf}
 use Rattle.account.proofs.Rings.{ring}
@@ -56,30 +56,30 @@ abbrev Claim : List ℕ → ℕ → Stream → Output → Tally → Type 0
 Claim st n x o t = Good st (base x n) n o t
 
 -- what is replayed does not change with an output that stays as closed and as hung up as it was
-rep_at : (x : Stream) (o : Output) (s : Runner) → o.closed ≡ (out_of x s).closed → o.hung_up ≡ (out_of x s).hung_up → rep (withOutputs (putOutput x o s.outputs) s) ≡ rep s
+rep_at : (x : Stream) (o : Output) (s : Runner) → o.closed ≡ (outOf x s).closed → o.hung_up ≡ (outOf x s).hung_up → rep (withOutputs (putOutput x o s.outputs) s) ≡ rep s
 rep_at Stdout o s c h = rw (c, h) refl
 rep_at Stderr o s c h = rw (c, h) refl
 
-sent-inv : (st : List ℕ) (x : Stream) (n : ℕ) (s : Runner) (a : Account.Account) → n ≤ (out_of x s).queued → Inv st s a
+sent-inv : (st : List ℕ) (x : Stream) (n : ℕ) (s : Runner) (a : Account.Account) → n ≤ (outOf x s).queued → Inv st s a
     → Inv st (outputSent x n s) (heard (Call.Output x (payload s x n st)) a)
 unfolding payload outputSent outputPaid
 sent-inv st x n s a l h = (
-  h.0 ∙ sym (rep_at x (sentOut s.limits.chunk n (out_of x s)) s refl refl),
-  on_one (Claim st s.limits.chunk) x (sentOut s.limits.chunk n (out_of x s)) (sentBy (payloadOf x)) s.outputs a.tallies (sent-by st (base x s.limits.chunk) s.limits.chunk n (out_of x s) (tally_of x a) l (h.1 x)) (λ y e. h.1 y),
+  h.0 ∙ sym (rep_at x (sentOut s.limits.chunk n (outOf x s)) s refl refl),
+  on_one (Claim st s.limits.chunk) x (sentOut s.limits.chunk n (outOf x s)) (sentBy (payloadOf x)) s.outputs a.tallies (sent-by st (base x s.limits.chunk) s.limits.chunk n (outOf x s) (tallyOf x a) l (h.1 x)) (λ y e. h.1 y),
 )
   where
     payloadOf : Stream → List ℕ
-    payloadOf y = ring st (base y s.limits.chunk) s.limits.chunk (out_of y s).start n
+    payloadOf y = ring st (base y s.limits.chunk) s.limits.chunk (outOf y s).start n
 
 -- an output that keeps all that the invariant sees of it
 seen-inv : (st : List ℕ) (x : Stream) (f : Output → Output) (s : Runner) (a : Account.Account) → ((o : Output) (t : Tally) → Good st (base x s.limits.chunk) s.limits.chunk o t → Good st (base x s.limits.chunk) s.limits.chunk (f o) t)
-    → ((f (out_of x s)).closed ≡ (out_of x s).closed) → ((f (out_of x s)).hung_up ≡ (out_of x s).hung_up) → Inv st s a → Inv st (at x f s) a
+    → ((f (outOf x s)).closed ≡ (outOf x s).closed) → ((f (outOf x s)).hung_up ≡ (outOf x s).hung_up) → Inv st s a → Inv st (at x f s) a
 seen-inv st x f s a k c u h = (
-  h.0 ∙ sym (rep_at x (f (out_of x s)) s c u),
-  on_out (λ (y : Stream) (o : Output). Good st (base y s.limits.chunk) s.limits.chunk o (tally_of y a)) x (f (out_of x s)) s.outputs (k (out_of x s) (tally_of x a) (h.1 x)) (λ y e. h.1 y),
+  h.0 ∙ sym (rep_at x (f (outOf x s)) s c u),
+  on_out (λ (y : Stream) (o : Output). Good st (base y s.limits.chunk) s.limits.chunk o (tallyOf y a)) x (f (outOf x s)) s.outputs (k (outOf x s) (tallyOf x a) (h.1 x)) (λ y e. h.1 y),
 )
 
-effect-inv : (st : List ℕ) (m : Choice) (s : Runner) (a : Account.Account) → Sent s m → Inv st s a → Inv st (effect m s) (cond (is_refused (said m s st)) a (hear (said m s st) a))
+effect-inv : (st : List ℕ) (m : Choice) (s : Runner) (a : Account.Account) → Sent s m → Inv st s a → Inv st (effect m s) (cond (isRefused (said m s st)) a (hear (said m s st) a))
 unfolding effect said
 effect-inv st Choice.None s a l h = h
 effect-inv st Choice.Credit s a l h = h
@@ -114,9 +114,9 @@ input-inv true b st s a n l m h =
     let w = write-length (inboxBase s.limits) (inboxSize s.limits) s.input.inbox.start s.input.inbox.length b (length b) st n (omega arith) (omega arith) k in (
       h.0,
       λ x. let f = base-behind x c in
-          moved st _ (base x c) c (out_of x s) (tally_of x a)
+          moved st _ (base x c) c (outOf x s) (tallyOf x a)
           (write-other (inboxBase s.limits) (inboxSize s.limits) s.input.inbox.start s.input.inbox.length b (length b) st n (omega arith) (omega arith) k
-          (base x c) c (out_of x s).start (out_of x s).queued (h.1 x).2 (let z = (h.1 x).1.inside in omega arith) (h.1 x).1.within (inl f)) w (h.1 x),
+          (base x c) c (outOf x s).start (outOf x s).queued (h.1 x).2 (let z = (h.1 x).1.inside in omega arith) (h.1 x).1.within (inl f)) w (h.1 x),
     )
 
 taken-inv : (t : Bool) (b st : List ℕ) (s : Runner) (a : Account.Account) → byteNeed s.limits ≤ length st → s.input.inbox.start < inboxSize s.limits
@@ -131,28 +131,28 @@ output-inv : (st : List ℕ) (x : Stream) (b : List ℕ) (s : Runner) (a : Accou
 unfolding outputStore outputNext outputTaken
 output-inv st x b s a h =
     let c : ℕ = s.limits.chunk in
-    let k : ℕ = keeps (isShut x s) (out_of x s).discarding (room x s) (length b) in
-    let has = keeps-less (isShut x s) (out_of x s).discarding (room x s) (length b) in
-    let kr = keeps-fit (isShut x s) (out_of x s).discarding (room x s) (length b) in
+    let k : ℕ = keeps (isShut x s) (outOf x s).discarding (room x s) (length b) in
+    let has = keeps-less (isShut x s) (outOf x s).discarding (room x s) (length b) in
+    let kr = keeps-fit (isShut x s) (outOf x s).discarding (room x s) (length b) in
     let i0 = (h.1 x).1.inside in let w0 = (h.1 x).1.within in (
       h.0 ∙ sym (rep_at x _ s refl refl),
       on_one (Claim (outputStore s x b st) c) x _ _ s.outputs a.tallies
-          (taken-by st (base x c) c (isShut x s) b (out_of x s) (tally_of x a) (or_self_left (out_of x s).closed s.flags.gave_up) (h.1 x))
-          (λ y e. moved st _ (base y c) c (out_of y s) (tally_of y a)
-          (write-other (base x c) c (out_of x s).start (out_of x s).queued b k st (h.1 x).2 (omega arith) has (omega arith)
-          (base y c) c (out_of y s).start (out_of y s).queued (h.1 y).2 (let z = (h.1 y).1.inside in omega arith) (h.1 y).1.within (bases-apart x y c e))
-          (write-length (base x c) c (out_of x s).start (out_of x s).queued b k st (h.1 x).2 (omega arith) has (omega arith)) (h.1 y)),
+          (taken-by st (base x c) c (isShut x s) b (outOf x s) (tallyOf x a) (or_self_left (outOf x s).closed s.flags.gave_up) (h.1 x))
+          (λ y e. moved st _ (base y c) c (outOf y s) (tallyOf y a)
+          (write-other (base x c) c (outOf x s).start (outOf x s).queued b k st (h.1 x).2 (omega arith) has (omega arith)
+          (base y c) c (outOf y s).start (outOf y s).queued (h.1 y).2 (let z = (h.1 y).1.inside in omega arith) (h.1 y).1.within (bases-apart x y c e))
+          (write-length (base x c) c (outOf x s).start (outOf x s).queued b k st (h.1 x).2 (omega arith) has (omega arith)) (h.1 y)),
     )
 
 -- a stream's output and tally changed by a report: one that neither closes it nor says that it hung up, and one that closes it
-told-inv : (st : List ℕ) (x : Stream) (f : Output → Output) (g : Tally → Tally) (s : Runner) (a : Account.Account) → (f (out_of x s)).closed ≡ (out_of x s).closed → (f (out_of x s)).hung_up ≡ (out_of x s).hung_up
-    → Claim st s.limits.chunk x (f (out_of x s)) (g (tally_of x a)) → Inv st s a → Inv st (at x f s) (onTally x g a)
+told-inv : (st : List ℕ) (x : Stream) (f : Output → Output) (g : Tally → Tally) (s : Runner) (a : Account.Account) → (f (outOf x s)).closed ≡ (outOf x s).closed → (f (outOf x s)).hung_up ≡ (outOf x s).hung_up
+    → Claim st s.limits.chunk x (f (outOf x s)) (g (tallyOf x a)) → Inv st s a → Inv st (at x f s) (onTally x g a)
 told-inv st x f g s a c u p h = (
-  h.0 ∙ sym (rep_at x (f (out_of x s)) s c u),
-  on_one (Claim st s.limits.chunk) x (f (out_of x s)) g s.outputs a.tallies p (λ y e. h.1 y),
+  h.0 ∙ sym (rep_at x (f (outOf x s)) s c u),
+  on_one (Claim st s.limits.chunk) x (f (outOf x s)) g s.outputs a.tallies p (λ y e. h.1 y),
 )
 
-closed-rep : (x : Stream) (o : Output) (s : Runner) → o.closed ≡ true → o.hung_up ≡ (out_of x s).hung_up → closeR x (rep s) ≡ rep (withOutputs (putOutput x o s.outputs) s)
+closed-rep : (x : Stream) (o : Output) (s : Runner) → o.closed ≡ true → o.hung_up ≡ (outOf x s).hung_up → closeR x (rep s) ≡ rep (withOutputs (putOutput x o s.outputs) s)
 closed-rep Stdout o s c h = rw (c, h) refl
 closed-rep Stderr o s c h = rw (c, h) refl
 
@@ -160,22 +160,22 @@ hung-rep : (x : Stream) (s : Runner) → hangR x (rep s) ≡ rep (at x hungUp s)
 hung-rep Stdout s = refl
 hung-rep Stderr s = refl
 
-shut-inv : (st : List ℕ) (x : Stream) (f : Output → Output) (g : Tally → Tally) (s : Runner) (a : Account.Account) → (f (out_of x s)).closed ≡ true → (f (out_of x s)).hung_up ≡ (out_of x s).hung_up
-    → Claim st s.limits.chunk x (f (out_of x s)) (g (tally_of x a)) → Inv st s a → Inv st (at x f s) (onTally x g (mk (closeR x a.rep) a.tallies))
+shut-inv : (st : List ℕ) (x : Stream) (f : Output → Output) (g : Tally → Tally) (s : Runner) (a : Account.Account) → (f (outOf x s)).closed ≡ true → (f (outOf x s)).hung_up ≡ (outOf x s).hung_up
+    → Claim st s.limits.chunk x (f (outOf x s)) (g (tallyOf x a)) → Inv st s a → Inv st (at x f s) (onTally x g (mk (closeR x a.rep) a.tallies))
 shut-inv st x f g s a c u p h = (
-  ap (closeR x) h.0 ∙ closed-rep x (f (out_of x s)) s c u,
-  on_one (Claim st s.limits.chunk) x (f (out_of x s)) g s.outputs a.tallies p (λ y e. h.1 y),
+  ap (closeR x) h.0 ∙ closed-rep x (f (outOf x s)) s c u,
+  on_one (Claim st s.limits.chunk) x (f (outOf x s)) g s.outputs a.tallies p (λ y e. h.1 y),
 )
 
 -- a cancel that is refused changes nothing
-unrefused : (k : Admission) (now : ℕ) (s : Runner) (a : Account.Account) → Account.cancelA k now a ≡ cond (is_refused (receivedAs (cancelAnswer k s now))) a (Account.cancelA k now a)
+unrefused : (k : Admission) (now : ℕ) (s : Runner) (a : Account.Account) → Account.cancelA k now a ≡ cond (isRefused (receivedAs (cancelAnswer k s now))) a (Account.cancelA k now a)
 unfolding cancelAnswer Account.cancelA
 unrefused Admission.Own now s a = go (isLate (ticked s now))
   where
     b : Account.Account
     b = Account.cancelA Admission.Own now a
 
-    go : (l : Bool) → b ≡ cond (is_refused (receivedAs (cond l (Receipt Late) (Receipt Applied)))) a b
+    go : (l : Bool) → b ≡ cond (isRefused (receivedAs (cond l (Receipt Late) (Receipt Applied)))) a b
     go true = refl
     go false = refl
 unrefused Admission.Stale now s a = refl
@@ -196,8 +196,8 @@ abbrev pub Roomy : State → Type 0
 Roomy s = byteNeed s.runner.limits ≤ length s.bytes
 
 -- a call that adds nothing, refused or not
-unheard : (s : State) (a : Account.Account) (c : Call) → InvS (next s c) a → InvS (next s c) (cond (is_refused (answer s c)) a a)
-unheard s a c h = either (InvS (next s c)) (is_refused (answer s c)) a a h h
+unheard : (s : State) (a : Account.Account) (c : Call) → InvS (next s c) a → InvS (next s c) (cond (isRefused (answer s c)) a a)
+unheard s a c h = either (InvS (next s c)) (isRefused (answer s c)) a a h h
 
 -- every call, while the runner has not finished
 pub step-inv : (c : Call) (s : State) (a : Account.Account) → s.runner.flags.finished ≡ false → RangedS s → Roomy s → InvS s a → InvS (next s c) (add a c (answer s c))
@@ -205,7 +205,7 @@ unfolding next adds add answer creditNext inputNext inputStore endNext launchedN
 step-inv (Call.credit k p u) s a f r m h = unheard s a (Call.credit k p u) h
 step-inv (Call.input k b) s a f r m h =
     let u : Runner = s.runner in let x : Admission = admits u.key k in
-    unheard s a (Call.input k b) (taken-inv (is_taken x u) b s.bytes u a m r.2.1 (kept-room b s r) h)
+    unheard s a (Call.input k b) (taken-inv (isTaken x u) b s.bytes u a m r.2.1 (kept-room b s r) h)
 step-inv (Call.endInput k) s a f r m h = unheard s a (Call.endInput k) h
 step-inv (Call.cancel now k c) s a f r m h =
     let u : Runner = s.runner in let home : Account.Account = mk (rep u) a.tallies in
@@ -218,19 +218,19 @@ step-inv (Call.launched x) s a f r m h =
 step-inv (Call.output x b) s a f r m h = output-inv s.bytes x b s.runner a h
 step-inv (Call.discarded x n) s a f r m h =
     let u : Runner = s.runner in let c : ℕ = u.limits.chunk in
-    told-inv s.bytes x (lostOut (ltb 0 n)) (marked (ltb 0 n)) u a refl refl (discarded-by s.bytes (base x c) c (ltb 0 n) (out_of x u) (tally_of x a) (h.1 x)) h
+    told-inv s.bytes x (lostOut (ltb 0 n)) (marked (ltb 0 n)) u a refl refl (discarded-by s.bytes (base x c) c (ltb 0 n) (outOf x u) (tallyOf x a) (h.1 x)) h
 step-inv (Call.outputClosed x) s a f r m h =
     let u : Runner = s.runner in let c : ℕ = u.limits.chunk in (
-      ap (closeR x) h.0 ∙ closed-rep x (closedOut (out_of x u)) u refl refl,
-      on_out (λ (y : Stream) (o : Output). Claim s.bytes c y o (tally_of y a)) x (closedOut (out_of x u)) u.outputs (closed-by s.bytes (base x c) c (out_of x u) (tally_of x a) (h.1 x)) (λ y e. h.1 y),
+      ap (closeR x) h.0 ∙ closed-rep x (closedOut (outOf x u)) u refl refl,
+      on_out (λ (y : Stream) (o : Output). Claim s.bytes c y o (tallyOf y a)) x (closedOut (outOf x u)) u.outputs (closed-by s.bytes (base x c) c (outOf x u) (tallyOf x a) (h.1 x)) (λ y e. h.1 y),
     )
 step-inv (Call.outputFailed x) s a f r m h =
     let u : Runner = s.runner in let c : ℕ = u.limits.chunk in
-    shut-inv s.bytes x failedOut (marked true) u a refl refl (failed-by s.bytes (base x c) c (out_of x u) (tally_of x a) (h.1 x)) h
+    shut-inv s.bytes x failedOut (marked true) u a refl refl (failed-by s.bytes (base x c) c (outOf x u) (tallyOf x a) (h.1 x)) h
 step-inv (Call.outputHungUp x) s a f r m h =
     let u : Runner = s.runner in let c : ℕ = u.limits.chunk in (
       ap (hangR x) h.0 ∙ hung-rep x u,
-      on_out (λ (y : Stream) (o : Output). Claim s.bytes c y o (tally_of y a)) x (hungUp (out_of x u)) u.outputs (h.1 x) (λ y e. h.1 y),
+      on_out (λ (y : Stream) (o : Output). Claim s.bytes c y o (tallyOf y a)) x (hungUp (outOf x u)) u.outputs (h.1 x) (λ y e. h.1 y),
     )
 step-inv (Call.inputWritten n) s a f r m h = h
 step-inv Call.inputClosed s a f r m h = h
@@ -273,19 +273,19 @@ unfolding receiveBytes
 taken-length false b st s n l m = refl
 taken-length true b st s n l m = input-length (isKept s.limits s.input (length b)) b st s n l m
 
-output-length : (x : Stream) (b st : List ℕ) (s : Runner) → byteNeed s.limits ≤ length st → Fits s.limits.chunk (out_of x s).start (out_of x s).queued → length (outputStore s x b st) ≡ length st
+output-length : (x : Stream) (b st : List ℕ) (s : Runner) → byteNeed s.limits ≤ length st → Fits s.limits.chunk (outOf x s).start (outOf x s).queued → length (outputStore s x b st) ≡ length st
 unfolding outputStore
 output-length x b st s n f =
-    let has = keeps-less (isShut x s) (out_of x s).discarding (room x s) (length b) in
-    let kr = keeps-fit (isShut x s) (out_of x s).discarding (room x s) (length b) in
+    let has = keeps-less (isShut x s) (outOf x s).discarding (room x s) (length b) in
+    let kr = keeps-fit (isShut x s) (outOf x s).discarding (room x s) (length b) in
     let i = f.inside in let w = f.within in let z = base-behind x s.limits.chunk in
-    write-length (base x s.limits.chunk) s.limits.chunk (out_of x s).start (out_of x s).queued b (keeps (isShut x s) (out_of x s).discarding (room x s) (length b)) st (omega arith) (omega arith) has (omega arith)
+    write-length (base x s.limits.chunk) s.limits.chunk (outOf x s).start (outOf x s).queued b (keeps (isShut x s) (outOf x s).discarding (room x s) (length b)) st (omega arith) (omega arith) has (omega arith)
 
 bytes-length : (c : Call) (s : State) → RangedS s → Roomy s → length (next s c).bytes ≡ length s.bytes
 unfolding next inputStore
 bytes-length (Call.input k b) s r m =
     let u : Runner = s.runner in let x : Admission = admits u.key k in
-    taken-length (is_taken x u) b s.bytes u m r.2.1 (kept-room b s r)
+    taken-length (isTaken x u) b s.bytes u m r.2.1 (kept-room b s r)
 bytes-length (Call.output x b) s r m = output-length x b s.bytes s.runner m (r.0 x)
 bytes-length (Call.credit k p u) s r m = refl
 bytes-length (Call.endInput k) s r m = refl

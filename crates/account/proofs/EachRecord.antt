@@ -38,7 +38,7 @@ use Rattle.calls.specs.Call as Call
 use Rattle.calls.specs.Call.{Conf, Call, Answer, Done}
 use Rattle.account.specs.Step as Step
 use Rattle.account.specs.Step.{State, replied, receivedAs, says}
-use Rattle.account.specs.Records.{Entry, readRecord, writeRecord, readAs, wroteAs, call_of, isUntaken, among, ofReads, ofEntry}
+use Rattle.account.specs.Records.{Entry, readRecord, writeRecord, readAs, wroteAs, callOf, isUntaken, among, ofReads, ofEntry}
 use Rattle.runner.specs.MessageLaws.{payload-length}
 use Rattle.account.proofs.Lives.{confOf}
 use Rattle.account.proofs.Flags.{either}
@@ -96,8 +96,8 @@ abbrev pub Among : List ℕ → Refusal → Type 0
 Among numbers x = among (number x) numbers ≡ true
 
 parsed-does : (p : Parsed) (s : State) (now channel : ℕ) (b : List ℕ) → RefusedBy (Among ofReads) p
-    → Does (readRecord now channel b) (call_of (confOf s.runner) now b p) s (leaves (parsedRead p s.runner now b s.bytes s.lengths)) (readAs (parsedRead p s.runner now b s.bytes s.lengths).reading.answer)
-unfolding Does call_of parsedRead Channel.made Step.next Step.answer
+    → Does (readRecord now channel b) (callOf (confOf s.runner) now b p) s (leaves (parsedRead p s.runner now b s.bytes s.lengths)) (readAs (parsedRead p s.runner now b s.bytes s.lengths).reading.answer)
+unfolding Does callOf parsedRead Channel.made Step.next Step.answer
 parsed-does (Parsed.Read (Record.Adjust units)) s now channel b h = (refl, heard-as (Calls.credit s.runner s.runner.key Pool.Output units).received)
 parsed-does (Parsed.Read (Record.Data n)) s now channel b h =
     (refl, heard-as (Calls.input s.runner s.runner.key (drop 9 b) s.bytes s.lengths).hearing.received)
@@ -112,7 +112,7 @@ unfolding admitted
 admitted-so r stores g = rw g refl
 
 pub read_by : (channels : Bool) (s : State) (now channel : ℕ) (b : List ℕ)
-    → Does (readRecord now channel b) (cond channels (call_of (confOf s.runner) now b (read channel b)) none) s
+    → Does (readRecord now channel b) (cond channels (callOf (confOf s.runner) now b (read channel b)) none) s
     (leaves (admittedRead (cond channels Reply.Ok (Reply.Refused NotAChannel)) s.runner now channel b s.bytes s.lengths))
     (readAs (admittedRead (cond channels Reply.Ok (Reply.Refused NotAChannel)) s.runner now channel b s.bytes s.lengths).reading.answer)
 unfolding Does admittedRead

@@ -31,7 +31,7 @@ use Rattle.exec.specs.Stream.{streamAt, following}
 use Rattle.credit.specs.Sender.{sendable}
 use Rattle.input.specs.Input.{closeInput}
 use Rattle.output.specs.Output.{isDone}
-use Rattle.runner.specs.State.{out_of, credit_at}
+use Rattle.runner.specs.State.{outOf, creditAt}
 use Rattle.runner.specs.Life as Life
 use Rattle.runner.specs.Life.{isCleanedUp, endGrace, giveUp, beginTermination, passGrace, terminate, ticked, isReady, cancelAnswer}
 use Rattle.runner.specs.Message.{sendableOf, choose, effect}
@@ -198,14 +198,14 @@ before-cancel sum now c k s e l m =
 
 no-send : (s : Runner) (n : ℕ) (x : Stream) → Dry s → sendableOf s n x ≡ 0
 unfolding sendableOf
-no-send s n x d = go s.limits.output.unit (min (min (out_of x s).queued s.limits.chunk) n) none
+no-send s n x d = go s.limits.output.unit (min (min (outOf x s).queued s.limits.chunk) n) none
   where
-    none : min (min (out_of x s).queued s.limits.chunk) n ≡ 0
-    none = let z = ltb-false 0 (out_of x s).queued (d x).none in omega arith
+    none : min (min (outOf x s).queued s.limits.chunk) n ≡ 0
+    none = let z = ltb-false 0 (outOf x s).queued (d x).none in omega arith
 
-    go : (u : Units.Unit) (w : ℕ) → w ≡ 0 → sendable u (credit_at (poolOf s.limits x) s.credits).available w ≡ 0
+    go : (u : Units.Unit) (w : ℕ) → w ≡ 0 → sendable u (creditAt (poolOf s.limits x) s.credits).available w ≡ 0
     go Bytes w e = rw e (omega arith)
-    go Frames w e = rw e (pick (ltb 0 (credit_at (poolOf s.limits x) s.credits).available))
+    go Frames w e = rw e (pick (ltb 0 (creditAt (poolOf s.limits x) s.credits).available))
       where
         pick : (b : Bool) → ◌≡◌ {A = ℕ} (cond b 0 0) 0
         pick true = refl
@@ -219,7 +219,7 @@ abbrev late-order : (det st cm e0 e1 : Bool) → Stream → Bool → Choice
 late-order det st cm e0 e1 x cr = order false det false cr st cm false (true && not e0) (true && not e1) (true && true && ((true && (e0 || det)) && (true && (e1 || det))) && true) x 0 0
 
 choose-late : (s : Runner) (n : ℕ) (d : Dry s) (k : AllKnown s) → s.flags.finished ≡ false → s.input.closed ≡ true
-    → choose s n ≡ late-order s.flags.detached s.flags.started_message s.input.closed_message (out_of Stdout s).ended (out_of Stderr s).ended (streamAt s.turn) s.flags.credited
+    → choose s n ≡ late-order s.flags.detached s.flags.started_message s.input.closed_message (outOf Stdout s).ended (outOf Stderr s).ended (streamAt s.turn) s.flags.credited
 unfolding choose isReady
 choose-late s n d k f i =
     rw (no-send s n (streamAt s.turn) d, no-send s n (following (streamAt s.turn)) d, f, i, k.launch, k.exit, k.closed Stdout, k.closed Stderr, k.settled, (d Stdout).none, (d Stderr).none) refl
@@ -239,12 +239,12 @@ near-closed : (s : Runner) → s.input.closed_message ≡ true → suc (left_ove
 unfolding effect
 near-closed s e = rw e (omega arith)
 
-near-end : (x : Stream) (s : Runner) → (out_of x s).ended ≡ false → suc (left_over (effect (Choice.End x) s)) ≤ left_over s
+near-end : (x : Stream) (s : Runner) → (outOf x s).ended ≡ false → suc (left_over (effect (Choice.End x) s)) ≤ left_over s
 unfolding effect
 near-end Stdout s e = rw e (omega arith)
 near-end Stderr s e = rw e (omega arith)
 
-progress-by : (s : Runner) (n : ℕ) (det st cm e0 e1 : Bool) → s.flags.started_message ≡ st → s.input.closed_message ≡ cm → (out_of Stdout s).ended ≡ e0 → (out_of Stderr s).ended ≡ e1
+progress-by : (s : Runner) (n : ℕ) (det st cm e0 e1 : Bool) → s.flags.started_message ≡ st → s.input.closed_message ≡ cm → (outOf Stdout s).ended ≡ e0 → (outOf Stderr s).ended ≡ e1
     → choose s n ≡ late-order det st cm e0 e1 (streamAt s.turn) s.flags.credited → Progress s n
 unfolding order ifElse
 progress-by s n true st cm true true p2 p3 p4 p5 e = terminal e
@@ -261,7 +261,7 @@ progress-of : (s : Runner) (n : ℕ) → s.flags.finished ≡ false → s.input.
 progress-of s n f i (left p) k = absurd p
 progress-of s n f i (right d) (left p) = absurd p
 progress-of s n f i (right d) (right k) =
-    progress-by s n s.flags.detached s.flags.started_message s.input.closed_message (out_of Stdout s).ended (out_of Stderr s).ended refl refl refl refl (choose-late s n d k f i)
+    progress-by s n s.flags.detached s.flags.started_message s.input.closed_message (outOf Stdout s).ended (outOf Stderr s).ended refl refl refl refl (choose-late s n d k f i)
 
 pub progress : (s : Runner) (n : ℕ) → After s → s.flags.finished ≡ false → Progress s n
 progress s n h f = progress-of s n f h.0 h.2 h.3
@@ -355,7 +355,7 @@ before-list sum [] s h = h
 before-list sum (c ∷ cs) s h = before-list sum cs (next s c) (low-next (Soon sum) (soon-lower sum) c s h).hold
 
 pub bits : (s : Runner) → left_over s ≤ 4
-bits s = let a = small s.flags.started_message in let b = small s.input.closed_message in let c = small (not (out_of Stdout s).ended) in let d = small (not (out_of Stderr s).ended) in omega arith
+bits s = let a = small s.flags.started_message in let b = small s.input.closed_message in let c = small (not (outOf Stdout s).ended) in let d = small (not (outOf Stderr s).ended) in omega arith
   where
     small : (b : Bool) → bit b ≤ 1
     small true = omega arith

@@ -28,7 +28,7 @@ use Rattle.runner.specs.Life.{isLate, ticked, cancelAnswer}
 use Rattle.runner.specs.Message.{choose, payload, saidFor, bufferAfter, wish}
 use Rattle.runner.specs.MessageLaws.{payload-length}
 use Rattle.runner.specs.Range.{stop, bytesDo}
-use Rattle.runner.specs.State.{credit_at}
+use Rattle.runner.specs.State.{creditAt}
 use Rattle.runner.specs.Streams as Streams
 use Rattle.calls.specs.Call as Call
 use Rattle.calls.specs.Call.{Call}
@@ -168,7 +168,7 @@ credit-in : (p : PoolIndex) (r : Runner) (units : ℕ) → CalmPool p → Calm (
 unfolding Streams.creditIn
 credit-in (PoolIndex.Refused x) r units h = h
 credit-in (PoolIndex.At i) r units h =
-    either r.flags.finished _ _ refl (either (grantable (credit_at i r.credits) units) _ _ refl refl)
+    either r.flags.finished _ _ refl (either (grantable (creditAt i r.credits) units) _ _ refl refl)
 
 credit-calm : (a : Admission) (p : PoolIndex) (r : Runner) (units : ℕ) → CalmAdmission a → CalmPool p → Calm (Streams.creditAnswer a p r units)
 unfolding Streams.creditAnswer

@@ -33,15 +33,15 @@ use Rattle.runner.specs.declared.message.Wish.{Wish}
 use Rattle.runner.specs.declared.runner.Runner.{Runner}
 use Rattle.runner.specs.Life.{closeRunnerInput, ticked, cancelNext, launchedNext, exitedNext, settledNext, detachNext}
 use Rattle.runner.specs.Message.{choose, effect, outputSent, outputPaid, wish, wishEffect}
-use Rattle.runner.specs.Range.{in_range, fresh}
-use Rattle.runner.specs.State.{out_of, base, creditsFit}
+use Rattle.runner.specs.Range.{inRange, fresh}
+use Rattle.runner.specs.State.{outOf, base, creditsFit}
 use Rattle.runner.specs.Streams.{pendingOf, isShut, room, outputNext, outputStore, discardedNext, closedNext, failedNext, hungUpNext, creditNext, inputAnswer, inputNext, inputStore, endNext, writtenNext}
 use Rattle.calls.specs.Call as Call
 use Rattle.calls.specs.Call.{Conf, Call, Answer}
 use Rattle.account.specs.Claim.{Opens, IsPrefix}
 use Rattle.account.specs.Step as Step
 use Rattle.account.specs.Step.{State, receivedAs}
-use Rattle.account.specs.Records.{Entry, afterEntries, runEntries, calls_of}
+use Rattle.account.specs.Records.{Entry, afterEntries, runEntries, callsOf}
 use Rattle.account.specs.InputClaim.{isApplied, front, handedBy, handed, broughtBy, brought, handedIn, broughtIn, InputFifo}
 use Rattle.account.proofs.Plain.{next, answer, begun}
 use Rattle.account.proofs.Rings.{ring-split}
@@ -84,7 +84,7 @@ record Within (l : Limits) (i : Input) (st : List ℕ) : Type 0 where
   most : i.inbox.length ≤ inboxSize l
 
 within : (s : State) → Fine s → Within s.runner.limits s.runner.input s.bytes
-unfolding in_range
+unfolding inRange
 within s h =
     let r : Runner = s.runner in
     let o : Bool = outputsFit r.limits.chunk r.outputs && creditsFit r.credits in
@@ -157,11 +157,11 @@ output-flow : (x : Stream) (b : List ℕ) (s : State) → Fine s
 unfolding outputStore
 output-flow x b s h =
     let r = s.runner in let c : ℕ = r.limits.chunk in let w = within s h in
-    let k : ℕ = keepsOf (isShut x r) (out_of x r).discarding (room x r) (length b) in
-    let has = keeps-less (isShut x r) (out_of x r).discarding (room x r) (length b) in
-    let kr = keeps-fit (isShut x r) (out_of x r).discarding (room x r) (length b) in
+    let k : ℕ = keepsOf (isShut x r) (outOf x r).discarding (room x r) (length b) in
+    let has = keeps-less (isShut x r) (outOf x r).discarding (room x r) (length b) in
+    let kr = keeps-fit (isShut x r) (outOf x r).discarding (room x r) (length b) in
     let i = (h.sound.ranged.0 x).inside in let m = (h.sound.ranged.0 x).within in let a = w.area in let g = w.begins in let d = base-behind x c in
-    let z = write-other (base x c) c (out_of x r).start (out_of x r).queued b k s.bytes (omega arith) (omega arith) has (omega arith)
+    let z = write-other (base x c) c (outOf x r).start (outOf x r).queued b k s.bytes (omega arith) (omega arith) has (omega arith)
     (inboxBase r.limits) (inboxSize r.limits) r.input.inbox.start r.input.inbox.length a (omega arith) w.most (inr d) in
     on (append-nil (queue r.limits r.input s.bytes) ∙ sym z) (λ e. (e, refl))
 
@@ -287,22 +287,22 @@ fifo-list (c ∷ cs) s h =
 front_of : (a b c : List ℕ) → IsPrefix (a ++ b) c → IsPrefix a c
 front_of a b c p = (b ++ p.0, p.1 ∙ append_assoc a b p.0)
 
-abbrev bytes_of : Answer → List ℕ
-bytes_of Call.Ok = []
-bytes_of Call.Applied = []
-bytes_of Call.Stale = []
-bytes_of Call.Late = []
-bytes_of (Call.Refused n) = []
-bytes_of (Call.Taken n) = []
-bytes_of (Call.Pending b) = b
-bytes_of (Call.Value n) = []
-bytes_of (Call.Time d) = []
-bytes_of (Call.Truth b) = []
-bytes_of (Call.Asks r) = []
-bytes_of (Call.Says m) = []
-bytes_of (Call.IsKey k) = []
-bytes_of (Call.AreLimits l) = []
-bytes_of Call.Nothing = []
+abbrev bytesOf : Answer → List ℕ
+bytesOf Call.Ok = []
+bytesOf Call.Applied = []
+bytesOf Call.Stale = []
+bytesOf Call.Late = []
+bytesOf (Call.Refused n) = []
+bytesOf (Call.Taken n) = []
+bytesOf (Call.Pending b) = b
+bytesOf (Call.Value n) = []
+bytesOf (Call.Time d) = []
+bytesOf (Call.Truth b) = []
+bytesOf (Call.Asks r) = []
+bytesOf (Call.Says m) = []
+bytesOf (Call.IsKey k) = []
+bytesOf (Call.AreLimits l) = []
+bytesOf Call.Nothing = []
 
 module _ (conf : Conf) (now : ℕ) (bytes lengths : List ℕ) (op : Opens conf now bytes lengths) where
   abbrev o : State
@@ -323,13 +323,13 @@ module _ (conf : Conf) (now : ℕ) (bytes lengths : List ℕ) (op : Opens conf n
 
   -- and so over the calls of a list with records
   seen-in : (es : List Entry) → IsPrefix (handedIn conf now bytes lengths es ++ pendingOf (afterEntries o es).runner (afterEntries o es).bytes) (broughtIn conf now bytes lengths es)
-  seen-in es = rw (to-calls conf now bytes lengths op es, same-dones conf es o (good-open conf now bytes lengths op)) (all_seen (calls_of conf (runEntries o es)))
+  seen-in es = rw (to-calls conf now bytes lengths op es, same-dones conf es o (good-open conf now bytes lengths op)) (all_seen (callsOf conf (runEntries o es)))
 
   shown-in : (es : List Entry) → Step.answer (afterEntries o es) Call.pendingInput ≡ Call.Pending (pendingOf (afterEntries o es).runner (afterEntries o es).bytes)
-  shown-in es = rw (to-calls conf now bytes lengths op es) (is-shown (calls_of conf (runEntries o es)))
+  shown-in es = rw (to-calls conf now bytes lengths op es) (is-shown (callsOf conf (runEntries o es)))
 
   pub input-fifo : InputFifo conf now bytes lengths
   input-fifo = record {
     joined = λ es. front_of (handedIn conf now bytes lengths es) _ _ (seen-in es);
-    shown = λ es b e. subst (λ (x : List ℕ). IsPrefix (handedIn conf now bytes lengths es ++ x) (broughtIn conf now bytes lengths es)) (ap bytes_of (sym (shown-in es) ∙ e)) (seen-in es);
+    shown = λ es b e. subst (λ (x : List ℕ). IsPrefix (handedIn conf now bytes lengths es ++ x) (broughtIn conf now bytes lengths es)) (ap bytesOf (sym (shown-in es) ∙ e)) (seen-in es);
   }

@@ -14,7 +14,7 @@ use Rattle.inbox.specs.Inbox.{newInbox}
 use Rattle.input.specs.declared.Input.{Input}
 use Rattle.input.specs.Input.{closeInput}
 use Rattle.runner.specs.declared.runner.Runner.{Runner}
-use Rattle.runner.specs.Life.{awaitsLaunch, isCleanedUp, closeRunnerInput, endGrace, giveUp, abandonLaunch, abandonOpenStreams, beginTermination, passGrace, terminate, passTimeout, passSettlement, giveUpUnlessClean, passGiveUp, dropLaunch, dropStreams, passAbandonment, fire, ticked, isLate as tooLate, cancelNext, noteStarted, noteLaunch, launchedNext, noteExit, is_over, noteExitOnce, timeoutCleared, exitedNext, silenced, giveUpSoon, cutOff, cutOffOnce, detachNext}
+use Rattle.runner.specs.Life.{awaitsLaunch, isCleanedUp, closeRunnerInput, endGrace, giveUp, abandonLaunch, abandonOpenStreams, beginTermination, passGrace, terminate, passTimeout, passSettlement, giveUpUnlessClean, passGiveUp, dropLaunch, dropStreams, passAbandonment, fire, ticked, isLate as tooLate, cancelNext, noteStarted, noteLaunch, launchedNext, noteExit, isOver, noteExitOnce, timeoutCleared, exitedNext, silenced, giveUpSoon, cutOff, cutOffOnce, detachNext}
 use Rattle.lifecycle.specs.declared.life.Launch.TheVariants as Launch
 use Rattle.lifecycle.specs.Life.{isFenced}
 use Rattle.lifecycle.specs.Setters.{setGiveUpAt, setLaunch}
@@ -140,7 +140,7 @@ pub exits : (r : Runner) (now : ℕ) (x : MaybeStatus) → Keeps r (exitedNext r
 unfolding exitedNext noteExitOnce
 exits r now x =
     let t = ticked (timeoutCleared r) now in
-    then-moves (ticks (timeoutCleared r) now) (either t.input (is_over t) t (noteExit t now x) (keeps t) (exit-closes t now x))
+    then-moves (ticks (timeoutCleared r) now) (either t.input (isOver t) t (noteExit t now x) (keeps t) (exit-closes t now x))
 
 pub detaches : (r : Runner) (now : ℕ) (c : Cause) → Keeps r (detachNext r now c)
 unfolding detachNext cutOffOnce cutOff

@@ -14,7 +14,7 @@ use Rattle.exec.specs.declared.Unit.TheVariants.{Bytes, Frames}
 use Rattle.exec.specs.Limits.{cost, bytesWith, inputBytes}
 use Rattle.ring.specs.Ring.{wrap, ringRead}
 use Rattle.ring.specs.RingLaws.{wrap-lt, read_length, read_none, write_read}
-use Rattle.ring.specs.Frames.{rest_of, sum, Popped, popped}
+use Rattle.ring.specs.Frames.{restOf, sum, Popped, popped}
 use Rattle.ring.specs.FrameLaws.{rest_sum, pop-rest, pop-most, pop-length, push-is-write}
 use Rattle.inbox.specs.Inbox.{framesPushed, framesPopped, lengthsPushed, freedBy, lengthsPopped, firstAfter, pushed}
 use Rattle.input.specs.declared.Input.{Input}
@@ -33,14 +33,14 @@ pub sum-most : (n : ℕ) (fs : List ℕ) → All n fs → sum fs ≤ length fs *
 sum-most n [] a = rw zero-mul (omega arith)
 sum-most n (f ∷ fs) (more l a) = let z = sum-most n fs a in rw suc-mul (omega arith)
 
-rest-small : (n m f : ℕ) (fs : List ℕ) (b1 b2 : Bool) → f ≤ n → All n fs → All n (rest_of fs (m - f))
-    → All n (cond b1 (f ∷ fs) (cond b2 ((f - m) ∷ fs) (rest_of fs (m - f))))
+rest-small : (n m f : ℕ) (fs : List ℕ) (b1 b2 : Bool) → f ≤ n → All n fs → All n (restOf fs (m - f))
+    → All n (cond b1 (f ∷ fs) (cond b2 ((f - m) ∷ fs) (restOf fs (m - f))))
 rest-small n m f fs true b2 h a r = more h a
 rest-small n m f fs false true h a r = more {f = f - m} (omega arith) a
 rest-small n m f fs false false h a r = r
 
-all_rest : (n m : ℕ) (fs : List ℕ) → All n fs → All n (rest_of fs m)
-unfolding rest_of
+all_rest : (n m : ℕ) (fs : List ℕ) → All n fs → All n (restOf fs m)
+unfolding restOf
 all_rest n m [] a = none
 all_rest n m (f ∷ fs) (more h a) = rest-small n m f fs (eqb m 0) (ltb m f) h a (all_rest n (m - f) fs a)
 
@@ -126,10 +126,10 @@ pop-by Frames l lengths i m k h =
     let most : frames ≤ size = omega arith in
     let begins : first ≤ size = omega arith in
     let q : Popped = popped frames size first m lengths in
-    let r : waiting q.lengths size (wrap size (first + q.freed)) (frames - q.freed) ≡ rest_of fs m = pop-rest frames size first m lengths z4 begins most in
+    let r : waiting q.lengths size (wrap size (first + q.freed)) (frames - q.freed) ≡ restOf fs m = pop-rest frames size first m lengths z4 begins most in
     let fm : q.freed ≤ frames = pop-most frames size first m lengths z4 begins most in
     let ll : length q.lengths ≡ length lengths = pop-length frames size first m 0 lengths in
-    let s1 : sum (rest_of fs m) ≡ sum fs - m = rest_sum fs m in (
+    let s1 : sum (restOf fs m) ≡ sum fs - m = rest_sum fs m in (
       omega arith,
       rw r (omega arith),
       rw r (all_rest l.chunk m fs h.2),

@@ -12,14 +12,14 @@ use Rattle.exec.specs.Each.{Each, one, both}
 use Rattle.exec.specs.Key.{admits}
 use Rattle.exec.specs.Time.{due}
 use Rattle.calls.specs.Call as Call
-use Rattle.calls.specs.Call.{Call, Answer, Message, is_refused, count}
+use Rattle.calls.specs.Call.{Call, Answer, Message, isRefused, count}
 use Rattle.account.specs.Account
-use Rattle.account.specs.Account.{Account, Replay, Tally, mk, marked, markedUnless, takenBy, sentBy, tally_of, heard, hear, adds, add}
+use Rattle.account.specs.Account.{Account, Replay, Tally, mk, marked, markedUnless, takenBy, sentBy, tallyOf, heard, hear, adds, add}
 use Rattle.account.proofs.Sides.{one-both, one-per, on-each, on-two}
 use Rattle.account.proofs.Flags.{either}
 
 abbrev pub All : (Stream → Bool → Tally → Type 0) → Account → Type 0
-All P a = (x : Stream) → P x (one x a.rep.closed) (tally_of x a)
+All P a = (x : Stream) → P x (one x a.rep.closed) (tallyOf x a)
 
 pub record Stands (P : Stream → Bool → Tally → Type 0) (c : Call) (r : Answer) : Type 0 where
   pub marks : (x : Stream) (b k : Bool) (t : Tally) → P x k t → P x k (marked b t)
@@ -69,14 +69,14 @@ module _ (P : Stream → Bool → Tally → Type 0) (c : Call) (r : Answer) (h :
   giveUp-keeps false clean a p = p
   giveUp-keeps true true a p = p
   giveUp-keeps true false a p = λ x.
-      rw (one-both markedUnless a.rep.closed a.tallies x, one-per (λ (y : Stream). true) x) (given x (one x a.rep.closed) (tally_of x a) (p x))
+      rw (one-both markedUnless a.rep.closed a.tallies x, one-per (λ (y : Stream). true) x) (given x (one x a.rep.closed) (tallyOf x a) (p x))
 
   streams-keeps : (b : Bool) (a : Account) → All P a → All P (Account.abandonStreamsA b a)
   unfolding Account.abandonStreamsA
   streams-keeps false a p = p
   streams-keeps true a p = λ x.
       rw (one-both markedUnless (both ◌||◌ a.rep.closed a.rep.hung) a.tallies x, one-both ◌||◌ a.rep.closed a.rep.hung x, one-both (λ (k u : Bool). k || not u) a.rep.closed a.rep.hung x)
-      (left x (one x a.rep.closed) (one x a.rep.hung) (tally_of x a) (p x))
+      (left x (one x a.rep.closed) (one x a.rep.hung) (tallyOf x a) (p x))
 
   abandon-keeps : (b : Bool) (a : Account) → All P a → All P (Account.abandonA b a)
   unfolding Account.abandonA
@@ -84,7 +84,7 @@ module _ (P : Stream → Bool → Tally → Type 0) (c : Call) (r : Answer) (h :
   abandon-keeps true a p = streams-keeps (Account.isFencedR (Account.leaveR a.rep).settling) (mk (Account.leaveR a.rep) a.tallies) p
 
   same-closed : (rep : Replay) (a : Account) → rep.closed ≡ a.rep.closed → All P a → All P (mk rep a.tallies)
-  same-closed rep a e p = subst⁻¹ (λ (k : Each Bool). (x : Stream) → P x (one x k) (tally_of x a)) e p
+  same-closed rep a e p = subst⁻¹ (λ (k : Each Bool). (x : Stream) → P x (one x k) (tallyOf x a)) e p
 
   tick-keeps : (now : ℕ) (a : Account) → All P a → All P (Account.tickA now a)
   unfolding Account.tickA
@@ -148,7 +148,7 @@ module _ (P : Stream → Bool → Tally → Type 0) (c : Call) (r : Answer) (h :
   adds-keeps (Call.discarded x n) a e p =
       on-each (λ (y : Stream) (t : Tally). P y (one y a.rep.closed) t) x (marked (ltb 0 n)) a.tallies (h.marks x (ltb 0 n) _ _ (p x)) (λ y d. p y)
   adds-keeps (Call.outputClosed x) a e p =
-      on-each (λ (y : Stream) (k : Bool). P y k (tally_of y a)) x (λ (k : Bool). true) a.rep.closed (h.closes x _ _ e (p x)) (λ y d. p y)
+      on-each (λ (y : Stream) (k : Bool). P y k (tallyOf y a)) x (λ (k : Bool). true) a.rep.closed (h.closes x _ _ e (p x)) (λ y d. p y)
   adds-keeps (Call.outputFailed x) a e p = on-two P x (λ (k : Bool). true) (marked true) a.rep.closed a.tallies (h.fails x _ _ e (p x)) (λ y d. p y)
   adds-keeps (Call.exited now y) a e p = exit-keeps now a p
   adds-keeps (Call.dropped now) a e p = detach-keeps now a p
@@ -179,4 +179,4 @@ module _ (P : Stream → Bool → Tally → Type 0) (c : Call) (r : Answer) (h :
 
   pub add-keeps : (a : Account) → All P a → All P (add a c r)
   unfolding add
-  add-keeps a p = either (All P) (is_refused r) a (adds a c r) p (adds-keeps c a refl p)
+  add-keeps a p = either (All P) (isRefused r) a (adds a c r) p (adds-keeps c a refl p)

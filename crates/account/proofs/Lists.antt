@@ -14,12 +14,12 @@ use Rattle.output.specs.Output.{newOutput}
 use Rattle.runner.specs.declared.runner.Runner.{Runner}
 use Rattle.runner.specs.Life.{ticked, outcomeOf}
 use Rattle.runner.specs.Range as Range
-use Rattle.runner.specs.State.{out_of, base}
+use Rattle.runner.specs.State.{outOf, base}
 use Rattle.calls.specs.Call as Call
 use Rattle.calls.specs.Call.{Conf, Call, Answer, count}
 use Rattle.account.specs.Step.{State}
 use Rattle.account.specs.Account
-use Rattle.account.specs.Account.{Replay, Tally, add, account, start, tally_of, cut}
+use Rattle.account.specs.Account.{Replay, Tally, add, account, start, tallyOf, cut}
 use Rattle.account.specs.Claim.{IsPrefix, isMessage, isTerminal, Silent}
 use Rattle.account.proofs.Plain.{next, answer, afterAll, run, begun}
 use Rattle.account.proofs.Streams.{Good, cut-is}
@@ -34,7 +34,7 @@ use Rattle.account.proofs.EachCall.{InvS, Roomy, step-inv, roomy-next}
 -- ---- after Terminal: sent stays, taken grows at most
 
 abbrev pub Prefixes : Account.Account → Type 0
-Prefixes a = (x : Stream) → IsPrefix (tally_of x a).sent (tally_of x a).taken
+Prefixes a = (x : Stream) → IsPrefix (tallyOf x a).sent (tallyOf x a).taken
 
 longer : (s t b : List ℕ) → IsPrefix s t → IsPrefix s (t ++ b)
 longer s t b h = (h.0 ++ b, rw h.1 (append_assoc s h.0 b))
@@ -66,7 +66,7 @@ whole-prefix : (q sent taken : List ℕ) (rest : List ℕ) → taken ≡ (sent +
 whole-prefix q sent taken rest e = (q ++ rest, e ∙ append_assoc sent q rest)
 
 inv-prefixes : (s : State) (a : Account.Account) → InvS s a → Prefixes a
-inv-prefixes s a h = λ x. whole-prefix _ (tally_of x a).sent (tally_of x a).taken (h.1 x).0.rest (h.1 x).0.whole
+inv-prefixes s a h = λ x. whole-prefix _ (tallyOf x a).sent (tallyOf x a).taken (h.1 x).0.rest (h.1 x).0.whole
 
 pub course-prefixes : (s : State) (a : Account.Account) → Course s a → Prefixes a
 course-prefixes s a (running f r h) = inv-prefixes s a h
@@ -92,14 +92,14 @@ fresh st b n l area = (
 )
 
 -- the account of the runner without its guard
-abbrev pub plain_of : Conf → ℕ → List ℕ → List ℕ → List Call → Account.Account
-plain_of c now bytes lengths cs = account (start c now) (run (begun c now bytes lengths) cs)
+abbrev pub plainOf : Conf → ℕ → List ℕ → List ℕ → List Call → Account.Account
+plainOf c now bytes lengths cs = account (start c now) (run (begun c now bytes lengths) cs)
 
 pub sound-open : (c : Conf) (now : ℕ) (bytes lengths : List ℕ) → Lent c.limits bytes lengths → Sound (begun c now bytes lengths)
 unfolding Range.fresh
 sound-open c now bytes lengths o = record { ranged = opened-range c now bytes lengths o; roomy = o.room }
 
-pub open-course : (c : Conf) (now : ℕ) (bytes lengths : List ℕ) → Lent c.limits bytes lengths → (cs : List Call) → Course (afterAll (begun c now bytes lengths) cs) (plain_of c now bytes lengths cs)
+pub open-course : (c : Conf) (now : ℕ) (bytes lengths : List ℕ) → Lent c.limits bytes lengths → (cs : List Call) → Course (afterAll (begun c now bytes lengths) cs) (plainOf c now bytes lengths cs)
 unfolding Range.fresh start
 open-course c now bytes lengths o cs = list-course cs (begun c now bytes lengths) (start c now)
     (running refl (sound-open c now bytes lengths o) (refl, at_open))
@@ -107,20 +107,20 @@ open-course c now bytes lengths o cs = list-course cs (begun c now bytes lengths
     n : ℕ
     n = c.limits.chunk
 
-    at_open : (x : Stream) → Good bytes (base x n) n (out_of x (Range.fresh c.key c.limits c.timers now)) (tally_of x (start c now))
+    at_open : (x : Stream) → Good bytes (base x n) n (outOf x (Range.fresh c.key c.limits c.timers now)) (tallyOf x (start c now))
     at_open x = rw (out-alike newOutput x, one-per (λ (y : Stream). Account.none) x) (fresh bytes (base x n) n o.chunk (let z = o.room in let b = base-behind x n in omega arith))
 
 -- ---- parts one to three
 
 module _ (conf : Conf) (now : ℕ) (bytes lengths : List ℕ) (op : Lent conf.limits bytes lengths) where
-  pub joined : (cs : List Call) (x : Stream) → IsPrefix (tally_of x (plain_of conf now bytes lengths cs)).sent (tally_of x (plain_of conf now bytes lengths cs)).taken
-  joined cs x = course-prefixes (afterAll (begun conf now bytes lengths) cs) (plain_of conf now bytes lengths cs) (open-course conf now bytes lengths op cs) x
+  pub joined : (cs : List Call) (x : Stream) → IsPrefix (tallyOf x (plainOf conf now bytes lengths cs)).sent (tallyOf x (plainOf conf now bytes lengths cs)).taken
+  joined cs x = course-prefixes (afterAll (begun conf now bytes lengths) cs) (plainOf conf now bytes lengths cs) (open-course conf now bytes lengths op cs) x
 
 pub once : (s : State) (c : Call) (ds : List Call) → isTerminal (answer s c) ≡ true → Silent (run (next s c) ds)
 once s c ds e = silent ds _ (ends-fin _ c (ends c _ e))
 
 -- what the outcome says of a stream is its mark
-told-cut : (s : Runner) (x : Stream) → isTruncated (outcomeOf s) x ≡ (out_of x s).truncated
+told-cut : (s : Runner) (x : Stream) → isTruncated (outcomeOf s) x ≡ (outOf x s).truncated
 unfolding outcomeOf
 told-cut s Stdout = refl
 told-cut s Stderr = refl
@@ -130,7 +130,7 @@ told e = cc
 
 -- what Terminal reports, while the runner has not finished
 pub marks-at : (s : State) (a : Account.Account) (c : Call) (o : Outcome) → Course s a → answer s c ≡ Call.Says (Call.Terminal o)
-    → (x : Stream) → isTruncated o x ≡ cut (tally_of x a)
+    → (x : Stream) → isTruncated o x ≡ cut (tallyOf x a)
 unfolding outcomeOf
 marks-at s a c o (over f h) e x = absurd (true≢false (sym (ap isMessage e) ∙ no_more c s f))
 marks-at s a c o (running f r h) e x =
@@ -139,7 +139,7 @@ marks-at s a c o (running f r h) e x =
     let w : answer s c ≡ Call.Says (Call.Terminal (outcomeOf s.runner)) = ends-answer s c d in
     let same : o ≡ outcomeOf s.runner = told (sym e ∙ w) in
     let n : ℕ = s.runner.limits.chunk in
-    ap (λ (o : Outcome). isTruncated o x) same ∙ told-cut s.runner x ∙ cut-is s.bytes (base x n) n (out_of x s.runner) (tally_of x a) (h.1 x) (q x)
+    ap (λ (o : Outcome). isTruncated o x) same ∙ told-cut s.runner x ∙ cut-is s.bytes (base x n) n (outOf x s.runner) (tallyOf x a) (h.1 x) (q x)
 
 -- the first of the three events, by the account
 pub course-begun : (t : ℕ) (s : State) (a : Account.Account) → s.runner.flags.finished ≡ false → Course s a → (Account.tickA t a).rep.begun ≡ (ticked s.runner t).clocks.terminated

@@ -19,10 +19,10 @@ use Rattle.lifecycle.specs.Setters.{setTimeoutAt}
 use Rattle.output.specs.Output.{graceEnded, givenUp, abandoned}
 use Rattle.runner.specs.Life as Life
 use Rattle.runner.specs.Life.{awaitsLaunch, isCleanedUp, closeRunnerInput, endGrace, giveUp, abandonLaunch, abandonOpenStreams, beginTermination, passGrace, terminate, dropLaunch, ticked, noteExit, noteExitOnce, exitedNext, silenced, giveUpSoon, cutOff, cutOffOnce, detachNext}
-use Rattle.runner.specs.State.{withClocks, out_of, base}
+use Rattle.runner.specs.State.{withClocks, outOf, base}
 use Rattle.calls.specs.Call.{Conf}
 use Rattle.account.specs.Account
-use Rattle.account.specs.Account.{Account, Replay, Tally, tally_of, markedUnless, mk, beginIf, begin, timeoutR, noTimeoutR, overdueR, settlingR, isSettledR, isFencedR, cleanedR, giveUpA, leaveR, abandonStreamsA, abandonA, tick1, tick3, tick4, tick5, tickA, cancelA, detachedR, detachR, detachA, exitR, exitA, reportedR}
+use Rattle.account.specs.Account.{Account, Replay, Tally, tallyOf, markedUnless, mk, beginIf, begin, timeoutR, noTimeoutR, overdueR, settlingR, isSettledR, isFencedR, cleanedR, giveUpA, leaveR, abandonStreamsA, abandonA, tick1, tick3, tick4, tick5, tickA, cancelA, detachedR, detachR, detachA, exitR, exitA, reportedR}
 use Rattle.account.proofs.Streams.{Good, end-grace, given-up, abandoned-by}
 use Rattle.account.proofs.Sides.{out-each, one-both, one-per}
 use Rattle.account.proofs.Stages.{graceIf, terminateIf, timeoutIf, giveUpIf, dropLaunchIf, abandonStreamsIf, abandonIf, stage1, stage2, stage3, stage4, stage5, tickIf, tick_is, cancelIf, late, detachIf, exitedIf, cancelNext}
@@ -84,16 +84,16 @@ rep s = record {
   exit = exitKnown s.life.exit;
   settling = asReplay s.life.settling;
   detached = s.flags.detached;
-  closed = per (λ (x : Stream). (out_of x s).closed);
-  hung = per (λ (x : Stream). (out_of x s).hung_up);
+  closed = per (λ (x : Stream). (outOf x s).closed);
+  hung = per (λ (x : Stream). (outOf x s).hung_up);
 }
 
 -- what is kept of a stream, whose ring stands in the store
 abbrev pub GoodAt : List ℕ → Runner → Stream → Tally → Type 0
-GoodAt st s x t = Good st (base x s.limits.chunk) s.limits.chunk (out_of x s) t
+GoodAt st s x t = Good st (base x s.limits.chunk) s.limits.chunk (outOf x s) t
 
 abbrev pub Inv : List ℕ → Runner → Account → Type 0
-Inv st s a = (a.rep ≡ rep s) × ((x : Stream) → GoodAt st s x (tally_of x a))
+Inv st s a = (a.rep ≡ rep s) × ((x : Stream) → GoodAt st s x (tallyOf x a))
 
 left-if : (b : Bool) (s : Runner) → awaitsLaunch s ≡ b → leaveR (rep s) ≡ rep (dropLaunchIf b s)
 unfolding abandonLaunch
@@ -212,7 +212,7 @@ module _ (st : List ℕ) where
   pub grace-inv : (b : Bool) (s : Runner) (a : Account) → Inv st s a → Inv st (graceIf b s) a
   unfolding endGrace
   grace-inv false s a h = h
-  grace-inv true s a h = (h.0, λ x. rw (out-each graceEnded s.outputs x) (end-grace st (base x s.limits.chunk) s.limits.chunk (out_of x s) (tally_of x a) (h.1 x)))
+  grace-inv true s a h = (h.0, λ x. rw (out-each graceEnded s.outputs x) (end-grace st (base x s.limits.chunk) s.limits.chunk (outOf x s) (tallyOf x a) (h.1 x)))
 
   terminateIf-inv : (b : Bool) (now : ℕ) (c : Cause) (s : Runner) (a : Account) → Inv st s a → Inv st (terminateIf b now c s) (mk (beginIf b now a.rep) a.tallies)
   unfolding beginTermination passGrace beginIf
@@ -243,7 +243,7 @@ module _ (st : List ℕ) where
   giveUpIf-inv true true s a h = (refl, h.1)
   giveUpIf-inv true false s a h = (
     rw (given-exit s.life.exit) refl,
-    λ x. rw (out-each givenUp s.outputs x, one-both markedUnless (rep s).closed a.tallies x, one-per (λ (y : Stream). (out_of y s).closed) x) (given-up st (base x s.limits.chunk) s.limits.chunk (out_of x s) (tally_of x a) (h.1 x)),
+    λ x. rw (out-each givenUp s.outputs x, one-both markedUnless (rep s).closed a.tallies x, one-per (λ (y : Stream). (outOf y s).closed) x) (given-up st (base x s.limits.chunk) s.limits.chunk (outOf x s) (tallyOf x a) (h.1 x)),
   )
 
   cleaned-same : (s : Runner) → cleanedR (rep s) ≡ isCleanedUp s
@@ -268,7 +268,7 @@ module _ (st : List ℕ) where
   streams-inv false s a h = at_home s a h
   streams-inv true s a h = (
     refl,
-    λ x. rw (out-each abandoned s.outputs x, one-both markedUnless (both ◌||◌ (rep s).closed (rep s).hung) a.tallies x, one-both ◌||◌ (rep s).closed (rep s).hung x, one-per (λ (y : Stream). (out_of y s).closed) x, one-per (λ (y : Stream). (out_of y s).hung_up) x) (abandoned-by st (base x s.limits.chunk) s.limits.chunk (out_of x s) (tally_of x a) (h.1 x)),
+    λ x. rw (out-each abandoned s.outputs x, one-both markedUnless (both ◌||◌ (rep s).closed (rep s).hung) a.tallies x, one-both ◌||◌ (rep s).closed (rep s).hung x, one-per (λ (y : Stream). (outOf y s).closed) x, one-per (λ (y : Stream). (outOf y s).hung_up) x) (abandoned-by st (base x s.limits.chunk) s.limits.chunk (outOf x s) (tallyOf x a) (h.1 x)),
   )
 
   abandonIf-inv : (b : Bool) (s : Runner) (a : Account) → Inv st s a → Inv st (abandonIf b s) (abandonA b (home s a))
@@ -319,7 +319,7 @@ module _ (st : List ℕ) where
   detachIf-inv false false now c s a ff h =
       let t : Runner = terminate s now c in
       let g : Inv st t (mk (begin now a.rep) a.tallies) = terminate-inv now c s a h in
-      (ap (detachedR now) g.0, λ x. rw (out-each graceEnded t.outputs x) (end-grace st (base x t.limits.chunk) t.limits.chunk (out_of x t) (tally_of x a) (g.1 x)))
+      (ap (detachedR now) g.0, λ x. rw (out-each graceEnded t.outputs x) (end-grace st (base x t.limits.chunk) t.limits.chunk (outOf x t) (tallyOf x a) (g.1 x)))
 
   pub detach-inv : (now : ℕ) (c : Cause) (s : Runner) (a : Account) → s.flags.finished ≡ false → Inv st s a → Inv st (detachNext s now c) (detachA now a)
   unfolding detachNext cutOffOnce cutOff detachA

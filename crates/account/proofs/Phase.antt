@@ -20,7 +20,7 @@ use Rattle.output.specs.Output.{graceEnded, givenUp, closedOut, failedOut, hungU
 use Rattle.runner.specs.Life.{awaitsLaunch, isCleanedUp, endGrace, giveUp, dropLaunch}
 use Rattle.exec.specs.Stream.{every-stream, sumOfStreams}
 use Rattle.output.specs.Outputs.{allClosed}
-use Rattle.runner.specs.State.{out_of}
+use Rattle.runner.specs.State.{outOf}
 use Rattle.account.proofs.Streams.{blocked-by}
 use Rattle.account.proofs.Sides.{out-each}
 use Rattle.account.proofs.Stages.{dropLaunchIf, over}
@@ -49,7 +49,7 @@ abbrev pub Empty : Stream → Output → Type 0
 Empty x o = Drained o.queued o.closed o.discarding
 
 abbrev pub Dry : Runner → Type 0
-Dry s = (x : Stream) → Empty x (out_of x s)
+Dry s = (x : Stream) → Empty x (outOf x s)
 
 -- nothing is waited for any more
 pub record Known (aw ex : Bool) (c : Stream → Bool) (ov : Bool) : Type 0 where
@@ -59,7 +59,7 @@ pub record Known (aw ex : Bool) (c : Stream → Bool) (ov : Bool) : Type 0 where
   pub settled : ov ≡ true
 
 abbrev pub AllKnown : Runner → Type 0
-AllKnown s = Known (awaitsLaunch s) (exitKnown s.life.exit) (λ (x : Stream). (out_of x s).closed) (over s.life.settling)
+AllKnown s = Known (awaitsLaunch s) (exitKnown s.life.exit) (λ (x : Stream). (outOf x s).closed) (over s.life.settling)
 
 -- The phase: the input is closed, the termination begun, and each of the two deadlines stands as P says or has done its work.
 -- With P d = "d is a time at or before the sum" this is the phase before give-up, with P d = ⊥ the phase after it.
@@ -72,7 +72,7 @@ bit false = 0
 
 -- the Ends that are not told
 abbrev pub untold : Runner → ℕ
-untold s = sumOfStreams (λ (x : Stream). bit (not (out_of x s).ended))
+untold s = sumOfStreams (λ (x : Stream). bit (not (outOf x s).ended))
 
 -- the messages that may still come before Terminal
 abbrev pub left_over : Runner → ℕ
@@ -111,7 +111,7 @@ cleaned-known s e =
     record {
       launch = no-wait l (not s.flags.gave_up) (not s.flags.launch_abandoned) p.0;
       exit = p.1;
-      closed = every-stream (λ (x : Stream). (out_of x s).closed) p.2;
+      closed = every-stream (λ (x : Stream). (outOf x s).closed) p.2;
       settled = settled-over s.life.settling p.3;
     }
 
@@ -125,7 +125,7 @@ known-grace s d = record { launch = d.launch; exit = d.exit; closed = λ x. ap (
 
 pub dry-grace : (s : Runner) → Dry (endGrace s)
 unfolding endGrace
-dry-grace s x = rw (out-each graceEnded s.outputs x) (record { none = refl; stop = blocked-by (out_of x s).closed (out_of x s).discarding })
+dry-grace s x = rw (out-each graceEnded s.outputs x) (record { none = refl; stop = blocked-by (outOf x s).closed (outOf x s).discarding })
 
 pub dry-given : (s : Runner) → Dry (giveUp s)
 unfolding giveUp

@@ -40,13 +40,13 @@ use Rattle.runner.specs.declared.answer.Request.TheVariants as Request
 use Rattle.choice.specs.declared.Choice.{Choice}
 use Rattle.runner.specs.declared.message.Wish.{Wish}
 use Rattle.runner.specs.declared.runner.Runner.{Runner}
-use Rattle.runner.specs.Life.{awaitsLaunch, isCleanedUp, isLate, is_over, closeRunnerInput, endGrace, giveUp, abandonLaunch, abandonOpenStreams, beginTermination, passGrace, terminate, passTimeout, passSettlement, giveUpUnlessClean, passGiveUp, dropLaunch, dropStreams, passAbandonment, fire, ticked, timeoutCleared, cancelNext, noteStarted, noteLaunch, launchedNext, noteExit, noteExitOnce, exitedNext, settledNext, silenced, giveUpSoon, cutOff, cutOffOnce, detachNext}
+use Rattle.runner.specs.Life.{awaitsLaunch, isCleanedUp, isLate, isOver, closeRunnerInput, endGrace, giveUp, abandonLaunch, abandonOpenStreams, beginTermination, passGrace, terminate, passTimeout, passSettlement, giveUpUnlessClean, passGiveUp, dropLaunch, dropStreams, passAbandonment, fire, ticked, timeoutCleared, cancelNext, noteStarted, noteLaunch, launchedNext, noteExit, noteExitOnce, exitedNext, settledNext, silenced, giveUpSoon, cutOff, cutOffOnce, detachNext}
 use Rattle.runner.specs.Message.{choose, outputPaid, outputSent, effect, wish, wishEffect}
-use Rattle.runner.specs.Range.{in_range, bytesDo, lengthsDo, openStop, fresh}
+use Rattle.runner.specs.Range.{inRange, bytesDo, lengthsDo, openStop, fresh}
 use Rattle.runner.specs.RangeLaws.{is-opened}
-use Rattle.runner.specs.State.{out_of, at, credit_at, putCredit}
+use Rattle.runner.specs.State.{outOf, at, creditAt, putCredit}
 use Rattle.runner.specs.Streams as Streams
-use Rattle.runner.specs.Streams.{isShut, creditsIn, creditsAfter, creditNext, is_taken, inputNext, inputLengths, endNext, writtenNext, outputNext, discardedNext, closedNext, failedNext, hungUpNext}
+use Rattle.runner.specs.Streams.{isShut, creditsIn, creditsAfter, creditNext, isTaken, inputNext, inputLengths, endNext, writtenNext, outputNext, discardedNext, closedNext, failedNext, hungUpNext}
 use Rattle.calls.specs.Call.{Conf, Call}
 use Rattle.account.specs.Step.{State}
 use Rattle.account.proofs.Plain.{next, begun, afterAll}
@@ -62,7 +62,7 @@ abbrev pub Within : Credit → Type 0
 Within c = c.available ≤ c.window
 
 abbrev pub AllWithin : List Credit → Type 0
-AllWithin cs = (x : Stream) → Within (credit_at (index x) cs)
+AllWithin cs = (x : Stream) → Within (creditAt (index x) cs)
 
 grant-range : (c : Credit) (u : ℕ) → Within c → Within (grant c u).credit
 grant-range c u h = go (grantable c u) refl
@@ -75,18 +75,18 @@ spent-range : (c : Credit) (n : ℕ) → Within c → Within (spent c n)
 spent-range c n h = omega arith
 
 -- the account at a position, and changed by what keeps it within its window
-at-range : (i : ℕ) (cs : List Credit) → AllWithin cs → Within (credit_at i cs)
+at-range : (i : ℕ) (cs : List Credit) → AllWithin cs → Within (creditAt i cs)
 at-range i cs h = one_of Within (eqb i 0) _ _ (h Stdout) (h Stderr)
 
 put-range : (i : ℕ) (f : Credit → Credit) (cs : List Credit) → ((c : Credit) → Within c → Within (f c)) → AllWithin cs
-    → AllWithin (putCredit i (f (credit_at i cs)) cs)
-put-range i f cs k h Stdout = one_of Within (eqb i 0) _ _ (k (credit_at i cs) (at-range i cs h)) (h Stdout)
-put-range i f cs k h Stderr = one_of Within (eqb i 0) _ _ (h Stderr) (k (credit_at i cs) (at-range i cs h))
+    → AllWithin (putCredit i (f (creditAt i cs)) cs)
+put-range i f cs k h Stdout = one_of Within (eqb i 0) _ _ (k (creditAt i cs) (at-range i cs h)) (h Stdout)
+put-range i f cs k h Stderr = one_of Within (eqb i 0) _ _ (h Stderr) (k (creditAt i cs) (at-range i cs h))
 
 credits-in : (p : PoolIndex) (f : Bool) (u : ℕ) (cs : List Credit) → AllWithin cs → AllWithin (creditsIn p f u cs)
 credits-in (PoolIndex.Refused x) f u cs h = h
 credits-in (PoolIndex.At i) f u cs h =
-    one_of AllWithin (not f && grantable (credit_at i cs) u) (putCredit i (grant (credit_at i cs) u).credit cs) cs
+    one_of AllWithin (not f && grantable (creditAt i cs) u) (putCredit i (grant (creditAt i cs) u).credit cs) cs
     (put-range i (λ (c : Credit). (grant c u).credit) cs (λ c w. grant-range c u w) h) h
 
 credits-range : (a : Admission) (p : PoolIndex) (f : Bool) (u : ℕ) (cs : List Credit) → AllWithin cs → AllWithin (creditsAfter a p f u cs)
@@ -101,7 +101,7 @@ abbrev Queue : ℕ → Stream → Output → Type 0
 Queue n x o = Fits n o.start o.queued
 
 abbrev pub Ranged : List ℕ → Runner → Type 0
-Ranged lengths s = ((x : Stream) → Queue s.limits.chunk x (out_of x s)) × AllWithin s.credits × InRange s.limits lengths s.input × (s.turn ≤ 1)
+Ranged lengths s = ((x : Stream) → Queue s.limits.chunk x (outOf x s)) × AllWithin s.credits × InRange s.limits lengths s.input × (s.turn ≤ 1)
 
 emptied : (n s k : ℕ) → Fits n s k → Fits n 0 0
 emptied n s k h = record { inside = (let z = h.inside in omega arith); within = omega arith }
@@ -208,7 +208,7 @@ module _ (ls : List ℕ) where
   unfolding exitedNext noteExitOnce
   exited-range now x s h =
       let t : Runner = ticked (timeoutCleared s) now in
-      let k : Ranged ls t = tick-range now (timeoutCleared s) h in either (is_over t) t (noteExit t now x) k (noted-range now x t k)
+      let k : Ranged ls t = tick-range now (timeoutCleared s) h in either (isOver t) t (noteExit t now x) k (noted-range now x t k)
 
   launched-range : (x : LaunchResult) (s : Runner) → Ranged ls s → Ranged ls (launchedNext s x)
   unfolding launchedNext noteLaunch noteStarted
@@ -224,10 +224,10 @@ module _ (ls : List ℕ) where
       put-range (poolOf s.limits x) (λ (c : Credit). spent c (cost s.limits.output.unit n)) s.credits
       (λ c w. spent-range c (cost s.limits.output.unit n) w) h.1
 
-  output-range : (x : Stream) (n : ℕ) (s : Runner) → n ≤ (out_of x s).queued → Ranged ls s → Ranged ls (outputSent x n s)
+  output-range : (x : Stream) (n : ℕ) (s : Runner) → n ≤ (outOf x s).queued → Ranged ls s → Ranged ls (outputSent x n s)
   unfolding outputSent outputPaid
   output-range x n s l h = (
-    on_out (Queue s.limits.chunk) x (sentOut s.limits.chunk n (out_of x s)) s.outputs (sent-range _ n _ _ l (h.0 x)) (λ y e. h.0 y),
+    on_out (Queue s.limits.chunk) x (sentOut s.limits.chunk n (outOf x s)) s.outputs (sent-range _ n _ _ l (h.0 x)) (λ y e. h.0 y),
     paid-range x n s h,
     h.2,
     turn-range x,
@@ -238,8 +238,8 @@ module _ (ls : List ℕ) where
       turn-range Stderr = omega arith
 
   -- an output whose queue stays as it was
-  queue-kept : (x : Stream) (f : Output → Output) (s : Runner) → (f (out_of x s)).start ≡ (out_of x s).start → (f (out_of x s)).queued ≡ (out_of x s).queued → Ranged ls s → Ranged ls (at x f s)
-  queue-kept x f s e g h = (on_out (Queue s.limits.chunk) x (f (out_of x s)) s.outputs (rw (e, g) (h.0 x)) (λ y d. h.0 y), h.1, h.2, h.3)
+  queue-kept : (x : Stream) (f : Output → Output) (s : Runner) → (f (outOf x s)).start ≡ (outOf x s).start → (f (outOf x s)).queued ≡ (outOf x s).queued → Ranged ls s → Ranged ls (at x f s)
+  queue-kept x f s e g h = (on_out (Queue s.limits.chunk) x (f (outOf x s)) s.outputs (rw (e, g) (h.0 x)) (λ y d. h.0 y), h.1, h.2, h.3)
 
   effect-range : (m : Choice) (s : Runner) → Sent s m → Ranged ls s → Ranged ls (effect m s)
   unfolding effect
@@ -270,13 +270,13 @@ range-next (Call.credit k p u) s h =
     (h.0, c, h.2, h.3)
 range-next (Call.input k b) s h =
     let r : Runner = s.runner in
-    (h.0, h.1, input-if (is_taken (admits r.key k) r) r.limits s.lengths (length b) r.input h.2, h.3)
-range-next (Call.endInput k) s h = (h.0, h.1, end-if (is_taken (admits s.runner.key k) s.runner) s.runner.limits s.lengths s.runner.input h.2, h.3)
+    (h.0, h.1, input-if (isTaken (admits r.key k) r) r.limits s.lengths (length b) r.input h.2, h.3)
+range-next (Call.endInput k) s h = (h.0, h.1, end-if (isTaken (admits s.runner.key k) s.runner) s.runner.limits s.lengths s.runner.input h.2, h.3)
 range-next (Call.cancel now k c) s h = cancel-range s.lengths (admits s.runner.key k) now c s.runner h
 range-next (Call.launched x) s h = launched-range s.lengths x s.runner h
 range-next (Call.output x b) s h =
     let r : Runner = s.runner in (
-      on_out (Queue r.limits.chunk) x _ r.outputs (kept-range r.limits.chunk (out_of x r).start (out_of x r).queued (isShut x r) (out_of x r).discarding (length b) (h.0 x)) (λ y e. h.0 y),
+      on_out (Queue r.limits.chunk) x _ r.outputs (kept-range r.limits.chunk (outOf x r).start (outOf x r).queued (isShut x r) (outOf x r).discarding (length b) (h.0 x)) (λ y e. h.0 y),
       h.1,
       h.2,
       h.3,
@@ -378,12 +378,12 @@ units-ok Frames l lengths i h =
     and_both _ _ (le-leb (i.window.open + i.window.returnable + i.inbox.frames) l.input.size h.0)
     (and_both _ _ (ring-ok i.inbox.first l.input.size h.3) (le-leb i.inbox.length (i.inbox.frames * l.chunk) (omega arith)))
 
-pub in-range : (lengths : List ℕ) (s : Runner) → Ranged lengths s → in_range s ≡ true
-unfolding in_range
+pub in-range : (lengths : List ℕ) (s : Runner) → Ranged lengths s → inRange s ≡ true
+unfolding inRange
 in-range lengths s h =
     and_both _ _
     (and_both _ _
-    (and_both _ _ (of-every _ (λ x. out-ok s.limits.chunk (out_of x s) (h.0 x))) (of-every _ (λ x. le-leb _ _ (h.1 x))))
+    (and_both _ _ (of-every _ (λ x. out-ok s.limits.chunk (outOf x s) (h.0 x))) (of-every _ (λ x. le-leb _ _ (h.1 x))))
     (and_both _ _ (and_both _ _ (ring-ok s.input.inbox.start (inputBytes s.limits) h.2.1) (le-leb s.input.inbox.length (inputBytes s.limits) (holds_by s.limits.input.unit s.limits lengths s.input h.2.0)))
     (units-ok s.limits.input.unit s.limits lengths s.input h.2.0)))
     (le-leb s.turn 1 h.3)

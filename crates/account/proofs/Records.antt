@@ -27,9 +27,9 @@ use Rattle.calls.specs.Call.{Conf, Call, Answer, Done}
 use Rattle.account.specs.Step as Step
 use Rattle.account.specs.Step.{State, replied, receivedAs, says}
 use Rattle.account.specs.Account as Accounts
-use Rattle.account.specs.Account.{Account, account, tally_of, cut, tickA}
+use Rattle.account.specs.Account.{Account, account, tallyOf, cut, tickA}
 use Rattle.account.specs.Claim.{Demand3, Opens, IsPrefix, Silent, isMessage, isTerminal, anyTerminal, isStop, accountOf}
-use Rattle.account.specs.Records.{Entry, call, readRecord, writeRecord, nextEntry, answerEntry, afterEntries, runEntries, roomy, isUntaken, made, consCall, calls_of, consDone, donesOf, entryAccount, anyTerminalIn, SilentIn, among, ofReads, ofWrites, ofEntry, Whole}
+use Rattle.account.specs.Records.{Entry, call, readRecord, writeRecord, nextEntry, answerEntry, afterEntries, runEntries, roomy, isUntaken, made, consCall, callsOf, consDone, donesOf, entryAccount, anyTerminalIn, SilentIn, among, ofReads, ofWrites, ofEntry, Whole}
 use Rattle.account.specs.LateClaim.{LateAny}
 use Rattle.account.proofs.Plain as Plain
 use Rattle.runner.specs.TerminalLaws.{still}
@@ -160,28 +160,28 @@ silent-by x none s after a cs d h = (rw d.answered refl, rw d.kept h)
 silent-by x (some c) s after a cs d h = (rw d.1 h.0, rw d.0 h.1)
 
 module _ (conf : Conf) where
-  same_after : (es : List Entry) (s : State) → Good conf s → afterEntries s es ≡ Step.after s (calls_of conf (runEntries s es))
+  same_after : (es : List Entry) (s : State) → Good conf s → afterEntries s es ≡ Step.after s (callsOf conf (runEntries s es))
   same_after [] s h = refl
   same_after (e ∷ es) s h =
       same_after es (nextEntry s e) (good-entry conf e s h)
-      ∙ after-by e (made conf e (answerEntry s e)) s (nextEntry s e) (answerEntry s e) (calls_of conf (runEntries (nextEntry s e) es)) (does conf e s h)
+      ∙ after-by e (made conf e (answerEntry s e)) s (nextEntry s e) (answerEntry s e) (callsOf conf (runEntries (nextEntry s e) es)) (does conf e s h)
 
-  pub same-dones : (es : List Entry) (s : State) → Good conf s → donesOf conf (runEntries s es) ≡ Step.run s (calls_of conf (runEntries s es))
+  pub same-dones : (es : List Entry) (s : State) → Good conf s → donesOf conf (runEntries s es) ≡ Step.run s (callsOf conf (runEntries s es))
   same-dones [] s h = refl
   same-dones (e ∷ es) s h =
       ap (consDone (made conf e (answerEntry s e)) (answerEntry s e)) (same-dones es (nextEntry s e) (good-entry conf e s h))
-      ∙ run_by e (made conf e (answerEntry s e)) s (nextEntry s e) (answerEntry s e) (calls_of conf (runEntries (nextEntry s e) es)) (does conf e s h)
+      ∙ run_by e (made conf e (answerEntry s e)) s (nextEntry s e) (answerEntry s e) (callsOf conf (runEntries (nextEntry s e) es)) (does conf e s h)
 
-  pub same-any : (es : List Entry) (s : State) → Good conf s → anyTerminalIn (runEntries s es) ≡ anyTerminal (Step.run s (calls_of conf (runEntries s es)))
+  pub same-any : (es : List Entry) (s : State) → Good conf s → anyTerminalIn (runEntries s es) ≡ anyTerminal (Step.run s (callsOf conf (runEntries s es)))
   same-any [] s h = refl
   same-any (e ∷ es) s h =
       ap (λ (b : Bool). isTerminal (answerEntry s e) || b) (same-any es (nextEntry s e) (good-entry conf e s h))
-      ∙ any-by e (made conf e (answerEntry s e)) s (nextEntry s e) (answerEntry s e) (calls_of conf (runEntries (nextEntry s e) es)) (does conf e s h)
+      ∙ any-by e (made conf e (answerEntry s e)) s (nextEntry s e) (answerEntry s e) (callsOf conf (runEntries (nextEntry s e) es)) (does conf e s h)
 
-  same-silent : (es : List Entry) (s : State) → Good conf s → Silent (Step.run s (calls_of conf (runEntries s es))) → SilentIn (runEntries s es)
+  same-silent : (es : List Entry) (s : State) → Good conf s → Silent (Step.run s (callsOf conf (runEntries s es))) → SilentIn (runEntries s es)
   same-silent [] s h q = tt
   same-silent (e ∷ es) s h q =
-      let p = silent-by e (made conf e (answerEntry s e)) s (nextEntry s e) (answerEntry s e) (calls_of conf (runEntries (nextEntry s e) es)) (does conf e s h) q in
+      let p = silent-by e (made conf e (answerEntry s e)) s (nextEntry s e) (answerEntry s e) (callsOf conf (runEntries (nextEntry s e) es)) (does conf e s h) q in
       (p.0, same-silent es (nextEntry s e) (good-entry conf e s h) p.1)
 
   calls-cons : (m : Option Call) (xs ys : List Call) → consCall m (xs ++ ys) ≡ consCall m xs ++ ys
@@ -190,11 +190,11 @@ module _ (conf : Conf) where
 
   -- a list behind another runs from where that one left
   pub calls-append : (xs ys : List Entry) (s : State)
-      → calls_of conf (runEntries s (xs ++ ys)) ≡ calls_of conf (runEntries s xs) ++ calls_of conf (runEntries (afterEntries s xs) ys)
+      → callsOf conf (runEntries s (xs ++ ys)) ≡ callsOf conf (runEntries s xs) ++ callsOf conf (runEntries (afterEntries s xs) ys)
   calls-append [] ys s = refl
   calls-append (e ∷ xs) ys s =
       ap (consCall (made conf e (answerEntry s e))) (calls-append xs ys (nextEntry s e))
-      ∙ calls-cons (made conf e (answerEntry s e)) (calls_of conf (runEntries (nextEntry s e) xs)) (calls_of conf (runEntries (afterEntries (nextEntry s e) xs) ys))
+      ∙ calls-cons (made conf e (answerEntry s e)) (callsOf conf (runEntries (nextEntry s e) xs)) (callsOf conf (runEntries (afterEntries (nextEntry s e) xs) ys))
 
 -- an answer that is Terminal is a call's
 terminal-made : (x : Entry) (m : Option Call) (s after : State) (a : Answer) → Does x m s after a → isTerminal a ≡ true
@@ -248,7 +248,7 @@ module _ (conf : Conf) (now : ℕ) (bytes lengths : List ℕ) (op : Opens conf n
 
   -- the calls of a list from open
   abbrev pub calls : List Entry → List Call
-  calls es = calls_of conf (runEntries (Step.opened conf now bytes lengths) es)
+  calls es = callsOf conf (runEntries (Step.opened conf now bytes lengths) es)
 
   pub to-calls : (es : List Entry) → afterEntries (Step.opened conf now bytes lengths) es ≡ Step.after (Step.opened conf now bytes lengths) (calls es)
   to-calls es = same_after conf es (Step.opened conf now bytes lengths) good-open
@@ -278,12 +278,12 @@ module _ (conf : Conf) (now : ℕ) (bytes lengths : List ℕ) (op : Opens conf n
   -- the calls of a list, with those of two of its entries told
   pub late-calls : (cs ds es : List Entry) (a e : Entry) (s : State)
       → let u = nextEntry (afterEntries s cs) a in
-      calls_of conf (runEntries s (cs ++ (a ∷ (ds ++ (e ∷ es)))))
-      ≡ calls_of conf (runEntries s cs) ++ consCall (made conf a (answerEntry (afterEntries s cs) a))
-      (calls_of conf (runEntries u ds) ++ consCall (made conf e (answerEntry (afterEntries u ds) e)) (calls_of conf (runEntries (nextEntry (afterEntries u ds) e) es)))
+      callsOf conf (runEntries s (cs ++ (a ∷ (ds ++ (e ∷ es)))))
+      ≡ callsOf conf (runEntries s cs) ++ consCall (made conf a (answerEntry (afterEntries s cs) a))
+      (callsOf conf (runEntries u ds) ++ consCall (made conf e (answerEntry (afterEntries u ds) e)) (callsOf conf (runEntries (nextEntry (afterEntries u ds) e) es)))
   late-calls cs ds es a e s =
       calls-append conf cs (a ∷ (ds ++ (e ∷ es))) s
-      ∙ ap (λ (xs : List Call). calls_of conf (runEntries s cs) ++ consCall (made conf a (answerEntry (afterEntries s cs) a)) xs)
+      ∙ ap (λ (xs : List Call). callsOf conf (runEntries s cs) ++ consCall (made conf a (answerEntry (afterEntries s cs) a)) xs)
       (calls-append conf ds (e ∷ es) (nextEntry (afterEntries s cs) a))
 
   pub late-any : LateAny conf now bytes lengths
@@ -291,22 +291,22 @@ module _ (conf : Conf) (now : ℕ) (bytes lengths : List ℕ) (op : Opens conf n
   late-any cs ds es t n k c e ticks h below past m i five =
       let o : State = Step.opened conf now bytes lengths in
       let s : State = nextEntry (afterEntries o cs) (call (Call.cancel t k c)) in
-      let rest : List Call = calls_of conf (runEntries (nextEntry (afterEntries s ds) e) es) in
+      let rest : List Call = callsOf conf (runEntries (nextEntry (afterEntries s ds) e) es) in
       same-any conf (cs ++ (call (Call.cancel t k c) ∷ (ds ++ (e ∷ es)))) o good-open
       ∙ ap (λ (xs : List Call). anyTerminal (Step.run o xs)) (late-calls cs ds es (call (Call.cancel t k c)) e o)
-      ∙ ap (λ (x : Option Call). anyTerminal (Step.run o (calls cs ++ (Call.cancel t k c ∷ (calls_of conf (runEntries s ds) ++ consCall x rest))))) m
-      ∙ late-call conf now bytes lengths op (calls cs) (calls_of conf (runEntries s ds)) rest t n k c ticks (cancel-at cs t k c h) below past i five
+      ∙ ap (λ (x : Option Call). anyTerminal (Step.run o (calls cs ++ (Call.cancel t k c ∷ (callsOf conf (runEntries s ds) ++ consCall x rest))))) m
+      ∙ late-call conf now bytes lengths op (calls cs) (callsOf conf (runEntries s ds)) rest t n k c ticks (cancel-at cs t k c h) below past i five
 
   pub whole : Whole conf now bytes lengths
   unfolding made
   whole = record {
-    joined = λ es x. subst⁻¹ (λ (a : Account). IsPrefix (tally_of x a).sent (tally_of x a).taken) (same-account es) (d3.joined (calls es) x);
+    joined = λ es x. subst⁻¹ (λ (a : Account). IsPrefix (tallyOf x a).sent (tallyOf x a).taken) (same-account es) (d3.joined (calls es) x);
     once = λ es e ds h. (let q = at-terminal es e h in
-        let cs = calls_of conf (runEntries (nextEntry (afterEntries (Step.opened conf now bytes lengths) es) e) ds) in
+        let cs = callsOf conf (runEntries (nextEntry (afterEntries (Step.opened conf now bytes lengths) es) e) ds) in
         same-silent conf ds _ (good-entry conf e _ (good-at es))
         (subst⁻¹ (λ (s : State). Silent (Step.run s cs)) q.1 (d3.once (calls es) q.0 cs (sym (ap isTerminal q.2) ∙ h))));
     marks = λ es e out h. (let q = at-terminal es e (ap isTerminal h) in
-        subst⁻¹ (λ (a : Account). (x : Stream) → isTruncated out x ≡ cut (tally_of x a)) (same-account es)
+        subst⁻¹ (λ (a : Account). (x : Stream) → isTruncated out x ≡ cut (tallyOf x a)) (same-account es)
         (d3.marks (calls es) q.0 out (sym q.2 ∙ h)));
     first = λ es t k c h. subst⁻¹ (λ (a : Account). (tickA t a).rep.begun ≡ false) (same-account es) (d3.first (calls es) t k c (cancel-at es t k c h));
     late = λ cs ds es t n k c h below past five. late-any cs ds es t n k c (call (Call.tick n)) (Call.tick n) h below past refl refl five;

@@ -32,7 +32,7 @@ use Rattle.runner.specs.Calls as Calls
 use Rattle.runner.specs.Calls.{askedFor, storesDo, openBy}
 use Rattle.runner.specs.Life.{isLate, ticked, cancelAnswer, cancelNext}
 use Rattle.runner.specs.Message.{choose, wish}
-use Rattle.runner.specs.Range.{in_range, bytesDo, lengthsDo, stop, openStop, fresh}
+use Rattle.runner.specs.Range.{inRange, bytesDo, lengthsDo, stop, openStop, fresh}
 use Rattle.runner.specs.State.{withFlow, withInput}
 use Rattle.runner.specs.Streams as Streams
 use Rattle.output.specs.Output.{outputFits}
@@ -47,7 +47,7 @@ use Rattle.octets.specs.Text.{same}
 use Rattle.channel.specs.Calls as Channel
 use Rattle.channel.specs.Calls.{WriteAfter, admitted, admittedRead, admittedWrite}
 use Rattle.calls.specs.Call as Call
-use Rattle.calls.specs.Call.{Conf, Call, Answer, is_refused}
+use Rattle.calls.specs.Call.{Conf, Call, Answer, isRefused}
 use Rattle.account.specs.Step as Step
 use Rattle.account.specs.Step.{State, onRunner, replied, receivedAs, asks, waits}
 use Rattle.account.specs.Records.{Entry, call, readRecord, writeRecord, nextEntry, answerEntry, afterEntries, among, ofEntry}
@@ -72,7 +72,7 @@ stop-known : (r : Runner) (stores : Bool) (x : Refusal) → stop r stores ≡ Re
 unfolding stop
 stop-known r stores x e =
     subst Known e
-    (either Known (not (in_range r)) _ _ (refl, λ b. refl)
+    (either Known (not (inRange r)) _ _ (refl, λ b. refl)
     (either Known (not (isValid r.limits)) _ _ (refl, λ b. refl) (either Known (not stores) _ _ (refl, λ b. refl) tt)))
 
 stopped : (s : State) (c : Call) (x : Refusal) → stop s.runner (Plain.enough s c) ≡ Reply.Refused x
@@ -280,7 +280,7 @@ does-kept x (some c) s t a n d e =
 
 does-stale : (x : Entry) (m : Option Call) (s t : State) (a : Answer) → Does x m s t a → a ≡ Call.Stale → t ≡ s
 unfolding Does
-does-stale x none s t a d e = absurd (false≢true (sym (ap is_refused e) ∙ ap is_refused d.answered))
+does-stale x none s t a d e = absurd (false≢true (sym (ap isRefused e) ∙ ap isRefused d.answered))
 does-stale x (some c) s t a d e = d.0 ∙ stale s c (sym d.1 ∙ e)
 
 -- refused by 12, 10 or 11
@@ -360,14 +360,14 @@ module _ (conf : Conf) (now : ℕ) where
   -- one that is refused gives a runner without limits
   open_none : (met : Reply) (n : ℕ) → replied (openBy met conf.key conf.limits conf.timers now).reply ≡ Call.Refused n
       → (openBy met conf.key conf.limits conf.timers now).runner ≡ fresh conf.key noLimits conf.timers now
-  open_none Reply.Ok n e = absurd (false≢true (ap is_refused e))
+  open_none Reply.Ok n e = absurd (false≢true (ap isRefused e))
   open_none (Reply.Refused x) n e = refl
 
 abbrev Unlimited : Runner → Type 0
 Unlimited r = (stores : Bool) → stop r stores ≡ Reply.Refused Refusal.NoLimits
 
 none-unlimited : (k : Key) (t : Timers) (now : ℕ) → Unlimited (fresh k noLimits t now)
-unfolding stop in_range fresh outputFits bytesWith
+unfolding stop inRange fresh outputFits bytesWith
 none-unlimited k t now stores = refl
 
 unlimited-entry : (s : State) → Unlimited s.runner → (e : Entry) → answerEntry s e ≡ Call.Refused 10

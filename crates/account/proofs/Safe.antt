@@ -15,10 +15,10 @@ use Rattle.exec.specs.Key.{admits}
 use Rattle.exec.specs.Limits.{outputPool}
 use Rattle.credit.specs.declared.sender.Credit.{Credit}
 use Rattle.credit.specs.Sender.{grantable, grant}
-use Rattle.runner.specs.State.{credit_at, putCredit, withFlow}
+use Rattle.runner.specs.State.{creditAt, putCredit, withFlow}
 use Rattle.runner.specs.Streams as Streams
 use Rattle.calls.specs.Call as Call
-use Rattle.calls.specs.Call.{Conf, Call, Answer, is_refused}
+use Rattle.calls.specs.Call.{Conf, Call, Answer, isRefused}
 use Rattle.account.specs.Step.{State, onRunner, receivedAs}
 use Rattle.account.specs.Records.{among}
 use Rattle.account.specs.Refused.{ofCalls}
@@ -93,7 +93,7 @@ credit-safe s k p u =
     let cs = s.runner.credits in
     admits-by (λ a. CreditSafe s u a (outputPool s.runner.limits.shared p))
     (pool-by (CreditSafe s u Admission.Own) (record { same = refl; known = refl })
-    (λ i. granted s (putCredit i (grant (credit_at i cs) u).credit cs) s.runner.flags.finished (grantable (credit_at i cs) u))
+    (λ i. granted s (putCredit i (grant (creditAt i cs) u).credit cs) s.runner.flags.finished (grantable (creditAt i cs) u))
     s.runner.limits.shared p)
     refl (record { same = refl; known = refl }) s.runner.key k
 

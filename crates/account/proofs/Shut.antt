@@ -18,9 +18,9 @@ use Rattle.output.specs.Output.{lostOut, closedOut, failedOut, hungUp, askedOut}
 use Rattle.runner.specs.declared.answer.Request.TheVariants as Request
 use Rattle.runner.specs.declared.message.Wish.{Wish}
 use Rattle.runner.specs.declared.runner.Runner.{Runner}
-use Rattle.runner.specs.Life.{awaitsLaunch, ticked, cancelNext, noteStarted, noteLaunch, launchedNext, closeRunnerInput, is_over, noteExit, noteExitOnce, timeoutCleared, exitedNext, cutOffOnce, detachNext, settledNext}
+use Rattle.runner.specs.Life.{awaitsLaunch, ticked, cancelNext, noteStarted, noteLaunch, launchedNext, closeRunnerInput, isOver, noteExit, noteExitOnce, timeoutCleared, exitedNext, cutOffOnce, detachNext, settledNext}
 use Rattle.runner.specs.Message.{effect, wish, wishEffect}
-use Rattle.runner.specs.State.{out_of, at}
+use Rattle.runner.specs.State.{outOf, at}
 use Rattle.runner.specs.Streams.{outputNext, discardedNext, closedNext, failedNext, hungUpNext, creditNext, inputNext, endNext, writtenNext}
 use Rattle.calls.specs.Call as Call
 use Rattle.calls.specs.Call.{Conf, Call, Answer, Done, count}
@@ -69,11 +69,11 @@ start-own G conf now x e m = absurd (false≢true (sym (one-per (λ (y : Stream)
 -- ---- final: a runner that has finished has its streams closed, and takes and says no more
 
 abbrev pub Shut : Runner → Type 0
-Shut r = (x : Stream) → (out_of x r).closed ≡ true
+Shut r = (x : Stream) → (outOf x r).closed ≡ true
 
 -- an output that stays closed
-pub shut_at : (x : Stream) (f : Output → Output) (r : Runner) → (f (out_of x r)).closed ≡ true → Shut r → Shut (at x f r)
-shut_at x f r e h = on_out (λ (y : Stream) (o : Output). o.closed ≡ true) x (f (out_of x r)) r.outputs e (λ y d. h y)
+pub shut_at : (x : Stream) (f : Output → Output) (r : Runner) → (f (outOf x r)).closed ≡ true → Shut r → Shut (at x f r)
+shut_at x f r e h = on_out (λ (y : Stream) (o : Output). o.closed ≡ true) x (f (outOf x r)) r.outputs e (λ y d. h y)
 
 still : (now : ℕ) (r : Runner) → r.flags.finished ≡ true → ticked r now ≡ r
 unfolding ticked
@@ -91,7 +91,7 @@ detach-still now c r f = rw (still now r f, f) refl
 
 exit-shut : (now : ℕ) (x : MaybeStatus) (r : Runner) → r.flags.finished ≡ true → Shut r → Shut (exitedNext r now x)
 unfolding exitedNext noteExitOnce noteExit closeRunnerInput
-exit-shut now x r f h = rw (still now (timeoutCleared r) f) (either Shut (is_over (timeoutCleared r)) (timeoutCleared r) (noteExit (timeoutCleared r) now x) h h)
+exit-shut now x r f h = rw (still now (timeoutCleared r) f) (either Shut (isOver (timeoutCleared r)) (timeoutCleared r) (noteExit (timeoutCleared r) now x) h h)
 
 launch-shut : (b : Bool) (x : LaunchResult) (r : Runner) → Shut r → Shut (launchedIf b x r)
 unfolding noteLaunch noteStarted closeRunnerInput

@@ -17,7 +17,7 @@ use Rattle.calls.specs.Call as Call
 use Rattle.calls.specs.Call.{Conf, Call, Answer, Done}
 use Rattle.account.specs.Step as Step
 use Rattle.account.specs.Step.{State}
-use Rattle.account.specs.Account.{Account, Tally, marked, adds, add, account, start, tally_of, cut}
+use Rattle.account.specs.Account.{Account, Tally, marked, adds, add, account, start, tallyOf, cut}
 use Rattle.account.specs.Claim.{Opens}
 use Rattle.account.specs.Records.{Entry, call, nextEntry, answerEntry, made, consDone, donesOf, runEntries}
 use Rattle.account.specs.TurnClaim.{Has, answerAfter}
@@ -59,7 +59,7 @@ module _ (x : Stream) where
   unfolding answer add adds
   dropped-marks n l s a f =
       subst⁻¹ (λ (r : Answer). All Marked (add a (Call.discarded x n) r)) (answer-same s (Call.discarded x n) f)
-      (on-each (λ (y : Stream) (t : Tally). sameStream x y ≡ true → t.mark ≡ true) x (marked (ltb 0 n)) a.tallies (λ e. or_left (ltb 0 n) (tally_of x a).mark (lt-ltb 0 n l)) (λ y d e. absurd (true≢false (sym e ∙ d))))
+      (on-each (λ (y : Stream) (t : Tally). sameStream x y ≡ true → t.mark ≡ true) x (marked (ltb 0 n)) a.tallies (λ e. or_left (ltb 0 n) (tallyOf x a).mark (lt-ltb 0 n l)) (λ y d e. absurd (true≢false (sym e ∙ d))))
 
   pub failed-marks : Marks (Call.outputFailed x)
   unfolding answer add adds

@@ -11,7 +11,7 @@ use Rattle.runner.specs.declared.runner.Runner.{Runner}
 use Rattle.runner.specs.Message.{payload}
 use Rattle.calls.specs.Call as Call
 use Rattle.calls.specs.Call.{Conf, Call, Answer, count}
-use Rattle.account.specs.Account.{Account, Tally, takenBy, sentBy, add, adds, tally_of}
+use Rattle.account.specs.Account.{Account, Tally, takenBy, sentBy, add, adds, tallyOf}
 use Rattle.account.specs.Claim.{isMessage}
 use Rattle.account.specs.TurnClaim.{offered, carried}
 use Rattle.account.proofs.Plain.{said}
@@ -30,7 +30,7 @@ take-nil (suc n) = refl
 -- what was taken and sent by the account z is as it was
 module _ (z : Account) where
   abbrev pub Same : Stream → Bool → Tally → Type 0
-  Same x k t = (t.taken ≡ (tally_of x z).taken) × (t.sent ≡ (tally_of x z).sent)
+  Same x k t = (t.taken ≡ (tallyOf x z).taken) × (t.sent ≡ (tallyOf x z).sent)
 
   pub quiet_same : (c : Call) (r : Answer) (a : Account) → ((x : Stream) (b : List ℕ) → c ≡ Call.output x b → take (count r) b ≡ [])
       → ((x : Stream) (b : List ℕ) → r ≡ Call.Says (Call.Output x b) → ⊥) → All Same a → All Same (add a c r)
@@ -48,10 +48,10 @@ module _ (z : Account) where
 -- the call c with the answer r, and so the tally t from that of z: what was offered and taken is added, and what was carried
 module _ (z : Account) (c : Call) (r : Answer) where
   abbrev pub Told : Stream → Tally → Type 0
-  Told x t = (t.taken ≡ (tally_of x z).taken ++ take (count r) (offered x c)) × (t.sent ≡ (tally_of x z).sent ++ carried x r)
+  Told x t = (t.taken ≡ (tallyOf x z).taken ++ take (count r) (offered x c)) × (t.sent ≡ (tallyOf x z).sent ++ carried x r)
 
   abbrev pub Tells : Type 0
-  Tells = (x : Stream) → Told x (tally_of x (add z c r))
+  Tells = (x : Stream) → Told x (tallyOf x (add z c r))
 
 -- a call that offers nothing, or output
 pub data Offers : Call → Type 0 where

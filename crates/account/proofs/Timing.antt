@@ -27,10 +27,10 @@ use Rattle.lifecycle.specs.Setters.{setTimeoutAt}
 use Rattle.input.specs.Input.{closeInput, closeWhenTaken, popIn, endInput, receiveInput, writtenInput}
 use Rattle.output.specs.Output.{abandoned, closedOut, failedOut, hungUp, lostOut, endedOut, askedOut, sentOut}
 use Rattle.output.specs.Outputs.{putOutput}
-use Rattle.runner.specs.State.{withClocks, withInput, withOutputs, withFlow, out_of, at}
+use Rattle.runner.specs.State.{withClocks, withInput, withOutputs, withFlow, outOf, at}
 use Rattle.runner.specs.Life as Life
 use Rattle.runner.specs.Life.{awaitsLaunch, isCleanedUp, closeRunnerInput, endGrace, giveUp, abandonLaunch, abandonOpenStreams, terminate, dropLaunch, ticked, noteStarted, noteLaunch, launchedNext, settledNext, noteExit, noteExitOnce, exitedNext, silenced, giveUpSoon, cutOff, cutOffOnce, detachNext}
-use Rattle.runner.specs.Streams.{room, outputFilled, outputNext, discardedNext, closedNext, failedNext, hungUpNext, creditNext, is_taken, inputReceived, inputNext, endNext, writtenNext}
+use Rattle.runner.specs.Streams.{room, outputFilled, outputNext, discardedNext, closedNext, failedNext, hungUpNext, creditNext, isTaken, inputReceived, inputNext, endNext, writtenNext}
 use Rattle.runner.specs.Message.{choose, plain, outputPaid, outputSent, effect, wish, handed, wishEffect}
 use Rattle.calls.specs.Call.{Call}
 use Rattle.account.specs.Step.{State}
@@ -96,8 +96,8 @@ module _ (P : Deadline → Type 0) (lower : (d e : Deadline) → P d → P (earl
     hold = (
       h.0,
       h.1,
-      on-right (λ d x. rw (out-each abandoned s.outputs x) (record { none = (d x).none; stop = wider (out_of x s).closed (out_of x s).hung_up (out_of x s).discarding (d x).stop })) h.2,
-      on-right (λ d. record { launch = d.launch; exit = d.exit; closed = λ x. ap (λ (o : Output). o.closed) (out-each abandoned s.outputs x) ∙ or_left (out_of x s).closed _ (d.closed x); settled = d.settled }) h.3,
+      on-right (λ d x. rw (out-each abandoned s.outputs x) (record { none = (d x).none; stop = wider (outOf x s).closed (outOf x s).hung_up (outOf x s).discarding (d x).stop })) h.2,
+      on-right (λ d. record { launch = d.launch; exit = d.exit; closed = λ x. ap (λ (o : Output). o.closed) (out-each abandoned s.outputs x) ∙ or_left (outOf x s).closed _ (d.closed x); settled = d.settled }) h.3,
     );
     less = λ n. le_refl (left_over s);
   }
@@ -192,7 +192,7 @@ module _ (P : Deadline → Type 0) (lower : (d e : Deadline) → P d → P (earl
   low-input s j k h = record { hold = (k.0, h.1, h.2, h.3); less = λ n. rw k.1 (le_refl (left_over s)) }
 
   -- one output changed: what it must keep
-  low-out : (x : Stream) (s : Runner) (o : Output) → OutKept (out_of x s) o → Phase P s → Low s (withOutputs (putOutput x o s.outputs) s)
+  low-out : (x : Stream) (s : Runner) (o : Output) → OutKept (outOf x s) o → Phase P s → Low s (withOutputs (putOutput x o s.outputs) s)
   low-out x s o k h = record {
     hold = (
       h.0,
@@ -203,12 +203,12 @@ module _ (P : Deadline → Type 0) (lower : (d e : Deadline) → P d → P (earl
     less = λ n. fewer-untold x s o k.msg;
   }
     where
-      fewer-untold : (x : Stream) (s : Runner) (o : Output) → bit (not o.ended) ≤ bit (not (out_of x s).ended) → left_over (withOutputs (putOutput x o s.outputs) s) ≤ left_over s
+      fewer-untold : (x : Stream) (s : Runner) (o : Output) → bit (not o.ended) ≤ bit (not (outOf x s).ended) → left_over (withOutputs (putOutput x o s.outputs) s) ≤ left_over s
       fewer-untold Stdout s o m = omega arith
       fewer-untold Stderr s o m = omega arith
 
   low-at : (x : Stream) (f : Output → Output) (s : Runner) → ((o : Output) → OutKept o (f o)) → Phase P s → Low s (at x f s)
-  low-at x f s k h = low-out x s (f (out_of x s)) (k (out_of x s)) h
+  low-at x f s k h = low-out x s (f (outOf x s)) (k (outOf x s)) h
 
   low-handed : (q : Request) (s : Runner) → Phase P s → Low s (handed q s)
   low-handed (Request.Terminate c) s h = record { hold = h; less = λ n. le_refl (left_over s) }
@@ -255,17 +255,17 @@ module _ (P : Deadline → Type 0) (lower : (d e : Deadline) → P d → P (earl
   low-next (Call.input k b) s h =
       let r : Runner = s.runner in let a : Admission = admits r.key k in
       low-high r (inputReceived a r (length b)) _
-      (low-input r (cond (is_taken a r) (receiveInput r.limits r.input (length b)) r.input)
-      (kept_if (is_taken a r) r.input (receiveInput r.limits r.input (length b)) r.input (h.0, refl) (h.0, refl)) h)
+      (low-input r (cond (isTaken a r) (receiveInput r.limits r.input (length b)) r.input)
+      (kept_if (isTaken a r) r.input (receiveInput r.limits r.input (length b)) r.input (h.0, refl) (h.0, refl)) h)
   low-next (Call.endInput k) s h =
       let r : Runner = s.runner in
-      low-input r (cond (is_taken (admits r.key k) r) (endInput r.input) r.input)
-      (kept_if (is_taken (admits r.key k) r) r.input (endInput r.input) r.input (kept-ended r.input h.0) (h.0, refl)) h
+      low-input r (cond (isTaken (admits r.key k) r) (endInput r.input) r.input)
+      (kept_if (isTaken (admits r.key k) r) r.input (endInput r.input) r.input (kept-ended r.input h.0) (h.0, refl)) h
   low-next (Call.cancel now k c) s h = low-cancel (admits s.runner.key k) now c s.runner h
   low-next (Call.launched x) s h = low-launchedIf (awaitsLaunch s.runner) x s.runner refl h
   low-next (Call.output x b) s h =
       let r : Runner = s.runner in
-      low-high r (outputFilled r x (length b)) _ (low-out x r _ (kept-intake r.flags.gave_up (room x r) (length b) (out_of x r)) h)
+      low-high r (outputFilled r x (length b)) _ (low-out x r _ (kept-intake r.flags.gave_up (room x r) (length b) (outOf x r)) h)
   low-next (Call.discarded x n) s h = low-at x (lostOut (ltb 0 n)) s.runner (kept-discard (ltb 0 n)) h
   low-next (Call.outputClosed x) s h = low-at x closedOut s.runner kept-close h
   low-next (Call.outputFailed x) s h = low-at x failedOut s.runner kept-fail h

@@ -16,9 +16,9 @@ use Rattle.calls.specs.Call as Call
 use Rattle.calls.specs.Call.{Conf, Call, Answer, count}
 use Rattle.account.specs.Step as Step
 use Rattle.account.specs.Step.{State}
-use Rattle.account.specs.Account.{Account, Tally, none as untold, add, account, start, tally_of}
+use Rattle.account.specs.Account.{Account, Tally, none as untold, add, account, start, tallyOf}
 use Rattle.account.specs.Claim.{Opens}
-use Rattle.account.specs.Records.{Entry, EntryDone, call, readRecord, writeRecord, nextEntry, answerEntry, call_of, roomy, isUntaken, made, donesOf, runEntries, entryAccount}
+use Rattle.account.specs.Records.{Entry, EntryDone, call, readRecord, writeRecord, nextEntry, answerEntry, callOf, roomy, isUntaken, made, donesOf, runEntries, entryAccount}
 use Rattle.account.specs.TurnClaim.{offered, offeredIn, carried, takenIn, sentIn}
 use Rattle.account.proofs.Plain.{answer}
 use Rattle.account.proofs.Sides.{one-per}
@@ -49,8 +49,8 @@ abbrev Mute : Option Call → Type 0
 Mute none = Unit
 Mute (some c) = (x : Stream) → offered x c ≡ []
 
-read-mute : (conf : Conf) (now : ℕ) (b : List ℕ) (p : Parsed) → Mute (call_of conf now b p)
-unfolding call_of
+read-mute : (conf : Conf) (now : ℕ) (b : List ℕ) (p : Parsed) → Mute (callOf conf now b p)
+unfolding callOf
 read-mute conf now b (Parsed.Read (Record.Adjust units)) = λ x. refl
 read-mute conf now b (Parsed.Read (Record.Data n)) = λ x. refl
 read-mute conf now b (Parsed.Read (Record.Extended n)) = tt
@@ -72,7 +72,7 @@ unfolding made
 offering conf (call c) a = λ x. refl
 offering conf (readRecord now channel b) a =
     mute-offering (readRecord now channel b) (made conf (readRecord now channel b) a) (λ x. refl)
-    (either Mute (isChannel conf.limits) (call_of conf now b (read channel b)) none (read-mute conf now b (read channel b)) tt)
+    (either Mute (isChannel conf.limits) (callOf conf now b (read channel b)) none (read-mute conf now b (read channel b)) tt)
 offering conf (writeRecord channel buffer) a =
     mute-offering (writeRecord channel buffer) (made conf (writeRecord channel buffer) a) (λ x. refl)
     (either Mute (isChannel conf.limits && roomy conf buffer) _ none (either Mute (isUntaken a) none (some (Call.nextMessage (take conf.limits.chunk (drop 13 buffer)))) tt (λ x. refl)) tt)
@@ -82,8 +82,8 @@ offering conf (writeRecord channel buffer) a =
 -- from the account z, over a list of what was done
 abbrev ToldIn : Conf → Account → List EntryDone → Type 0
 ToldIn conf z ds = (x : Stream)
-    → ((tally_of x (account z (donesOf conf ds))).taken ≡ (tally_of x z).taken ++ takenIn x ds)
-    × ((tally_of x (account z (donesOf conf ds))).sent ≡ (tally_of x z).sent ++ sentIn x ds)
+    → ((tallyOf x (account z (donesOf conf ds))).taken ≡ (tallyOf x z).taken ++ takenIn x ds)
+    × ((tallyOf x (account z (donesOf conf ds))).sent ≡ (tallyOf x z).sent ++ sentIn x ds)
 
 -- t is u and then l, and u is v and then k
 joined : (t u v k l : List ℕ) → t ≡ u ++ l → u ≡ v ++ k → t ≡ v ++ (k ++ l)
@@ -99,7 +99,7 @@ unfolding Does
 behind conf e none s after r ds z k d o f h x =
     let p = h z x in
     let q = refused-adds e r d.refusal x d.answered in
-    let t : Tally = tally_of x z in
+    let t : Tally = tallyOf x z in
     rw k (
       p.0 ∙ ap (λ (b : List ℕ). t.taken ++ (b ++ takenIn x ds)) (sym q.0),
       p.1 ∙ ap (λ (b : List ℕ). t.sent ++ (b ++ sentIn x ds)) (sym q.1),
@@ -107,7 +107,7 @@ behind conf e none s after r ds z k d o f h x =
 behind conf e (some c) s after r ds z k d o f h x =
     let p = h (add z c r) x in
     let q = subst⁻¹ (Tells z c) d.1 (call-told c s z f) x in
-    let t : Tally = tally_of x z in
+    let t : Tally = tallyOf x z in
     let g : take (count r) (offered x c) ≡ take (count r) (offeredIn x e) = ap (take (count r)) (sym (o x)) in
     rw k (
       joined _ _ t.taken (take (count r) (offeredIn x e)) (takenIn x ds) p.0 (q.0 ∙ ap (λ (b : List ℕ). t.taken ++ b) g),
@@ -122,7 +122,7 @@ list-told conf (e ∷ es) s z g =
 
 -- the account of a stream after a list from open
 abbrev pub tallied : Conf → ℕ → (bytes lengths : List ℕ) → List Entry → Stream → Tally
-tallied conf now bytes lengths es x = tally_of x (entryAccount conf now bytes lengths es)
+tallied conf now bytes lengths es x = tallyOf x (entryAccount conf now bytes lengths es)
 
 module _ (conf : Conf) (now : ℕ) (bytes lengths : List ℕ) (op : Opens conf now bytes lengths) where
   from-open : (es : List Entry) → ToldIn conf (start conf now) (runEntries (Step.opened conf now bytes lengths) es)

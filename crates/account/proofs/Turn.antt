@@ -16,7 +16,7 @@ use Rattle.exec.specs.Outcome.{isTruncated}
 use Rattle.output.specs.declared.Output.{Output}
 use Rattle.output.specs.Output.{isDone}
 use Rattle.runner.specs.Message.{effect}
-use Rattle.runner.specs.State.{out_of}
+use Rattle.runner.specs.State.{outOf}
 use Rattle.runner.specs.Streams.{outputTaken}
 use Rattle.codec.specs.declared.Parsed.{Parsed}
 use Rattle.codec.specs.declared.Record.TheVariants as Record
@@ -26,15 +26,15 @@ use Rattle.calls.specs.Call as Call
 use Rattle.calls.specs.Call.{Conf, Call, Answer, Done, count}
 use Rattle.account.specs.Step as Step
 use Rattle.account.specs.Step.{State}
-use Rattle.account.specs.Account.{Account, Replay, Tally, add, account, start, tally_of, cut}
+use Rattle.account.specs.Account.{Account, Replay, Tally, add, account, start, tallyOf, cut}
 use Rattle.account.specs.Claim.{Opens, IsPrefix, isMessage, isTerminal}
-use Rattle.account.specs.Records.{Entry, EntryDone, call, readRecord, writeRecord, nextEntry, afterEntries, call_of, roomy, isUntaken, made, calls_of, consCall, consDone, donesOf, runEntries, entryAccount, Whole}
+use Rattle.account.specs.Records.{Entry, EntryDone, call, readRecord, writeRecord, nextEntry, afterEntries, callOf, roomy, isUntaken, made, callsOf, consCall, consDone, donesOf, runEntries, entryAccount, Whole}
 use Rattle.account.specs.TurnClaim.{Has, closing, answerAfter, Turn}
 use Rattle.account.proofs.Plain.{next, answer, afterAll, run, begun}
 use Rattle.account.proofs.Sides.{one-per}
 use Rattle.account.proofs.Keeps.{All}
 use Rattle.account.proofs.Finish.{Ends, ends, ends-fin, ends-answer, no_more, fin-stays}
-use Rattle.account.proofs.Lists.{Course, running, over, open-course, plain_of}
+use Rattle.account.proofs.Lists.{Course, running, over, open-course, plainOf}
 use Rattle.runner.specs.TerminalLaws.{chosen-ready, ready-delivered}
 use Rattle.account.proofs.Range.{lent}
 use Rattle.account.proofs.Demand.{opens_by, same-run, same_answer, same-account as plain-account}
@@ -78,7 +78,7 @@ delivered-closed d o e = and_l o.closed (not (ltb 0 o.queued)) (and_l (isDone o)
 terminal-shut : (s : State) (c : Call) → isTerminal (answer s c) ≡ true → Shut s.runner
 terminal-shut s c e x =
     let d : Ends s c = ends c s e in
-    delivered-closed s.runner.flags.detached (out_of x s.runner) (ready-delivered s.runner (chosen-ready (length d.buffer) s.runner d.chosen) x)
+    delivered-closed s.runner.flags.detached (outOf x s.runner) (ready-delivered s.runner (chosen-ready (length d.buffer) s.runner d.chosen) x)
 
 after-shut : (s : State) (c : Call) → isTerminal (answer s c) ≡ true → Shut (next s c).runner
 unfolding next effect
@@ -110,8 +110,8 @@ unclosed (some c) r x ds n (inr h) = h
 none-unclosed : (x : Stream) → Unclosing x none
 none-unclosed x e = let z : false ≡ true = cc in false≢true z
 
-read-unclosed : (conf : Conf) (now : ℕ) (b : List ℕ) (x : Stream) (p : Parsed) → Unclosing x (call_of conf now b p)
-unfolding call_of
+read-unclosed : (conf : Conf) (now : ℕ) (b : List ℕ) (x : Stream) (p : Parsed) → Unclosing x (callOf conf now b p)
+unfolding callOf
 read-unclosed conf now b x (Parsed.Read (Record.Adjust units)) e = let z : false ≡ true = cc in false≢true z
 read-unclosed conf now b x (Parsed.Read (Record.Data n)) e = let z : false ≡ true = cc in false≢true z
 read-unclosed conf now b x (Parsed.Read (Record.Extended n)) e = none-unclosed x e
@@ -125,7 +125,7 @@ unfolding made
 closing_at conf x (call c) r ds es g (inl e) = inl (ap (λ (d : Done). record { entry = call d.call; answer = d.answer }) e)
 closing_at conf x (call c) r ds es g (inr h) = inr (g h)
 closing_at conf x (readRecord now channel b) r ds es g h =
-    inr (g (unclosed _ r x ds (either (Unclosing x) (isChannel conf.limits) (call_of conf now b (read channel b)) none (read-unclosed conf now b x (read channel b)) (none-unclosed x)) h))
+    inr (g (unclosed _ r x ds (either (Unclosing x) (isChannel conf.limits) (callOf conf now b (read channel b)) none (read-unclosed conf now b x (read channel b)) (none-unclosed x)) h))
 closing_at conf x (writeRecord channel buffer) r ds es g h =
     inr (g (unclosed _ r x ds (either (Unclosing x) (isChannel conf.limits && roomy conf buffer) _ none
     (either (Unclosing x) (isUntaken r) none _ (none-unclosed x) (λ e. let z : false ≡ true = cc in false≢true z)) (none-unclosed x)) h))
@@ -143,7 +143,7 @@ list-append (c ∷ cs) ds s a = list-append cs ds (next s c) (add a c (answer s 
 -- by the account too each stream is closed where Terminal comes
 replay-shut : (x : Stream) (s : State) (a : Account) (c : Call) → Course s a → isTerminal (answer s c) ≡ true → one x a.rep.closed ≡ true
 replay-shut x s a c (running f r h) e =
-    ap (λ (y : Replay). one x y.closed) h.0 ∙ one-per (λ (y : Stream). (out_of y s.runner).closed) x ∙ terminal-shut s c e x
+    ap (λ (y : Replay). one x y.closed) h.0 ∙ one-per (λ (y : Stream). (outOf y s.runner).closed) x ∙ terminal-shut s c e x
 replay-shut x s a c (over f h) e = absurd (false≢true (sym (no_more c s f) ∙ ap isMessage (ends-answer s c (ends c s e))))
 
 module _ (conf : Conf) (now : ℕ) (bytes lengths : List ℕ) (op : Opens conf now bytes lengths) where
@@ -162,7 +162,7 @@ module _ (conf : Conf) (now : ℕ) (bytes lengths : List ℕ) (op : Opens conf n
   state es = afterAll (begun conf now bytes lengths) (made_of es)
 
   abbrev plain : List Entry → Account
-  plain es = plain_of conf now bytes lengths (made_of es)
+  plain es = plainOf conf now bytes lengths (made_of es)
 
   to-plain : (es : List Entry) → entryAccount conf now bytes lengths es ≡ plain es
   to-plain es = same-account conf now bytes lengths op es ∙ plain-account conf now bytes lengths op (made_of es)
@@ -173,7 +173,7 @@ module _ (conf : Conf) (now : ℕ) (bytes lengths : List ℕ) (op : Opens conf n
       let q = at-terminal conf now bytes lengths op es e h in
       (q.0, q.3, sym (ap isTerminal (q.2 ∙ same_answer conf now bytes lengths op (made_of es) q.0)) ∙ h)
 
-  own_at : (es : List Entry) (x : Stream) → one x (plain es).rep.closed ≡ true → (tally_of x (plain es)).mark ≡ false → Has (closing x) (runEntries (Step.opened conf now bytes lengths) es)
+  own_at : (es : List Entry) (x : Stream) → one x (plain es).rep.closed ≡ true → (tallyOf x (plain es)).mark ≡ false → Has (closing x) (runEntries (Step.opened conf now bytes lengths) es)
   own_at es x =
       list-own (λ (y : Stream). Has (closing y) (runEntries (Step.opened conf now bytes lengths) es)) (made_of es) (begun conf now bytes lengths) (start conf now)
       (λ y m. closing-in conf y (runEntries (Step.opened conf now bytes lengths) es)
@@ -184,7 +184,7 @@ module _ (conf : Conf) (now : ℕ) (bytes lengths : List ℕ) (op : Opens conf n
       → All (Same (plain es)) (plain (es ++ (e ∷ ds)))
   final-at es e ds c m h =
       let s : State = afterEntries (Step.opened conf now bytes lengths) es in
-      let rest : List Call = calls_of conf (runEntries (nextEntry s e) ds) in
+      let rest : List Call = callsOf conf (runEntries (nextEntry s e) ds) in
       subst⁻¹ (All (Same (plain es)))
       (ap (λ (cs : List Call). account (start conf now) (run (begun conf now bytes lengths) cs))
       (calls-append conf es (e ∷ ds) (Step.opened conf now bytes lengths) ∙ ap (λ (k : Option Call). made_of es ++ consCall k rest) m)
@@ -199,12 +199,12 @@ module _ (conf : Conf) (now : ℕ) (bytes lengths : List ℕ) (op : Opens conf n
     own = λ es e o x h u. (let q = terminal-call es e (ap isTerminal h) in
         let course = open-course conf now bytes lengths (lent conf.limits bytes lengths (opens_by conf now bytes lengths op)) (made_of es) in
         own_at es x (replay-shut x (state es) (plain es) q.0 course q.2)
-        (subst (λ (a : Account). (tally_of x a).mark ≡ false) (to-plain es) (unmarked (tallied conf now bytes lengths es x) (uncut es e o x h u))));
+        (subst (λ (a : Account). (tallyOf x a).mark ≡ false) (to-plain es) (unmarked (tallied conf now bytes lengths es x) (uncut es e o x h u))));
     undropped = λ es e o x n h u l. spared conf now bytes lengths op es e o x (Call.discarded x n) (dropped-marks x n l) h u;
     unfailed = λ es e o x h u. spared conf now bytes lengths op es e o x (Call.outputFailed x) (failed-marks x) h u;
     final = λ es e ds x h. (let q = terminal-call es e h in
         let p : Same (plain es) x true (tallied conf now bytes lengths (es ++ (e ∷ ds)) x) = rw (to-plain (es ++ (e ∷ ds))) (final-at es e ds q.0 q.1 q.2 x) in (
-          sym (taken-told conf now bytes lengths op (es ++ (e ∷ ds)) x) ∙ p.0 ∙ ap (λ (a : Account). (tally_of x a).taken) (sym (to-plain es)) ∙ taken-told conf now bytes lengths op es x,
-          sym (sent-told conf now bytes lengths op (es ++ (e ∷ ds)) x) ∙ p.1 ∙ ap (λ (a : Account). (tally_of x a).sent) (sym (to-plain es)) ∙ sent-told conf now bytes lengths op es x,
+          sym (taken-told conf now bytes lengths op (es ++ (e ∷ ds)) x) ∙ p.0 ∙ ap (λ (a : Account). (tallyOf x a).taken) (sym (to-plain es)) ∙ taken-told conf now bytes lengths op es x,
+          sym (sent-told conf now bytes lengths op (es ++ (e ∷ ds)) x) ∙ p.1 ∙ ap (λ (a : Account). (tallyOf x a).sent) (sym (to-plain es)) ∙ sent-told conf now bytes lengths op es x,
         ));
   }

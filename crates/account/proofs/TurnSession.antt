@@ -35,18 +35,18 @@ use Rattle.runner.specs.Life.{closeRunnerInput, passGrace, passTimeout, passSett
 use Rattle.runner.specs.Message.{sendableOf, choose, outputPaid, outputSent, effect, payload, saidFor, bufferAfter}
 use Rattle.runner.specs.Range.{bytesDo, stop, fresh}
 use Rattle.runner.specs.Streams.{outputTaken, outputNext, outputStore, creditIn, creditAnswer, creditNext, closedNext}
-use Rattle.octets.specs.Bytes.{be32At, number_at}
+use Rattle.octets.specs.Bytes.{be32At, numberAt}
 use Rattle.octets.specs.Text as Text
-use Rattle.codec.specs.Codec.{header, bytes_of, kinded, fitting, checked, read}
+use Rattle.codec.specs.Codec.{header, bytesOf, kinded, fitting, checked, read}
 use Rattle.channel.specs.declared.calls.Wrote.{Wrote}
 use Rattle.channel.specs.Calls as Channel
 use Rattle.channel.specs.Calls.{WriteAfter, isChannel, asked, isLeft, told, wrote, wroteBuffer, sentAs, sentBuffer}
 use Rattle.exits.specs.Exit.{isTold, isUntold, request, ending}
-use Rattle.account.specs.Account.{Tally, timeoutR, giveUpA, abandonA, tickA, exitR, exitA, adds, add, start, tally_of}
+use Rattle.account.specs.Account.{Tally, timeoutR, giveUpA, abandonA, tickA, exitR, exitA, adds, add, start, tallyOf}
 use Rattle.calls.specs.Call as Call
 use Rattle.calls.specs.Call.{Conf, Call, Answer}
 use Rattle.account.specs.Claim.{Opens, isTerminal, anyTerminal}
-use Rattle.account.specs.Records.{Entry, EntryDone, call, readRecord, writeRecord, nextEntry, wroteAs, answerEntry, afterEntries, runEntries, call_of, roomy, made}
+use Rattle.account.specs.Records.{Entry, EntryDone, call, readRecord, writeRecord, nextEntry, wroteAs, answerEntry, afterEntries, runEntries, callOf, roomy, made}
 use Rattle.account.specs.Step as Step
 use Rattle.account.specs.Step.{State}
 use Rattle.account.specs.TurnClaim.{Has, closing, answerAfter, carried, takenIn, sentIn}
@@ -55,7 +55,7 @@ use Rattle.runner.specs.TerminalLaws.{still}
 use Rattle.account.proofs.Plain as Plain
 use Rattle.account.proofs.Plain.{said, next, answer, begun, afterAll, run}
 use Rattle.account.proofs.Finish.{Ends, ends, ends-answer}
-use Rattle.account.proofs.Lists.{plain_of}
+use Rattle.account.proofs.Lists.{plainOf}
 use Rattle.account.proofs.Demand.{goes, answer-same, same-run, same_answer, same-account as plain-account}
 use Rattle.channel.specs.Ended.{Writes, elsewhere, short, left, taken, writes}
 use Rattle.account.proofs.EachRecord.{Does, answers}
@@ -117,7 +117,7 @@ rows = record {
 abbrev Comes : (bytes lengths : List ℕ) → Type 0
 Comes bytes lengths =
     (answer (afterAll (begun conf 0 bytes lengths) calls) message ≡ Call.Says (Call.Terminal complete))
-    × (tally_of Stdout (plain_of conf 0 bytes lengths calls) ≡ rows)
+    × (tallyOf Stdout (plainOf conf 0 bytes lengths calls) ≡ rows)
 
 -- only the first four bytes of the store are written
 computed : (a0 a1 a2 a3 : ℕ) (rest lengths : List ℕ) → Comes (a0 ∷ a1 ∷ a2 ∷ a3 ∷ rest) lengths
@@ -136,7 +136,7 @@ module _ (bytes lengths : List ℕ) (h : 16 ≤ length bytes) where
   account-is : tallied conf 0 bytes lengths entries Stdout ≡ rows
   unfolding made
   account-is =
-      ap (tally_of Stdout) (same-account conf 0 bytes lengths (open-ok bytes lengths h) entries ∙ plain-account conf 0 bytes lengths (open-ok bytes lengths h) calls)
+      ap (tallyOf Stdout) (same-account conf 0 bytes lengths (open-ok bytes lengths h) entries ∙ plain-account conf 0 bytes lengths (open-ok bytes lengths h) calls)
       ∙ (plain bytes lengths h).1
 
   -- the bytes taken of it are these
@@ -249,7 +249,7 @@ AllAsk k (e ∷ es) [] = ⊥
 AllAsk k (e ∷ es) (c ∷ cs) = (made k e Call.Ok ≡ some c) × AllAsk k es cs
 
 records-ask : (status : MaybeStatus) → AllAsk channel (records status) (channel-calls status)
-unfolding made call_of read kinded checked fitting number_at be32At
+unfolding made callOf read kinded checked fitting numberAt be32At
 records-ask status = (refl, (refl, (refl, (refl, (refl, (refl, (refl, (refl, (refl, (refl, (refl, (refl, (refl, (refl, (refl, (refl, (refl, tt)))))))))))))))))
 
 abbrev ChannelComes : MaybeStatus → (bytes lengths : List ℕ) → Type 0
@@ -395,7 +395,7 @@ module _ (status : MaybeStatus) (bytes lengths : List ℕ) (h : 16 ≤ length by
 pub zero-closes : (ending 1 zero-status ++ drop (length (ending 1 zero-status)) (zeros 43)
     ≡ 98 ∷ 0 ∷ 0 ∷ 0 ∷ 1 ∷ 0 ∷ 0 ∷ 0 ∷ 11 ∷ 101 ∷ 120 ∷ 105 ∷ 116 ∷ 45 ∷ 115 ∷ 116 ∷ 97 ∷ 116 ∷ 117 ∷ 115 ∷ 0 ∷ 0 ∷ 0 ∷ 0 ∷ 0 ∷ 97 ∷ 0 ∷ 0 ∷ 0 ∷ 1 ∷ zeros 13)
     × (length (ending 1 zero-status) ≡ 30) × (isUntold zero-status ≡ false)
-unfolding ending request Text.bytes bytes_of header isUntold isTold
+unfolding ending request Text.bytes bytesOf header isUntold isTold
 zero-closes = (refl, refl, refl)
 
 -- and no request tells a code of −1

@@ -32,7 +32,7 @@ use Rattle.calls.specs.Call.{Conf, Call, Answer}
 use Rattle.account.specs.Claim.{Opens, isTerminal}
 use Rattle.account.specs.Step as Step
 use Rattle.account.specs.Step.{State, receivedAs}
-use Rattle.account.specs.Records.{runEntries, calls_of}
+use Rattle.account.specs.Records.{runEntries, callsOf}
 use Rattle.account.specs.Units.{unitsIn, isLate, lateCost, cleared, lostBy, lost, Units}
 use Rattle.account.proofs.Plain.{next, answer, begun}
 use Rattle.account.proofs.Range.{lent}
@@ -228,4 +228,4 @@ module _ (conf : Conf) (now : ℕ) (bytes lengths : List ℕ) (op : Opens conf n
       ∙ none_yet conf.limits.input.unit conf.limits.input.size)
 
   pub units : Units conf now bytes lengths
-  units es = rw (to-calls conf now bytes lengths op es) (units-calls (calls_of conf (runEntries o es)))
+  units es = rw (to-calls conf now bytes lengths op es) (units-calls (callsOf conf (runEntries o es)))

@@ -9,7 +9,7 @@ use Rattle.exec.specs.declared.Stream.{Stream}
 use Rattle.exec.specs.Each.{Each, one, onOne, alike, both, every}
 use Rattle.exec.specs.Key.{admits}
 use Rattle.exec.specs.Time.{after, then, earliest, due, timeoutAt}
-use Rattle.calls.specs.Call.{Conf, Done, Call, key, limits, credit, input, endInput, cancel, launched, readAllowance, output, discarded, outputClosed, outputFailed, outputHungUp, pendingInput, inputWritten, inputClosed, exited, settled, dropped, reset, disconnect, tick, deadline, nextRequest, nextMessage, isFinished, isDetached, awaitsSettlement, memoryBound, buffered, highWater, Answer, Ok, Applied, Stale, Late, Refused, Taken, Pending, Value, Time, Truth, Asks, Says, IsKey, AreLimits, Nothing, is_refused, count, Message, Credit, Started, Output, End, InputClosed, Terminal}
+use Rattle.calls.specs.Call.{Conf, Done, Call, key, limits, credit, input, endInput, cancel, launched, readAllowance, output, discarded, outputClosed, outputFailed, outputHungUp, pendingInput, inputWritten, inputClosed, exited, settled, dropped, reset, disconnect, tick, deadline, nextRequest, nextMessage, isFinished, isDetached, awaitsSettlement, memoryBound, buffered, highWater, Answer, Ok, Applied, Stale, Late, Refused, Taken, Pending, Value, Time, Truth, Asks, Says, IsKey, AreLimits, Nothing, isRefused, count, Message, Credit, Started, Output, End, InputClosed, Terminal}
 
 -- Where the settlement stands, by what was reported and what time has passed.
 pub data Settling : Type 0 where
@@ -330,7 +330,7 @@ adds a limits r = a
 
 -- a refused call adds nothing
 unfoldable pub add : Account → Call → Answer → Account
-add a c r = cond (is_refused r) a (adds a c r)
+add a c r = cond (isRefused r) a (adds a c r)
 
 abbrev pub none : Tally
 none = record { taken = []; sent = []; mark = false }
@@ -357,8 +357,8 @@ abbrev pub account : Account → List Done → Account
 account a [] = a
 account a (d ∷ ds) = account (add a d.call d.answer) ds
 
-abbrev pub tally_of : Stream → Account → Tally
-tally_of x a = one x a.tallies
+abbrev pub tallyOf : Stream → Account → Tally
+tallyOf x a = one x a.tallies
 
 -- truncated, by the account
 unfoldable pub cut : Tally → Bool

@@ -9,7 +9,7 @@ use Rattle.exec.specs.Outcome.{isTruncated}
 use Rattle.runner.specs.Calls as Calls
 use Rattle.calls.specs.Call.{Conf, Done, Call, key, limits, credit, input, endInput, cancel, launched, readAllowance, output, discarded, outputClosed, outputFailed, outputHungUp, pendingInput, inputWritten, inputClosed, exited, settled, dropped, reset, disconnect, tick, deadline, nextRequest, nextMessage, isFinished, isDetached, awaitsSettlement, memoryBound, buffered, highWater, Answer, Ok, Applied, Stale, Late, Refused, Taken, Pending, Value, Time, Truth, Asks, Says, IsKey, AreLimits, Nothing, Message, Credit, Started, Output, End, InputClosed, Terminal}
 use Rattle.account.specs.Step.{next, answer, opened, after, run}
-use Rattle.account.specs.Account.{Account, start, account, tally_of, cut, tickA}
+use Rattle.account.specs.Account.{Account, start, account, tallyOf, cut, tickA}
 
 abbrev pub IsPrefix : List ℕ → List ℕ → Type 0
 IsPrefix a b = (rest : List ℕ) × (b ≡ a ++ rest)
@@ -131,13 +131,13 @@ Opens conf now bytes lengths = (Calls.«open» conf.key conf.limits conf.timers 
 -- DEMAND 3, for a runner that open answered ok, stores of any content, and every list of calls
 pub record Demand3 (conf : Conf) (now : ℕ) (bytes lengths : List ℕ) : Type 0 where
   -- on each stream what was sent is a prefix of what was taken
-  pub joined : (cs : List Call) (x : Stream) → IsPrefix (tally_of x (accountOf conf now bytes lengths cs)).sent (tally_of x (accountOf conf now bytes lengths cs)).taken
+  pub joined : (cs : List Call) (x : Stream) → IsPrefix (tallyOf x (accountOf conf now bytes lengths cs)).sent (tallyOf x (accountOf conf now bytes lengths cs)).taken
   -- no message after Terminal, so Terminal at most once
   pub once : (cs : List Call) (c : Call) (ds : List Call) → isTerminal (answer (after (opened conf now bytes lengths) cs) c) ≡ true
       → Silent (run (next (after (opened conf now bytes lengths) cs) c) ds)
   -- Terminal marks a stream exactly when the account before it does
   pub marks : (cs : List Call) (c : Call) (o : Outcome) → answer (after (opened conf now bytes lengths) cs) c ≡ Says (Terminal o)
-      → (x : Stream) → isTruncated o x ≡ cut (tally_of x (accountOf conf now bytes lengths cs))
+      → (x : Stream) → isTruncated o x ≡ cut (tallyOf x (accountOf conf now bytes lengths cs))
   -- an Applied cancel is itself the first of the three events: none had come before it, nor in its own tick
   pub first : (cs : List Call) (t : ℕ) (k : Key) (c : Cause) → answer (after (opened conf now bytes lengths) cs) (cancel t k c) ≡ Applied
       → (tickA t (accountOf conf now bytes lengths cs)).rep.begun ≡ false

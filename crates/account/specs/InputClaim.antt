@@ -10,7 +10,7 @@ use Rattle.input.specs.declared.Input.{Input}
 use Rattle.calls.specs.Call.{Conf, Done, Call, key, limits, credit, input, endInput, cancel, launched, readAllowance, output, discarded, outputClosed, outputFailed, outputHungUp, pendingInput, inputWritten, inputClosed, exited, settled, dropped, reset, disconnect, tick, deadline, nextRequest, nextMessage, isFinished, isDetached, awaitsSettlement, memoryBound, buffered, highWater, Answer, Ok, Applied, Stale, Late, Refused, Taken, Pending, Value, Time, Truth, Asks, Says, IsKey, AreLimits, Nothing}
 use Rattle.account.specs.Step.{State, next, answer, opened}
 use Rattle.account.specs.Claim.{IsPrefix}
-use Rattle.account.specs.Records.{Entry, afterEntries, runEntries, calls_of, donesOf}
+use Rattle.account.specs.Records.{Entry, afterEntries, runEntries, callsOf, donesOf}
 
 abbrev pub isApplied : Answer → Bool
 isApplied Ok = false
@@ -112,7 +112,7 @@ brought (d ∷ ds) = broughtBy d.call d.answer ++ brought ds
 
 -- over a list of calls and records from a runner just opened, those of the calls that it makes
 abbrev pub handedIn : Conf → ℕ → (bytes lengths : List ℕ) → List Entry → List ℕ
-handedIn conf now bytes lengths es = handed (opened conf now bytes lengths) (calls_of conf (runEntries (opened conf now bytes lengths) es))
+handedIn conf now bytes lengths es = handed (opened conf now bytes lengths) (callsOf conf (runEntries (opened conf now bytes lengths) es))
 
 abbrev pub broughtIn : Conf → ℕ → (bytes lengths : List ℕ) → List Entry → List ℕ
 broughtIn conf now bytes lengths es = brought (donesOf conf (runEntries (opened conf now bytes lengths) es))

@@ -8,7 +8,7 @@ use Rattle.exec.specs.Key.{admits}
 use Rattle.calls.specs.Call.{Conf, Call, key, limits, credit, input, endInput, cancel, launched, readAllowance, output, discarded, outputClosed, outputFailed, outputHungUp, pendingInput, inputWritten, inputClosed, exited, settled, dropped, reset, disconnect, tick, deadline, nextRequest, nextMessage, isFinished, isDetached, awaitsSettlement, memoryBound, buffered, highWater, Applied}
 use Rattle.account.specs.Step.{opened}
 use Rattle.account.specs.Claim.{messages}
-use Rattle.account.specs.Records.{Entry, call, nextEntry, answerEntry, afterEntries, runEntries, made, calls_of, anyTerminalIn}
+use Rattle.account.specs.Records.{Entry, call, nextEntry, answerEntry, afterEntries, runEntries, made, callsOf, anyTerminalIn}
 
 -- a cancellation ticks only for the execution's own key
 abbrev pub ownTick : Admission → ℕ → Option ℕ
@@ -59,5 +59,5 @@ LateAny conf now bytes lengths =
     let before = afterEntries cancelled ds in
     answerEntry (afterEntries (opened conf now bytes lengths) cs) (call (cancel t k c)) ≡ Applied
     → t + conf.timers.grace + conf.timers.settlement < 2 ^ 64 → t + conf.timers.grace + conf.timers.settlement ≤ n
-    → made conf e (answerEntry before e) ≡ some ticks → tickOf conf ticks ≡ some n → 5 ≤ messages (calls_of conf (runEntries (nextEntry before e) es))
+    → made conf e (answerEntry before e) ≡ some ticks → tickOf conf ticks ≡ some n → 5 ≤ messages (callsOf conf (runEntries (nextEntry before e) es))
     → anyTerminalIn (runEntries (opened conf now bytes lengths) (cs ++ (call (cancel t k c) ∷ (ds ++ (e ∷ es))))) ≡ true

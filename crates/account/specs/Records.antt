@@ -25,7 +25,7 @@ use Rattle.exits.specs.Exit.{isUntold}
 use Rattle.calls.specs.Call as Call
 use Rattle.calls.specs.Call.{Conf, Call, Answer, Done}
 use Rattle.account.specs.Step.{State, onRunner, next, answer, opened}
-use Rattle.account.specs.Account.{Account, start, account, tally_of, cut, tickA}
+use Rattle.account.specs.Account.{Account, start, account, tallyOf, cut, tickA}
 use Rattle.account.specs.Claim.{IsPrefix, isMessage, isTerminal, messages, isStop}
 
 -- an entry of a list: a call, a record read at an instant, or a record written; the stores are lent to each as the last left them
@@ -90,13 +90,13 @@ runEntries s (e ∷ es) = record { entry = e; answer = answerEntry s e } ∷ run
 -- ---- the calls of a list
 
 -- the call that a record's bytes make: 93 credit on pool Output, 94 input, 96 end_input, 97 disconnect
-unfoldable pub call_of : Conf → (now : ℕ) → (bytes : List ℕ) → Parsed → Option Call
-call_of conf now b (Parsed.Read (Record.Adjust units)) = some (Call.credit conf.key Pool.Output units)
-call_of conf now b (Parsed.Read (Record.Data n)) = some (Call.input conf.key (drop 9 b))
-call_of conf now b (Parsed.Read (Record.Extended n)) = none
-call_of conf now b (Parsed.Read Record.Eof) = some (Call.endInput conf.key)
-call_of conf now b (Parsed.Read Record.Close) = some (Call.disconnect now)
-call_of conf now b (Parsed.Refused x) = none
+unfoldable pub callOf : Conf → (now : ℕ) → (bytes : List ℕ) → Parsed → Option Call
+callOf conf now b (Parsed.Read (Record.Adjust units)) = some (Call.credit conf.key Pool.Output units)
+callOf conf now b (Parsed.Read (Record.Data n)) = some (Call.input conf.key (drop 9 b))
+callOf conf now b (Parsed.Read (Record.Extended n)) = none
+callOf conf now b (Parsed.Read Record.Eof) = some (Call.endInput conf.key)
+callOf conf now b (Parsed.Read Record.Close) = some (Call.disconnect now)
+callOf conf now b (Parsed.Refused x) = none
 
 -- a record is written into a buffer of at least chunk + 13 bytes, and 43
 abbrev pub roomy : Conf → (buffer : List ℕ) → Bool
@@ -123,7 +123,7 @@ isUntaken Call.Nothing = false
 -- the call that an entry makes, where it is answered so
 unfoldable pub made : Conf → Entry → Answer → Option Call
 made conf (call c) a = some c
-made conf (readRecord now channel b) a = cond (isChannel conf.limits) (call_of conf now b (read channel b)) none
+made conf (readRecord now channel b) a = cond (isChannel conf.limits) (callOf conf now b (read channel b)) none
 made conf (writeRecord channel buffer) a =
     cond (isChannel conf.limits && roomy conf buffer)
     (cond (isUntaken a) none (some (Call.nextMessage (take conf.limits.chunk (drop 13 buffer)))))
@@ -133,9 +133,9 @@ abbrev pub consCall : Option Call → List Call → List Call
 consCall none cs = cs
 consCall (some c) cs = c ∷ cs
 
-abbrev pub calls_of : Conf → List EntryDone → List Call
-calls_of conf [] = []
-calls_of conf (d ∷ ds) = consCall (made conf d.entry d.answer) (calls_of conf ds)
+abbrev pub callsOf : Conf → List EntryDone → List Call
+callsOf conf [] = []
+callsOf conf (d ∷ ds) = consCall (made conf d.entry d.answer) (callsOf conf ds)
 
 -- the calls made, each with its entry's answer
 abbrev pub consDone : Option Call → Answer → List Done → List Done
@@ -181,13 +181,13 @@ SilentIn (d ∷ ds) = (isMessage d.answer ≡ false) × SilentIn ds
 -- DEMAND 3 WHOLE, for a runner that open answered ok, stores of any content, and every list of calls and records
 pub record Whole (conf : Conf) (now : ℕ) (bytes lengths : List ℕ) : Type 0 where
   -- on each stream what was sent is a prefix of what was taken
-  pub joined : (es : List Entry) (x : Stream) → IsPrefix (tally_of x (entryAccount conf now bytes lengths es)).sent (tally_of x (entryAccount conf now bytes lengths es)).taken
+  pub joined : (es : List Entry) (x : Stream) → IsPrefix (tallyOf x (entryAccount conf now bytes lengths es)).sent (tallyOf x (entryAccount conf now bytes lengths es)).taken
   -- no message after Terminal, so Terminal at most once
   pub once : (es : List Entry) (e : Entry) (ds : List Entry) → isTerminal (answerEntry (afterEntries (opened conf now bytes lengths) es) e) ≡ true
       → SilentIn (runEntries (nextEntry (afterEntries (opened conf now bytes lengths) es) e) ds)
   -- Terminal marks a stream exactly when the account before it does
   pub marks : (es : List Entry) (e : Entry) (o : Outcome) → answerEntry (afterEntries (opened conf now bytes lengths) es) e ≡ Call.Says (Call.Terminal o)
-      → (x : Stream) → isTruncated o x ≡ cut (tally_of x (entryAccount conf now bytes lengths es))
+      → (x : Stream) → isTruncated o x ≡ cut (tallyOf x (entryAccount conf now bytes lengths es))
   -- an Applied cancel is itself the first of the three events: none had come before it, nor in its own tick
   pub first : (es : List Entry) (t : ℕ) (k : Key) (c : Cause) → answerEntry (afterEntries (opened conf now bytes lengths) es) (call (Call.cancel t k c)) ≡ Call.Applied
       → (tickA t (entryAccount conf now bytes lengths es)).rep.begun ≡ false
@@ -195,7 +195,7 @@ pub record Whole (conf : Conf) (now : ℕ) (bytes lengths : List ℕ) : Type 0 w
   -- t + grace + settlement; what is refused asks for none
   pub late : (cs ds es : List Entry) (t n : ℕ) (k : Key) (c : Cause) → answerEntry (afterEntries (opened conf now bytes lengths) cs) (call (Call.cancel t k c)) ≡ Call.Applied
       → t + conf.timers.grace + conf.timers.settlement < 2 ^ 64 → t + conf.timers.grace + conf.timers.settlement ≤ n
-      → 5 ≤ messages (calls_of conf (runEntries (nextEntry (afterEntries (nextEntry (afterEntries (opened conf now bytes lengths) cs) (call (Call.cancel t k c))) ds) (call (Call.tick n))) es))
+      → 5 ≤ messages (callsOf conf (runEntries (nextEntry (afterEntries (nextEntry (afterEntries (opened conf now bytes lengths) cs) (call (Call.cancel t k c))) ds) (call (Call.tick n))) es))
       → anyTerminalIn (runEntries (opened conf now bytes lengths) (cs ++ (call (Call.cancel t k c) ∷ (ds ++ (call (Call.tick n) ∷ es))))) ≡ true
   -- from open on no entry is refused by 10, 11 or 12
   pub ranged : (es : List Entry) (e : Entry) → isStop (answerEntry (afterEntries (opened conf now bytes lengths) es) e) ≡ false

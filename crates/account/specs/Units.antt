@@ -10,7 +10,7 @@ use Rattle.runner.specs.declared.runner.Runner.{Runner}
 use Rattle.calls.specs.Call.{Conf, Call, key, limits, credit, input, endInput, cancel, launched, readAllowance, output, discarded, outputClosed, outputFailed, outputHungUp, pendingInput, inputWritten, inputClosed, exited, settled, dropped, reset, disconnect, tick, deadline, nextRequest, nextMessage, isFinished, isDetached, awaitsSettlement, memoryBound, buffered, highWater, Answer, Ok, Applied, Stale, Late, Refused, Taken, Pending, Value, Time, Truth, Asks, Says, IsKey, AreLimits, Nothing}
 use Rattle.account.specs.Step.{State, next, answer, opened}
 use Rattle.account.specs.Claim.{isTerminal}
-use Rattle.account.specs.Records.{Entry, afterEntries, runEntries, calls_of}
+use Rattle.account.specs.Records.{Entry, afterEntries, runEntries, callsOf}
 
 -- open + returnable + held
 abbrev pub unitsIn : Limits → Input → ℕ
@@ -83,4 +83,4 @@ lost over s (c ∷ cs) = lostBy over s c + lost (over || isTerminal (answer s c)
 abbrev pub Units : Conf → ℕ → (bytes lengths : List ℕ) → Type 0
 Units conf now bytes lengths =
     (es : List Entry) → unitsIn conf.limits (afterEntries (opened conf now bytes lengths) es).runner.input
-    + lost false (opened conf now bytes lengths) (calls_of conf (runEntries (opened conf now bytes lengths) es)) ≡ conf.limits.input.size
+    + lost false (opened conf now bytes lengths) (callsOf conf (runEntries (opened conf now bytes lengths) es)) ≡ conf.limits.input.size

@@ -1,7 +1,7 @@
 -- What an answer of the code stands for.
 use Rattle.std.specs.Prelude.{Bool, false, List, ◌≡◌, refl, ℕ, take}
 use Rattle.calls.specs.Call as Call
-use Rattle.calls.specs.Call.{is_refused}
+use Rattle.calls.specs.Call.{isRefused}
 use Rattle.account.specs.Step.{messageOf, requestOf}
 use Rattle.runner.specs.declared.answer.Message.{Message}
 use Rattle.runner.specs.declared.answer.Message.TheVariants as Message
@@ -31,16 +31,16 @@ abbrev pub AnswerIs : Answer → ((work : List ℕ) → Call.Answer) → Type 0
 AnswerIs a f = (work : List ℕ) → answerIs a work ≡ f work
 
 abbrev pub RefusedIs : Bool → Answer → Type 0
-RefusedIs b a = (work : List ℕ) → b ≡ is_refused (answerIs a work)
+RefusedIs b a = (work : List ℕ) → b ≡ isRefused (answerIs a work)
 
 -- neither a request nor a message is a refusal
-pub request-stands : (q : Request) → false ≡ is_refused (requestOf q)
+pub request-stands : (q : Request) → false ≡ isRefused (requestOf q)
 request-stands (Request.Terminate c) = refl
 request-stands (Request.Discard x) = refl
 request-stands Request.CloseInput = refl
 request-stands Request.Settle = refl
 
-pub message-stands : (m : Message) (work : List ℕ) → false ≡ is_refused (messageOf m work)
+pub message-stands : (m : Message) (work : List ℕ) → false ≡ isRefused (messageOf m work)
 message-stands (Message.Credit n) work = refl
 message-stands Message.Started work = refl
 message-stands (Message.Output x n) work = refl

@@ -121,25 +121,25 @@ pub data Answer : Type 0 where
   Nothing : Answer
 
 -- refused, by whatever number
-abbrev pub is_refused : Answer → Bool
-is_refused Ok = false
-is_refused Applied = false
-is_refused Stale = false
-is_refused Late = false
-is_refused (Refused n) = true
-is_refused (Taken n) = false
-is_refused (Pending b) = false
-is_refused (Value n) = false
-is_refused (Time d) = false
-is_refused (Truth b) = false
-is_refused (Asks r) = false
-is_refused (Says m) = false
-is_refused (IsKey k) = false
-is_refused (AreLimits l) = false
-is_refused Nothing = false
+abbrev pub isRefused : Answer → Bool
+isRefused Ok = false
+isRefused Applied = false
+isRefused Stale = false
+isRefused Late = false
+isRefused (Refused n) = true
+isRefused (Taken n) = false
+isRefused (Pending b) = false
+isRefused (Value n) = false
+isRefused (Time d) = false
+isRefused (Truth b) = false
+isRefused (Asks r) = false
+isRefused (Says m) = false
+isRefused (IsKey k) = false
+isRefused (AreLimits l) = false
+isRefused Nothing = false
 
 -- and nothing else is
-pub refused-is : (a : Answer) → is_refused a ≡ true → (n : ℕ) × (a ≡ Refused n)
+pub refused-is : (a : Answer) → isRefused a ≡ true → (n : ℕ) × (a ≡ Refused n)
 refused-is Ok e = absurd (false≢true e)
 refused-is Applied e = absurd (false≢true e)
 refused-is Stale e = absurd (false≢true e)

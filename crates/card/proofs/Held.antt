@@ -16,7 +16,7 @@ use Rattle.grammar.specs.Feed.{lineEnds}
 use Rattle.answering.specs.Answering.{answerIs}
 use Rattle.printing.specs.Written.{Wrote, same_text}
 use Rattle.card.specs.Holding.{Lent, Holds, EndsLine}
-use Rattle.standing.specs.Standing.{place_of, Answers, answerAt}
+use Rattle.standing.specs.Standing.{placeOf, Answers, answerAt}
 use Rattle.card.specs.Laying.{put}
 use Rattle.standing.specs.Standing.{placed-is}
 
@@ -67,7 +67,7 @@ unfolding lineEnds
 ends-line c before r after work at to h w =
     let z : c.held - 0 ≡ c.held = omega arith in
     let k = rw z at h in
-    let stage = placed-is (place_of r.standing after.stores) _ _ k.0 in
+    let stage = placed-is (placeOf r.standing after.stores) _ _ k.0 in
     record {
       stands = record {
         session = ap (λ (s : Feed.Stage). record { stage = s; lines = c.lines + 1; held = [] }) stage;

@@ -10,7 +10,7 @@ use Rattle.calls.specs.Call.{Call, timeOf}
 use Rattle.account.specs.Step.{State}
 use Rattle.standing.specs.declared.Answered.{Answered}
 use Rattle.syntax.specs.Lines.{lineCall}
-use Rattle.grammar.specs.Feed.{Session, isBack, later, answered, tooLong, answer_of, lineEnds, hold, eat, feeds}
+use Rattle.grammar.specs.Feed.{Session, isBack, later, answered, tooLong, answerOf, lineEnds, hold, eat, feeds}
 use Rattle.grammar.specs.Feed as Feed
 use Rattle.standing.specs.Standing.{Place, placed}
 
@@ -31,8 +31,8 @@ unfolding later
 later-open none s last = refl
 later-open (some c) s last = either (isBack (timeOf c) last) _ _ refl refl
 
-answer-open : (x : Feed.Stage) (line : List ℕ) → isOpen x ≡ true → isOpen (answer_of x line).stage ≡ true
-unfolding answer_of answered tooLong
+answer-open : (x : Feed.Stage) (line : List ℕ) → isOpen x ≡ true → isOpen (answerOf x line).stage ≡ true
+unfolding answerOf answered tooLong
 answer-open Feed.First line h = absurd (true≢false (sym h))
 answer-open (Feed.Running s last) line h = either (leb (length line) 65535) _ _ (later-open (lineCall line) s last) refl
 answer-open Feed.Over line h = absurd (true≢false (sym h))

@@ -18,8 +18,8 @@ use Rattle.card.specs.declared.feed.Turn.{Turn}
 use Rattle.grammar.specs.Feed.{Session, lineEnds, feeds, pieces, ends}
 use Rattle.card.specs.Feeding.{eaten, goesOn, lineLength, holdAll, line-most, line-feeds, to-line-end, feeds-end, all_held, line-answered, line-stopped}
 use Rattle.card.specs.Laying.{laid, laid-pieces, laid_end, line-lays}
-use Rattle.card.specs.Holding.{Lent, place_in, sessionOf, Stands, Holds, EndsLine}
-use Rattle.standing.specs.Standing.{Place, place_of, placed}
+use Rattle.card.specs.Holding.{Lent, placeIn, sessionOf, Stands, Holds, EndsLine}
+use Rattle.standing.specs.Standing.{Place, placeOf, placed}
 use Rattle.card.specs.Turning.{If, Answered, Stopped, Passes, Feeds, toEat, Goes, canEat, Fed, ended, Ended}
 use Rattle.standing.specs.Standing.{placed-own}
 use Rattle.card.proofs.Opens.{placed_on}
@@ -40,10 +40,10 @@ wrote_none out then at to e h l = record {
 
 -- ---- what a card stands for
 
-own : (c : Card) (x : Lent) → c.held ≤ 65536 → length x.line ≡ 65536 → Stands (sessionOf c x) (place_in c x) c x
+own : (c : Card) (x : Lent) → c.held ≤ 65536 → length x.line ≡ 65536 → Stands (sessionOf c x) (placeIn c x) c x
 own c x h l = record {
   session = refl;
-  place = placed-own (place_in c x);
+  place = placed-own (placeIn c x);
   held = sym (length-take-le c.held x.line (omega arith));
   most = h;
 }
@@ -73,7 +73,7 @@ feeds-on a b c d e x y z at m to f g =
     record {
       stands = record {
         session = k.session;
-        place = k.place ∙ ap (placed (feeds s (a ++ b)).session.stage) f.stands.place ∙ rw p.0 (placed_on (feeds s a).session b (place_in c x));
+        place = k.place ∙ ap (placed (feeds s (a ++ b)).session.stage) f.stands.place ∙ rw p.0 (placed_on (feeds s a).session b (placeIn c x));
         held = k.held;
         most = k.most;
       };
@@ -125,7 +125,7 @@ module _ (piece : List ℕ) (t : Turn) (before : Lent) (c : Card) (line : List �
   held-fed : Feeds (take (lineLength bs) bs) t.card before t.at c mid t.at
   held-fed =
       let f = line-feeds s bs held-few in
-      let place = ap (λ (x : Standing). place_of x before.stores) h.standing in
+      let place = ap (λ (x : Standing). placeOf x before.stores) h.standing in
       record {
         stands = stands-as (held-session ∙ sym f.0) (stands_at place (own c mid h.most size'));
         area = held-area;

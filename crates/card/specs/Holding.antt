@@ -5,7 +5,7 @@ use Rattle.card.specs.declared.feed.Printed.{Printed}
 use Rattle.printing.specs.Written.{Wrote}
 use Rattle.grammar.specs.Feed.{Session, lineEnds}
 use Rattle.card.specs.Laying.{put}
-use Rattle.standing.specs.Standing.{Stores, stores, Place, place_of, stageAt, placed}
+use Rattle.standing.specs.Standing.{Stores, stores, Place, placeOf, stageAt, placed}
 
 -- what is lent to a card: the line area, the runner's stores and the output area
 pub record Lent : Type 0 where
@@ -20,17 +20,17 @@ lent line bytes lengths out = record { line = line; stores = stores bytes length
 abbrev pub Areas : (line bytes lengths work : List ℕ) → Type 0
 Areas line bytes lengths work = (length line ≡ 65536) × (length bytes ≡ 65536) × (length lengths ≡ 1024) × (length work ≡ 65536)
 
-abbrev pub place_in : Card → Lent → Place
-place_in c x = place_of c.standing x.stores
+abbrev pub placeIn : Card → Lent → Place
+placeIn c x = placeOf c.standing x.stores
 
 -- the session: the line that has not ended stands at the start of the line area
 abbrev pub sessionOf : Card → Lent → Session
-sessionOf c x = record { stage = stageAt (place_in c x); lines = c.lines; held = take c.held x.line }
+sessionOf c x = record { stage = stageAt (placeIn c x); lines = c.lines; held = take c.held x.line }
 
 -- A CARD AND ITS STORES ARE A SESSION'S, all of them; `was` is the place before
 pub record Stands (s : Session) (was : Place) (c : Card) (x : Lent) : Type 0 where
   pub session : sessionOf c x ≡ s
-  pub place : place_in c x ≡ placed s.stage was  -- the standing and both stores
+  pub place : placeIn c x ≡ placed s.stage was  -- the standing and both stores
   pub held : c.held ≡ length s.held
   pub most : c.held ≤ 65536
 
@@ -44,5 +44,5 @@ pub record Holds (bytes : List ℕ) (c : Card) (line : List ℕ) (r : Card) (lin
 
 -- the line that is held is answered, and its answer written from index `at` on
 pub record EndsLine (at : ℕ) (c : Card) (before : Lent) (r : Printed) (after : Lent) : Type 0 where
-  pub stands : Stands (lineEnds (sessionOf c before)).session (place_in c before) r.card after
+  pub stands : Stands (lineEnds (sessionOf c before)).session (placeIn c before) r.card after
   pub printed : Wrote 131200 before.out after.out at r.at (lineEnds (sessionOf c before)).printed

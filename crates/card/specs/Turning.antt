@@ -9,7 +9,7 @@ use Rattle.exec.specs.Time.{newTimers}
 use Rattle.runner.specs.Calls as Calls
 use Rattle.exec.specs.Limits.{noLimits}
 use Rattle.grammar.specs.Feed.{Session, start, lineEnds, feeds, ends}
-use Rattle.card.specs.Holding.{Lent, sessionOf, place_in, Stands, EndsLine}
+use Rattle.card.specs.Holding.{Lent, sessionOf, placeIn, Stands, EndsLine}
 use Rattle.card.specs.Feeding.{goesOn, eaten}
 use Rattle.card.specs.Laying.{laid}
 use Rattle.printing.specs.Written.{Wrote}
@@ -38,7 +38,7 @@ Passes at end c before r after =
 -- BYTES ARE EATEN: WHAT THEY FEED THE SESSION IS PRINTED FROM INDEX `at` TO BEFORE INDEX `to`, AND THE CARD, ITS STORES AND THE LINE
 -- AREA ARE AS IT LEAVES THEM
 pub record Feeds (bytes : List ℕ) (c : Card) (before : Lent) (at : ℕ) (r : Card) (after : Lent) (to : ℕ) : Type 0 where
-  pub stands : Stands (feeds (sessionOf c before) bytes).session (place_in c before) r after
+  pub stands : Stands (feeds (sessionOf c before) bytes).session (placeIn c before) r after
   pub area : after.line ≡ laid (sessionOf c before) before.line bytes
   pub printed : Wrote (length before.out) before.out after.out at to (feeds (sessionOf c before) bytes).printed
 
@@ -102,7 +102,7 @@ ended s = cond (eqb (length s.held) 0) s (lineEnds s).session
 -- what it prints stands at the start of the output area
 pub record Ended (c : Card) (before : Lent) (r : Eaten) (after : Lent) : Type 0 where
   pub used : r.used ≡ 0
-  pub stands : Stands (ended (sessionOf c before)) (place_in c before) r.card after
+  pub stands : Stands (ended (sessionOf c before)) (placeIn c before) r.card after
   pub printed : Wrote (length before.out) before.out after.out 0 r.printed (ends (sessionOf c before))
 
 abbrev pub canFinish : Card → Lent → Bool

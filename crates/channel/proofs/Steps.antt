@@ -13,8 +13,8 @@ use Rattle.runner.specs.Calls as Calls
 use Rattle.runner.specs.Calls.{limitsBy, messageBy}
 use Rattle.runner.specs.Message.{MessageAfter, messageAfter, choose, saidFor, sendableOf}
 use Rattle.runner.specs.MessageLaws.{chosen, least}
-use Rattle.runner.specs.Range.{in_range, bytesDo, stop}
-use Rattle.runner.specs.State.{out_of, credit_at}
+use Rattle.runner.specs.Range.{inRange, bytesDo, stop}
+use Rattle.runner.specs.State.{outOf, creditAt}
 use Rattle.channel.specs.declared.calls.Writing.{Writing}
 use Rattle.codec.specs.Codec.{size}
 use Rattle.exec.specs.declared.Stream.{Stream}
@@ -41,7 +41,7 @@ admitted-as false valid enough l = refl
 
 pub admitted_by : (r : Runner) (enough : Bool) → admitted r enough ≡ admittedBy (Calls.limits r) enough
 unfolding Calls.limits stop admitted
-admitted_by r enough = sym (admitted-as (in_range r) (isValid r.limits) enough r.limits)
+admitted_by r enough = sym (admitted-as (inRange r) (isValid r.limits) enough r.limits)
 
 -- ---- a record written
 
@@ -70,8 +70,8 @@ module _ (r : Runner) (store buffer : List ℕ) (narrow : r.limits.chunk < 2 ^ 3
   said-within k Choice.InputClosed h e l = (tt, tt)
   said-within k (Choice.End x) h e l = (tt, omega arith)
   said-within k (Choice.Output x n) h e l =
-      let m = min (min (out_of x r).queued r.limits.chunk) k in
-      let q = least r.limits.output.unit (credit_at (poolOf r.limits x) r.credits).available m in
+      let m = min (min (outOf x r).queued r.limits.chunk) k in
+      let q = least r.limits.output.unit (creditAt (poolOf r.limits x) r.credits).available m in
       let b = (chosen r k x n e).bytes in
       (omega (arith, b, q), omega (arith, b, q))
   said-within k Choice.Terminal h e l = (tt, (omega arith, l))

@@ -22,7 +22,7 @@ use Rattle.runner.specs.Calls.{storesDo}
 use Rattle.runner.specs.Message.{MessageAfter}
 use Rattle.runner.specs.Range.{bytesDo, stop}
 use Rattle.exec.specs.Stream.{anyStream}
-use Rattle.runner.specs.State.{out_of}
+use Rattle.runner.specs.State.{outOf}
 use Rattle.channel.specs.declared.calls.Answer.{Answer}
 use Rattle.channel.specs.declared.calls.Reading.{Reading}
 use Rattle.channel.specs.declared.calls.Sending.{Sending}
@@ -127,13 +127,13 @@ sentAs ended (Message.Terminal outcome) = Sending.Ending outcome.status
 
 -- an End has come
 abbrev pub hasEnded : Runner → Bool
-hasEnded r = anyStream (λ (x : Stream). (out_of x r).ended)
+hasEnded r = anyStream (λ (x : Stream). (outOf x r).ended)
 
 -- its length, 0 where nothing is written
-abbrev pub length_of : (channel : ℕ) → Sending → ℕ
-length_of channel Sending.Nothing = 0
-length_of channel (Sending.Record rec) = start rec + size rec
-length_of channel (Sending.Ending status) = length (ending channel status)
+abbrev pub lengthOf : (channel : ℕ) → Sending → ℕ
+lengthOf channel Sending.Nothing = 0
+lengthOf channel (Sending.Record rec) = start rec + size rec
+lengthOf channel (Sending.Ending status) = length (ending channel status)
 
 unfoldable pub sentBuffer : (channel : ℕ) → Sending → List ℕ → List ℕ
 sentBuffer channel Sending.Nothing buffer = buffer
@@ -142,7 +142,7 @@ sentBuffer channel (Sending.Ending status) buffer = ending channel status ++ dro
 
 unfoldable pub wrote : (channel : ℕ) (ended : Bool) → Said → Wrote
 wrote channel ended Said.None = Wrote.None
-wrote channel ended (Said.Message m) = Wrote.Message m (length_of channel (sentAs ended m))
+wrote channel ended (Said.Message m) = Wrote.Message m (lengthOf channel (sentAs ended m))
 wrote channel ended (Said.Refused x) = Wrote.Refused x
 
 unfoldable pub wroteBuffer : (channel : ℕ) (ended : Bool) → Said → List ℕ → List ℕ

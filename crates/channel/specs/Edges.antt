@@ -41,8 +41,8 @@ use Rattle.codec.specs.declared.Record.TheVariants.{Adjust, Data}
 use Rattle.channel.specs.declared.calls.Wrote.{Wrote}
 use Rattle.channel.specs.Calls as Channel
 use Rattle.channel.specs.Calls.{room}
-use Rattle.octets.specs.Bytes.{be32At, number_at}
-use Rattle.codec.specs.Codec.{header, bytes_of, kinded, fitting, checked, read}
+use Rattle.octets.specs.Bytes.{be32At, numberAt}
+use Rattle.codec.specs.Codec.{header, bytesOf, kinded, fitting, checked, read}
 use Rattle.codec.specs.Edges.{kind-over}
 
 -- ---- the runners of the table
@@ -69,7 +69,7 @@ inFrames = limitsFor 4 (framesWindow 2) (bytesWindow 8) false
 
 -- a runner as open returns it
 opened : Limits → Runner
-unfolding Calls.«open» Range.fresh Range.stop Range.in_range outputFits bytesWith admits
+unfolding Calls.«open» Range.fresh Range.stop Range.inRange outputFits bytesWith admits
 opened l = (Calls.«open» own l timers 0 (zeros 16) (zeros 2)).runner
 
 -- and after its first message, Credit: the input's window is open
@@ -204,16 +204,16 @@ edge10 = (refl, refl, refl, refl)
 abbrev adjust : List ℕ
 adjust = 93 ∷ 0 ∷ 0 ∷ 0 ∷ 5 ∷ 0 ∷ 0 ∷ 0 ∷ 8 ∷ []
 
-edge11 : (bytes_of 5 (Adjust 8) [] ≡ adjust) × (read 5 adjust ≡ Parsed.Read (Adjust 8))
-unfolding bytes_of header read kinded checked fitting number_at be32At
+edge11 : (bytesOf 5 (Adjust 8) [] ≡ adjust) × (read 5 adjust ≡ Parsed.Read (Adjust 8))
+unfolding bytesOf header read kinded checked fitting numberAt be32At
 edge11 = (refl, refl)
 
 -- (12) "94, channel 5, "ab": 5e 00000005 00000002 6162"
 abbrev ab : List ℕ
 ab = 94 ∷ 0 ∷ 0 ∷ 0 ∷ 5 ∷ 0 ∷ 0 ∷ 0 ∷ 2 ∷ 97 ∷ 98 ∷ []
 
-edge12 : (bytes_of 5 (Data 2) (97 ∷ 98 ∷ []) ≡ ab) × (read 5 ab ≡ Parsed.Read (Data 2))
-unfolding bytes_of header read kinded checked fitting number_at be32At
+edge12 : (bytesOf 5 (Data 2) (97 ∷ 98 ∷ []) ≡ ab) × (read 5 ab ≡ Parsed.Read (Data 2))
+unfolding bytesOf header read kinded checked fitting numberAt be32At
 edge12 = (refl, refl)
 
 -- ---- beside the table: "Foreign lengths may leave a state that 12 meets at the next call"

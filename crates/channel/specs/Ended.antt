@@ -17,7 +17,7 @@ use Rattle.runner.specs.declared.runner.Runner.{Runner}
 use Rattle.runner.specs.Calls as Calls
 use Rattle.runner.specs.Life.{outcomeOf}
 use Rattle.runner.specs.Message.{choose, saidFor}
-use Rattle.runner.specs.Range.{in_range, bytesDo, stop}
+use Rattle.runner.specs.Range.{inRange, bytesDo, stop}
 use Rattle.runner.specs.TerminalLaws.{still}
 use Rattle.codec.specs.declared.Parsed.TheVariants as Parsed
 use Rattle.codec.specs.declared.Record.TheVariants.{Close}
@@ -82,13 +82,13 @@ write-left r channel store b met w (left u) m e = refl
 write-left r channel store b met w (taken u l) m e = absurd (false≢true (sym u ∙ e))
 
 -- the number of an answer that is a refusal
-abbrev number_of : Wrote → ℕ
-number_of Wrote.None = 0
-number_of (Wrote.Message m n) = 0
-number_of (Wrote.Refused x) = number x
+abbrev numberOf : Wrote → ℕ
+numberOf Wrote.None = 0
+numberOf (Wrote.Message m n) = 0
+numberOf (Wrote.Refused x) = number x
 
 -- what is told is no refusal
-said-number : (c : Choice) (r : Runner) (channel : ℕ) (ended : Bool) → number_of (wrote channel ended (saidFor c r)) ≡ 0
+said-number : (c : Choice) (r : Runner) (channel : ℕ) (ended : Bool) → numberOf (wrote channel ended (saidFor c r)) ≡ 0
 unfolding saidFor wrote
 said-number Choice.None r channel ended = refl
 said-number Choice.Credit r channel ended = refl
@@ -120,7 +120,7 @@ module _ (r : Runner) (channel : ℕ) (store b : List ℕ) where
       record { kept = e; said = λ part. rw (g, still r _ (length part) p.0) refl; untold = p.1 }
 
   by-writes : stop r (bytesDo r.limits store) ≡ Reply.Ok → (met : Bool) (w : WriteAfter) → Writes r channel store b met w → writeRecord r channel store b ≡ w
-      → number_of w.writing.wrote ≡ 40 → Still r channel store b
+      → numberOf w.writing.wrote ≡ 40 → Still r channel store b
   unfolding asked told Calls.nextMessage
   by-writes g met w (elsewhere c) e h = absurd (omega arith)
   by-writes g met w (short c l) e h = absurd (omega arith)
@@ -134,14 +134,14 @@ module _ (r : Runner) (channel : ℕ) (store b : List ℕ) where
   unfolding stop
   untold-still h = by (stop r (bytesDo r.limits store)) refl
     where
-      n : number_of (writeRecord r channel store b).writing.wrote ≡ 40
-      n = ap number_of h
+      n : numberOf (writeRecord r channel store b).writing.wrote ≡ 40
+      n = ap numberOf h
 
       by : (met : Reply) → stop r (bytesDo r.limits store) ≡ met → Still r channel store b
       by Reply.Ok g = by-writes g _ _ (writes r channel store b g) refl n
       by (Reply.Refused x) g =
-          let z : number x ≡ 40 = sym (ap (λ (w : WriteAfter). number_of w.writing.wrote) (stopped r channel store b x g)) ∙ n in
-          absurd (omega (arith, stop-number (in_range r) (isValid r.limits) (bytesDo r.limits store) x g))
+          let z : number x ≡ 40 = sym (ap (λ (w : WriteAfter). numberOf w.writing.wrote) (stopped r channel store b x g)) ∙ n in
+          absurd (omega (arith, stop-number (inRange r) (isValid r.limits) (bytesDo r.limits store) x g))
 
 -- ---- a Terminal that is told
 

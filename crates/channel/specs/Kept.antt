@@ -19,10 +19,10 @@ use Rattle.runner.specs.Life.{outcomeOf}
 use Rattle.runner.specs.Message.{choose, payload, saidFor, bufferAfter, sendableOf}
 use Rattle.runner.specs.MessageLaws.{chosen, least, payload-length}
 use Rattle.runner.specs.Range.{bytesDo, stop}
-use Rattle.runner.specs.State.{out_of, credit_at}
+use Rattle.runner.specs.State.{outOf, creditAt}
 use Rattle.codec.specs.declared.Record.{Record}
 use Rattle.codec.specs.declared.Record.TheVariants.{Adjust, Data, Extended, Eof}
-use Rattle.codec.specs.Codec.{start, size, header, bytes_of, laidRecord}
+use Rattle.codec.specs.Codec.{start, size, header, bytesOf, laidRecord}
 use Rattle.codec.specs.CodecLaws.{header-length, start-most}
 use Rattle.exits.specs.Exit.{ending}
 use Rattle.exits.specs.ExitLaws.{ending-bound}
@@ -59,7 +59,7 @@ module _ (r : Runner) (b : List ℕ) (roomy : room r.limits ≤ length b) where
   -- a record whose payload is within the chunk, and an ending
   record-beyond : (channel : ℕ) (rec : Record) (p : List ℕ) → length p ≡ length b → size rec ≤ chunk
       → drop (room r.limits) (laidRecord channel rec p) ≡ drop (room r.limits) p
-  unfolding laidRecord bytes_of chunk
+  unfolding laidRecord bytesOf chunk
   record-beyond channel rec p e h =
       let n : length (take (size rec) (drop 13 p)) ≡ size rec = length-take-le (size rec) (drop 13 p) (simp length-drop (omega (arith, e))) in
       beyond (header channel rec ++ take (size rec) (drop 13 p)) p (start rec + size rec) (room r.limits)
@@ -98,7 +98,7 @@ module _ (r : Runner) (b : List ℕ) (roomy : room r.limits ≤ length b) where
     said-beyond Choice.InputClosed e = part-beyond part lent
     said-beyond (Choice.End x) e = end-beyond ended (partBack chunk b part) (part-long part lent) ∙ part-beyond part lent
     said-beyond (Choice.Output x n) e =
-        let l = least r.limits.output.unit (credit_at (poolOf r.limits x) r.credits).available (min (min (out_of x r).queued r.limits.chunk) (length part)) in
+        let l = least r.limits.output.unit (creditAt (poolOf r.limits x) r.credits).available (min (min (outOf x r).queued r.limits.chunk) (length part)) in
         let m : n ≤ length part = omega (arith, (chosen r (length part) x n e).bytes, l) in
         let whole : length (payload r x n store ++ drop n part) ≡ chunk =
         simp (length-append, length-drop) (omega (arith, payload-length r store part x n good e, lent)) in

@@ -16,7 +16,7 @@ ghost use Rattle.channel.specs.Calls.{
   outputRecord,
   sentAs,
   hasEnded,
-  length_of,
+  lengthOf,
   sentBuffer,
   wrote,
   wroteBuffer,
@@ -437,7 +437,7 @@ fn output_record(stream: Stream, n: u32) -> Record
 #[tactic(auto, unfolding(crate::specs::Calls::sentBuffer, crate::specs::CallLaws::Roomy, codec::specs::Codec::lay, exits::specs::Exit::close, exits::specs::Exit::closed))]
 fn lay_out(out: Sending, channel: u32, buffer: &mut [u8]) -> usize
     requires { Roomy out (length buffer.old) }
-    ensures { (result ≡ length_of channel out) × (buffer.new ≡ sentBuffer channel out buffer.old) }
+    ensures { (result ≡ lengthOf channel out) × (buffer.new ≡ sentBuffer channel out buffer.old) }
 {
     match out {
         Sending::Nothing => 0,

@@ -5,7 +5,7 @@ use Rattle.codec.specs.declared.Parsed.{Parsed}
 use Rattle.codec.specs.declared.Record.{Record}
 use Rattle.codec.specs.declared.Record.TheVariants.{Adjust, Data, Extended, Eof, Close}
 use Rattle.codec.specs.declared.Written.{Written}
-use Rattle.octets.specs.Bytes.{be32, number_at}
+use Rattle.octets.specs.Bytes.{be32, numberAt}
 
 -- ---- a record in bytes
 
@@ -45,17 +45,17 @@ abbrev pub Fits : Record → Type 0
 Fits rec = number rec < 2 ^ 32
 
 -- the whole record
-unfoldable pub bytes_of : (channel : ℕ) → Record → (payload : List ℕ) → List ℕ
-bytes_of channel rec payload = header channel rec ++ payload
+unfoldable pub bytesOf : (channel : ℕ) → Record → (payload : List ℕ) → List ℕ
+bytesOf channel rec payload = header channel rec ++ payload
 
 -- ---- reading: 20 (empty), 21, 20, 22, 23
 
 -- the record of a kind, with the number that its bytes have where that kind has one
 unfoldable pub kinded : (kind : ℕ) → List ℕ → Parsed
 kinded kind s =
-    cond (eqb kind 93) (Parsed.Read (Adjust (number_at s 5)))
-    (cond (eqb kind 94) (Parsed.Read (Data (number_at s 5)))
-    (cond (eqb kind 95) (Parsed.Read (Extended (number_at s 9)))
+    cond (eqb kind 93) (Parsed.Read (Adjust (numberAt s 5)))
+    (cond (eqb kind 94) (Parsed.Read (Data (numberAt s 5)))
+    (cond (eqb kind 95) (Parsed.Read (Extended (numberAt s 9)))
     (cond (eqb kind 96) (Parsed.Read Eof)
     (cond (eqb kind 97) (Parsed.Read Close) (Parsed.Refused UnknownKind)))))
 
@@ -63,7 +63,7 @@ kinded kind s =
 abbrev pub isTyped : Record → List ℕ → Bool
 isTyped (Adjust units) s = true
 isTyped (Data n) s = true
-isTyped (Extended n) s = eqb (number_at s 5) 1
+isTyped (Extended n) s = eqb (numberAt s 5) 1
 isTyped Eof s = true
 isTyped Close s = true
 
@@ -71,7 +71,7 @@ isTyped Close s = true
 unfoldable pub fitting : (channel : ℕ) → List ℕ → Record → Parsed
 fitting channel s rec =
     cond (eqb (length s) (start rec + size rec))
-    (cond (eqb (number_at s 1) channel)
+    (cond (eqb (numberAt s 1) channel)
     (cond (isTyped rec s) (Parsed.Read rec) (Parsed.Refused BadType))
     (Parsed.Refused OtherChannel))
     (Parsed.Refused BadLength)
@@ -99,14 +99,14 @@ unfoldable pub write : (channel : ℕ) → Record → (payload buffer : List ℕ
 write channel rec payload buffer =
     cond (leb (start rec + size rec) (length buffer))
     (cond (eqb (length payload) (size rec))
-    (writtenAfter (Written.Bytes (start rec + size rec)) (bytes_of channel rec payload ++ drop (start rec + size rec) buffer))
+    (writtenAfter (Written.Bytes (start rec + size rec)) (bytesOf channel rec payload ++ drop (start rec + size rec) buffer))
     (writtenAfter (Written.Refused BadLength) buffer))
     (writtenAfter (Written.Refused BufferShort) buffer)
 
 -- the record at the buffer's start, with its payload from byte 13 on of the buffer
 unfoldable pub laidRecord : (channel : ℕ) → Record → List ℕ → List ℕ
 laidRecord channel rec buffer =
-    bytes_of channel rec (take (size rec) (drop 13 buffer)) ++ drop (start rec + size rec) buffer
+    bytesOf channel rec (take (size rec) (drop 13 buffer)) ++ drop (start rec + size rec) buffer
 
 -- 25 where the buffer has no room for the payload there
 unfoldable pub lay : (channel : ℕ) → Record → List ℕ → WrittenAfter

@@ -13,9 +13,9 @@ use Rattle.codec.specs.declared.Parsed.{Parsed}
 use Rattle.codec.specs.declared.Record.{Record}
 use Rattle.codec.specs.declared.Record.TheVariants.{Adjust, Data, Extended, Eof, Close}
 use Rattle.codec.specs.declared.Written.TheVariants as Written
-use Rattle.octets.specs.Bytes.{be32, number_at}
+use Rattle.octets.specs.Bytes.{be32, numberAt}
 use Rattle.octets.specs.BytesLaws.{number-written, number_fits, peel}
-use Rattle.codec.specs.Codec.{header, start, size, Fits, bytes_of, kinded, isTyped, fitting, checked, read, writtenAfter, write, laidRecord, lay}
+use Rattle.codec.specs.Codec.{header, start, size, Fits, bytesOf, kinded, isTyped, fitting, checked, read, writtenAfter, write, laidRecord, lay}
 
 pub header-length : (channel : ℕ) (rec : Record) → length (header channel rec) ≡ start rec
 unfolding header
@@ -29,16 +29,16 @@ header-length channel Close = refl
 
 -- the record's kind, and its number where its kind has one
 abbrev pub IsKind : (kind : ℕ) → List ℕ → Record → Type 0
-IsKind kind s (Adjust units) = (kind ≡ 93) × (number_at s 5 ≡ units)
-IsKind kind s (Data n) = (kind ≡ 94) × (number_at s 5 ≡ n)
-IsKind kind s (Extended n) = (kind ≡ 95) × (number_at s 9 ≡ n)
+IsKind kind s (Adjust units) = (kind ≡ 93) × (numberAt s 5 ≡ units)
+IsKind kind s (Data n) = (kind ≡ 94) × (numberAt s 5 ≡ n)
+IsKind kind s (Extended n) = (kind ≡ 95) × (numberAt s 9 ≡ n)
 IsKind kind s Eof = kind ≡ 96
 IsKind kind s Close = kind ≡ 97
 
 pub record Holds (channel : ℕ) (s : List ℕ) (rec : Record) : Type 0 where
   pub kind : IsKind (get_or s 0 0) s rec
   pub whole : length s ≡ start rec + size rec
-  pub mine : number_at s 1 ≡ channel
+  pub mine : numberAt s 1 ≡ channel
   pub typed : isTyped rec s ≡ true
 
 pub start-least : (rec : Record) → 5 ≤ start rec
@@ -87,9 +87,9 @@ unfolding kinded
 kinded-is k s rec =
     let P = IsKind k s rec in
     let found : (r : Record) → IsKind k s r → Parsed.Read r ≡ Parsed.Read rec → P = λ r i h. subst (λ (x : Record). IsKind k s x) (same r rec h) i in
-    pick P (eqb k 93) _ _ rec (λ b. found (Adjust (number_at s 5)) (eqb-true k 93 b, refl))
-    (λ _. pick P (eqb k 94) _ _ rec (λ b. found (Data (number_at s 5)) (eqb-true k 94 b, refl))
-    (λ _. pick P (eqb k 95) _ _ rec (λ b. found (Extended (number_at s 9)) (eqb-true k 95 b, refl))
+    pick P (eqb k 93) _ _ rec (λ b. found (Adjust (numberAt s 5)) (eqb-true k 93 b, refl))
+    (λ _. pick P (eqb k 94) _ _ rec (λ b. found (Data (numberAt s 5)) (eqb-true k 94 b, refl))
+    (λ _. pick P (eqb k 95) _ _ rec (λ b. found (Extended (numberAt s 9)) (eqb-true k 95 b, refl))
     (λ _. pick P (eqb k 96) _ _ rec (λ b. found Eof (eqb-true k 96 b))
     (λ _. pick P (eqb k 97) _ _ rec (λ b. found Close (eqb-true k 97 b)) (λ _. never _ rec)))))
 
@@ -98,7 +98,7 @@ unfolding fitting
 holds-fitting channel s r rec k =
     let P = Holds channel s rec in
     pick P (eqb (length s) (start r + size r)) _ _ rec
-    (λ l. pick P (eqb (number_at s 1) channel) _ _ rec
+    (λ l. pick P (eqb (numberAt s 1) channel) _ _ rec
     (λ m. pick P (isTyped r s) _ _ rec
     (λ t h. subst (λ (x : Record). Holds channel s x) (same r rec h) (record { kind = k; whole = eqb-true _ _ l; mine = eqb-true _ _ m; typed = t }))
     (λ _. never _ rec))
@@ -118,13 +118,13 @@ read_is channel s rec =
 
 -- ---- what is written holds the record
 
-written-length : (channel : ℕ) (rec : Record) (payload : List ℕ) → length payload ≡ size rec → length (bytes_of channel rec payload) ≡ start rec + size rec
-unfolding bytes_of
+written-length : (channel : ℕ) (rec : Record) (payload : List ℕ) → length payload ≡ size rec → length (bytesOf channel rec payload) ≡ start rec + size rec
+unfolding bytesOf
 written-length channel rec payload e = simp length-append (omega (arith, header-length channel rec))
 
 pub holds-written : (channel : ℕ) (rec : Record) (payload : List ℕ) → channel < 2 ^ 32 → Fits rec → length payload ≡ size rec
-    → Holds channel (bytes_of channel rec payload) rec
-unfolding bytes_of header
+    → Holds channel (bytesOf channel rec payload) rec
+unfolding bytesOf header
 holds-written channel (Adjust units) payload known fits e = record {
   kind = (refl, number-written (93 ∷ be32 channel) payload units fits);
   whole = written-length channel (Adjust units) payload e;
@@ -159,14 +159,14 @@ holds-written channel Close payload known fits e = record {
 -- ---- bytes that hold a record are those that are written for it
 
 module _ (channel : ℕ) (s : List ℕ) (bytes : (i : ℕ) → get_or s i 0 < 256) where
-  front : (k : ℕ) → get_or s 0 0 ≡ k → number_at s 1 ≡ channel → 5 ≤ length s → k ∷ (be32 channel ++ drop 5 s) ≡ s
+  front : (k : ℕ) → get_or s 0 0 ≡ k → numberAt s 1 ≡ channel → 5 ≤ length s → k ∷ (be32 channel ++ drop 5 s) ≡ s
   front k e mine h =
       ap (λ (t : List ℕ). k ∷ t) (sym (peel s bytes 1 channel h mine))
       ∙ ap (λ (x : ℕ). x ∷ drop 1 s) (sym e)
       ∙ sym (drop-cons s 0 0 (omega arith))
 
-  pub written-again : (rec : Record) → Holds channel s rec → bytes_of channel rec (drop (start rec) s) ≡ s
-  unfolding bytes_of header
+  pub written-again : (rec : Record) → Holds channel s rec → bytesOf channel rec (drop (start rec) s) ≡ s
+  unfolding bytesOf header
   written-again (Adjust units) h =
       ap (λ (t : List ℕ). 93 ∷ (be32 channel ++ t)) (sym (peel s bytes 5 units (omega arith) h.kind.1))
       ∙ front 93 h.kind.0 h.mine (omega arith)
@@ -192,8 +192,8 @@ module _ (channel : ℕ) (s : List ℕ) (bytes : (i : ℕ) → get_or s i 0 < 25
 -- the header laid before n bytes that were copied to where the payload begins
 pub header-laid : (channel : ℕ) (rec : Record) (b src : List ℕ) (from n : ℕ) → start rec ≤ length b
     → header channel rec ++ drop (start rec) (copied b (start rec) src from n)
-    ≡ bytes_of channel rec (take n (drop from src)) ++ drop (start rec + n) b
-unfolding bytes_of
+    ≡ bytesOf channel rec (take n (drop from src)) ++ drop (start rec + n) b
+unfolding bytesOf
 header-laid channel rec b src from n h =
     ap (λ (x : List ℕ). header channel rec ++ x) (copied-drop b (start rec) src from n h)
     ∙ sym (append_assoc (header channel rec) (take n (drop from src)) (drop (start rec + n) b))

@@ -6,21 +6,21 @@ use Rattle.std.proofs.Math.Seq.{take_at}
 use Rattle.codec.specs.declared.Parsed.TheVariants as Parsed
 use Rattle.codec.specs.declared.Record.{Record}
 use Rattle.octets.specs.BytesLaws.{number_fits}
-use Rattle.codec.specs.Codec.{header, start, size, Fits, bytes_of, read, laidRecord}
+use Rattle.codec.specs.Codec.{header, start, size, Fits, bytesOf, read, laidRecord}
 use Rattle.codec.specs.CodecLaws.{header-length, holds-written, read_of, read_is, written-again, held_fits}
 
 -- WRITTEN, THEN READ
 pub back : (channel : ℕ) (rec : Record) (payload : List ℕ) → channel < 2 ^ 32 → Fits rec → length payload ≡ size rec
-    → read channel (bytes_of channel rec payload) ≡ Parsed.Read rec
+    → read channel (bytesOf channel rec payload) ≡ Parsed.Read rec
 back channel rec payload known fits e = read_of channel _ rec (holds-written channel rec payload known fits e)
 
-pub payload-back : (channel : ℕ) (rec : Record) (payload : List ℕ) → drop (start rec) (bytes_of channel rec payload) ≡ payload
-unfolding bytes_of
+pub payload-back : (channel : ℕ) (rec : Record) (payload : List ℕ) → drop (start rec) (bytesOf channel rec payload) ≡ payload
+unfolding bytesOf
 payload-back channel rec payload = drop_at (header channel rec) payload (start rec) (header-length channel rec)
 
 -- READ, THEN WRITTEN; and what was read meets what `back` asks
 module _ (channel : ℕ) (s : List ℕ) (rec : Record) (bytes : (i : ℕ) → get_or s i 0 < 256) (accepted : read channel s ≡ Parsed.Read rec) where
-  pub forth : bytes_of channel rec (drop (start rec) s) ≡ s
+  pub forth : bytesOf channel rec (drop (start rec) s) ≡ s
   forth = written-again channel s bytes rec (read_is channel s rec accepted)
 
   pub forth-channel : channel < 2 ^ 32
@@ -39,8 +39,8 @@ module _ (channel : ℕ) (rec : Record) (b : List ℕ) (room : 13 + size rec ≤
   payload-length = length-take-le (size rec) (drop 13 b) (simp length-drop (omega arith))
 
   -- its bytes stand at the buffer's start
-  pub laid-front : take (start rec + size rec) (laidRecord channel rec b) ≡ bytes_of channel rec (take (size rec) (drop 13 b))
-  unfolding laidRecord bytes_of
+  pub laid-front : take (start rec + size rec) (laidRecord channel rec b) ≡ bytesOf channel rec (take (size rec) (drop 13 b))
+  unfolding laidRecord bytesOf
   laid-front =
       take_at (header channel rec ++ take (size rec) (drop 13 b)) (drop (start rec + size rec) b) (start rec + size rec)
       (simp (length-append, header-length channel rec, payload-length))

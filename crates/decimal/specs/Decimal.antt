@@ -49,6 +49,6 @@ digitsBefore (suc k) n t = cond (ltb n 10) ((48 + n) ∷ t) (digitsBefore k (n /
 unfoldable pub digitsOf : (n : ℕ) → List ℕ
 digitsOf n = digitsBefore n n []
 
-unfoldable pub signed_of : (n : ℤ) → List ℕ
-signed_of (pos n) = digitsOf n
-signed_of (negsuc n) = 45 ∷ digitsOf (suc n)
+unfoldable pub signedOf : (n : ℤ) → List ℕ
+signedOf (pos n) = digitsOf n
+signedOf (negsuc n) = 45 ∷ digitsOf (suc n)

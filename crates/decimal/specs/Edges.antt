@@ -1,7 +1,7 @@
 -- Small examples, computed from the definitions: what is a number, and what is just not.
 use Rattle.std.specs.Prelude.{◌≡◌, refl, [], ◌∷◌, pos, negsuc}
 use Rattle.std.proofs.Math.Option.{none, some}
-use Rattle.decimal.specs.Decimal.{areDigits, valueFrom, numberFrom, number, signed, digitsBefore, digitsOf, signed_of}
+use Rattle.decimal.specs.Decimal.{areDigits, valueFrom, numberFrom, number, signed, digitsBefore, digitsOf, signedOf}
 
 -- ---- numbers: none, with zeros in front, the most and one more, a blank, a sign
 empty : number 255 [] ≡ none
@@ -63,6 +63,6 @@ written : digitsOf 105 ≡ 49 ∷ 48 ∷ 53 ∷ []
 unfolding digitsOf digitsBefore
 written = refl
 
-written-minus : signed_of (negsuc 9) ≡ 45 ∷ 49 ∷ 48 ∷ []
-unfolding signed_of digitsOf digitsBefore
+written-minus : signedOf (negsuc 9) ≡ 45 ∷ 49 ∷ 48 ∷ []
+unfolding signedOf digitsOf digitsBefore
 written-minus = refl

@@ -4,7 +4,7 @@ use Rattle.std.proofs.Common.{ap, ◌∙◌, arith, lt_trans, lit<, lt-ltb, le-l
 use Rattle.std.proofs.Math.Option.{some}
 use Rattle.std.proofs.Math.Decide.{dec_lt}
 use Rattle.std.specs.Int.Signed.{mag}
-use Rattle.decimal.specs.Decimal.{isDigit, areDigits, valueFrom, numberFrom, number, startsMinus, signed, digitsBefore, digitsOf, signed_of}
+use Rattle.decimal.specs.Decimal.{isDigit, areDigits, valueFrom, numberFrom, number, startsMinus, signed, digitsBefore, digitsOf, signedOf}
 use Rattle.ring.specs.Flags.{and_l}
 use Rattle.decimal.specs.DecimalLaws.{number-from, count-least, count_most}
 
@@ -73,8 +73,8 @@ first-digit (b ∷ s) h d =
     ne_eqb b 45 (omega arith)
 
 -- every i32 that is written is read back
-pub signed_back : (n : ℤ) → mag n < 2147483648 → signed (signed_of n) ≡ some n
-unfolding signed signed_of digitsOf areDigits
+pub signed_back : (n : ℤ) → mag n < 2147483648 → signed (signedOf n) ≡ some n
+unfolding signed signedOf digitsOf areDigits
 signed_back (pos n) h =
     rw
     (first-digit (digitsOf n) (count-least n) (before-digits n n [] (omega arith)), number-back 2147483647 n (omega arith))

@@ -5,7 +5,7 @@ use Rattle.std.proofs.lemmas.Bool.{false≢true}
 use Rattle.std.proofs.Math.Option.{Option, none, some, map}
 use Rattle.ring.specs.Runs.{copied}
 use Rattle.ring.specs.Lent.{copied-join}
-use Rattle.decimal.specs.Decimal.{areDigits, valueFrom, numberFrom, number, startsMinus, signed, digitsOf, signed_of}
+use Rattle.decimal.specs.Decimal.{areDigits, valueFrom, numberFrom, number, startsMinus, signed, digitsOf, signedOf}
 use Rattle.ring.specs.Flags.{and_r}
 use Rattle.decimal.specs.DecimalLaws.{count_most}
 use Rattle.decimal.specs.Answers.{maybeNumber, maybeSigned, AtMost, positive, negative}
@@ -60,14 +60,14 @@ signed-plus s h = rw h (plus-map (number 2147483647 s))
 
 joined : (d : List ℕ) (at m : ℕ) → at + 1 + length (digitsOf (suc m)) ≤ length d
     → copied (copied d at (45 ∷ []) 0 1) (at + 1) (digitsOf (suc m)) 0 (length (digitsOf (suc m)))
-    ≡ copied d at (signed_of (negsuc m)) 0 (length (signed_of (negsuc m)))
-unfolding signed_of
+    ≡ copied d at (signedOf (negsuc m)) 0 (length (signedOf (negsuc m)))
+unfolding signedOf
 joined d at m room =
     let p = digitsOf (suc m) in
     copied-join d at (45 ∷ []) p 1 (length p) refl refl room ∙ ap (copied d at (45 ∷ p) 0) (omega arith)
 
-count-minus : (m : ℕ) → length (signed_of (negsuc m)) ≡ 1 + length (digitsOf (suc m))
-unfolding signed_of
+count-minus : (m : ℕ) → length (signedOf (negsuc m)) ≡ 1 + length (digitsOf (suc m))
+unfolding signedOf
 count-minus m = omega arith
 
 -- z behind its minus: d with the minus, then with the digits of g, which z is without it
@@ -76,21 +76,21 @@ module _ (z : ℤ) (m g : ℕ) (is : z ≡ negsuc m) (most : m < 2147483648) (ab
   digits = abs ∙ ap nat_abs is
 
   pub written-minus : (d p w : List ℕ) (at : ℕ) → at + 21 ≤ length d → p ≡ copied d at (45 ∷ []) 0 1
-      → w ≡ copied p (at + 1) (digitsOf g) 0 (length (digitsOf g)) → w ≡ copied d at (signed_of z) 0 (length (signed_of z))
+      → w ≡ copied p (at + 1) (digitsOf g) 0 (length (digitsOf g)) → w ≡ copied d at (signedOf z) 0 (length (signedOf z))
   written-minus d p w at room first then =
       then
       ∙ ap (λ (x : List ℕ). copied x (at + 1) (digitsOf g) 0 (length (digitsOf g))) first
       ∙ ap (λ (x : ℕ). copied (copied d at (45 ∷ []) 0 1) (at + 1) (digitsOf x) 0 (length (digitsOf x))) digits
       ∙ joined d at m (omega (arith, count_most 9 (suc m) (omega arith)))
-      ∙ ap (λ (x : ℤ). copied d at (signed_of x) 0 (length (signed_of x))) (sym is)
+      ∙ ap (λ (x : ℤ). copied d at (signedOf x) 0 (length (signedOf x))) (sym is)
 
-  pub end-minus : (r at : ℕ) → r ≡ at + 1 + length (digitsOf g) → r ≡ at + length (signed_of z)
+  pub end-minus : (r at : ℕ) → r ≡ at + 1 + length (digitsOf g) → r ≡ at + length (signedOf z)
   end-minus r at h =
       let e = ap (λ (x : ℕ). length (digitsOf x)) digits in
-      let f = ap (λ (x : ℤ). length (signed_of x)) is in
+      let f = ap (λ (x : ℤ). length (signedOf x)) is in
       omega (arith, count-minus m)
 
 -- and without one
-pub plain : (z : ℤ) (m g : ℕ) → z ≡ pos m → g ≡ nat_abs z → digitsOf g ≡ signed_of z
-unfolding signed_of
-plain z m g is abs = ap digitsOf (abs ∙ ap nat_abs is) ∙ ap signed_of (sym is)
+pub plain : (z : ℤ) (m g : ℕ) → z ≡ pos m → g ≡ nat_abs z → digitsOf g ≡ signedOf z
+unfolding signedOf
+plain z m g is abs = ap digitsOf (abs ∙ ap nat_abs is) ∙ ap signedOf (sym is)

@@ -3,7 +3,7 @@
 
 ghost use Rattle.std.specs.Prelude.{◌≡◌, [], ◌∷◌, ◌+◌, ◌-◌, ◌≤◌, ◌<◌, length, pos, neg_ℤ, nat_abs};
 ghost use Rattle.ring.specs.Runs.{copied};
-ghost use Rattle.decimal.specs.Decimal.{takes, number, startsMinus, signed, digitsOf, signed_of};
+ghost use Rattle.decimal.specs.Decimal.{takes, number, startsMinus, signed, digitsOf, signedOf};
 ghost use Rattle.decimal.specs.Answers.{maybeNumber, maybeSigned, AtMost, positive, negative};
 
 #[derive(Clone, Copy)]
@@ -176,11 +176,11 @@ fn put_minus(out: &mut [u8], at: usize)
 }
 
 // Writes n, with a minus in front where it is negative, from index at on, and returns the index behind it.
-#[tactic(auto, unfolding(crate::specs::Decimal::signed_of))]
+#[tactic(auto, unfolding(crate::specs::Decimal::signedOf))]
 pub fn write_signed(n: i32, out: &mut [u8], at: usize) -> usize
     requires { at + 21 ≤ length out.old }
-    ensures out_after { out.new ≡ copied out.old at (signed_of n) 0 (length (signed_of n)) }
-    ensures value { result ≡ at + length (signed_of n) }
+    ensures out_after { out.new ≡ copied out.old at (signedOf n) 0 (length (signedOf n)) }
+    ensures value { result ≡ at + length (signedOf n) }
 {
     if n < 0 {
         put_minus(out, at);

@@ -9,12 +9,12 @@ use borrow.Author.Tests.{le-leb}
 use Rattle.exec.specs.declared.MaybeStatus.{MaybeStatus}
 use Rattle.codec.specs.declared.Record.TheVariants.{Close}
 use Rattle.codec.specs.declared.Written.{Written}
-use Rattle.codec.specs.Codec.{bytes_of, WrittenAfter, writtenAfter, write}
+use Rattle.codec.specs.Codec.{bytesOf, WrittenAfter, writtenAfter, write}
 use Rattle.exits.specs.Exit.{requestOf, ending, closed}
 use Rattle.exits.specs.ExitLaws.{ending-length}
 
 close-written : (channel : ℕ) (t : List ℕ) → 5 ≤ length t
-    → write channel Close [] t ≡ writtenAfter (Written.Bytes 5) (bytes_of channel Close [] ++ drop 5 t)
+    → write channel Close [] t ≡ writtenAfter (Written.Bytes 5) (bytesOf channel Close [] ++ drop 5 t)
 unfolding write
 close-written channel t h = simp (le-leb 5 (length t) h)
 
@@ -25,7 +25,7 @@ pub close-laid : (channel : ℕ) (status : MaybeStatus) (d b : List ℕ) (n : �
 unfolding closed ending
 close-laid channel status d b n w p room m e h =
     let q : List ℕ = requestOf channel status in
-    let c : List ℕ = bytes_of channel Close [] in
+    let c : List ℕ = bytesOf channel Close [] in
     let t : List ℕ = drop (length q) d in
     let front : take n b ≡ q = ap (take n) e ∙ take_at q t n (sym m.0) in
     let rest : drop n b ≡ t = ap (drop n) e ∙ drop_at q t n (sym m.0) in

@@ -11,7 +11,7 @@ use Rattle.octets.specs.BytesLaws.{laid-first, laid-behind}
 use Rattle.ring.specs.Lent.{copied-join}
 use Rattle.ring.specs.Runs.{copied}
 use Rattle.exits.specs.declared.signals.Signal.{Signal}
-use Rattle.exits.specs.Signals.{name_of}
+use Rattle.exits.specs.Signals.{nameOf}
 use Rattle.exits.specs.SignalLaws.{Fit}
 use Rattle.exits.specs.Exit.{string, head, named}
 
@@ -42,15 +42,15 @@ head-laid d channel name b₀ b₁ b₂ b₃ eleven room e₀ e₁ e₂ e₃ =
 -- the length of a name and the name behind the head
 pub name-laid : (d : List ℕ) (channel : ℕ) (x : Signal) (b₀ b₁ : List ℕ) → Fit x → 29 ≤ length d
     → b₀ ≡ head channel (bytes "exit-signal") ++ drop 21 d → b₁ ≡ copied b₀ 21 (be32 x.length) 0 4
-    → copied b₁ 25 x.name 0 x.length ≡ (head channel (bytes "exit-signal") ++ string (name_of x)) ++ drop (25 + x.length) d
+    → copied b₁ 25 x.name 0 x.length ≡ (head channel (bytes "exit-signal") ++ string (nameOf x)) ++ drop (25 + x.length) d
 unfolding bytes
 name-laid d channel x b₀ b₁ fit room e₀ e₁ =
     let p = head channel (bytes "exit-signal") in
-    let l : length (name_of x) ≡ x.length = length-take-le x.length x.name (omega (arith, fit.0, fit.1)) in
+    let l : length (nameOf x) ≡ x.length = length-take-le x.length x.name (omega (arith, fit.0, fit.1)) in
     let e₂ = e₁ ∙ laid_next d b₀ p (be32 x.length) 21 4 e₀ refl refl (omega arith) in
     copied_take b₁ 25 x.name x.length (omega (arith, fit.0, fit.1))
-    ∙ laid_next d b₁ (p ++ be32 x.length) (name_of x) 25 x.length e₂ refl l (omega (arith, fit.0))
-    ∙ ap (λ (n : ℕ). (p ++ (be32 n ++ name_of x)) ++ drop (25 + x.length) d) (sym l)
+    ∙ laid_next d b₁ (p ++ be32 x.length) (nameOf x) 25 x.length e₂ refl l (omega (arith, fit.0))
+    ∙ ap (λ (n : ℕ). (p ++ (be32 n ++ nameOf x)) ++ drop (25 + x.length) d) (sym l)
 
 -- what stands behind a name, in three parts
 pub nothing-laid : (d : List ℕ) (at : ℕ) (b₀ b₁ : List ℕ) → at + 9 ≤ length d → b₀ ≡ copied d at (0 ∷ []) 0 1 → b₁ ≡ copied b₀ (at + 1) (be32 0) 0 4
@@ -61,11 +61,11 @@ nothing-laid d at b₀ b₁ room e₀ e₁ =
     ∙ copied-join d at (0 ∷ be32 0) (be32 0) 5 4 refl refl (omega arith)
 
 pub signal-laid : (d : List ℕ) (channel : ℕ) (x : Signal) (b : List ℕ) → Fit x → 38 ≤ length d
-    → b ≡ (head channel (bytes "exit-signal") ++ string (name_of x)) ++ drop (25 + x.length) d
+    → b ≡ (head channel (bytes "exit-signal") ++ string (nameOf x)) ++ drop (25 + x.length) d
     → copied b (25 + x.length) (0 ∷ string [] ++ string []) 0 9 ≡ named channel x ++ drop (34 + x.length) d
 unfolding bytes
 signal-laid d channel x b fit room e =
-    let p = head channel (bytes "exit-signal") ++ string (name_of x) in
-    let l : length (name_of x) ≡ x.length = length-take-le x.length x.name (omega (arith, fit.0, fit.1)) in
+    let p = head channel (bytes "exit-signal") ++ string (nameOf x) in
+    let l : length (nameOf x) ≡ x.length = length-take-le x.length x.name (omega (arith, fit.0, fit.1)) in
     let n : 25 + x.length + 9 ≡ 34 + x.length = omega arith in
     rw n at (laid_next d b p (0 ∷ string [] ++ string []) (25 + x.length) 9 e (simp length-append (omega (arith, l))) refl (omega (arith, fit.0)))

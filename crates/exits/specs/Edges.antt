@@ -9,12 +9,12 @@ use Rattle.exec.specs.declared.Status.{Status}
 use Rattle.exec.specs.declared.Status.TheVariants.{Exited, Signaled}
 use Rattle.exec.specs.Refusal.{number}
 use Rattle.ring.specs.Flags.{and_l, and_r}
-use Rattle.octets.specs.Bytes.{be32At, number_at}
+use Rattle.octets.specs.Bytes.{be32At, numberAt}
 use Rattle.octets.specs.Text.{bytes, same, same-is}
 use Rattle.codec.specs.declared.Written.TheVariants as Written
-use Rattle.codec.specs.Codec.{header, bytes_of, WrittenAfter, writtenAfter}
+use Rattle.codec.specs.Codec.{header, bytesOf, WrittenAfter, writtenAfter}
 use Rattle.exits.specs.declared.Told.{Told}
-use Rattle.exits.specs.Signals.{signals, find, is_number, name_of, signalOf, signalNamed, signalFor}
+use Rattle.exits.specs.Signals.{signals, find, isNumber, nameOf, signalOf, signalNamed, signalFor}
 use Rattle.exits.specs.SignalLaws.{find-any}
 use Rattle.exits.specs.Exit.{request, isTold, isUntold, ending, closed, close, guess, matching, isMine, read}
 
@@ -46,14 +46,14 @@ requests = (refl, refl, refl, refl)
 -- CLOSE stands directly behind, and a missing status has no request
 closing : (ending 5 (MaybeStatus.Some (Signaled (pos 2))) ≡ int-on-5 ++ (97 ∷ 0 ∷ 0 ∷ 0 ∷ 5 ∷ []))
     × (ending 5 MaybeStatus.None ≡ 97 ∷ 0 ∷ 0 ∷ 0 ∷ 5 ∷ [])
-unfolding ending bytes_of header request bytes signalFor signalOf find int-on-5
+unfolding ending bytesOf header request bytes signalFor signalOf find int-on-5
 closing = (refl, refl)
 
 -- ---- the table: thirteen numbers with their names
 
 named-so : ℕ → List ℕ
 unfolding signalOf find bytes
-named-so n = name_of (signalOf n)
+named-so n = nameOf (signalOf n)
 
 table : (named-so 1 ≡ bytes "HUP") × (named-so 2 ≡ bytes "INT") × (named-so 3 ≡ bytes "QUIT") × (named-so 4 ≡ bytes "ILL")
     × (named-so 6 ≡ bytes "ABRT") × (named-so 8 ≡ bytes "FPE") × (named-so 9 ≡ bytes "KILL") × (named-so 10 ≡ bytes "USR1")
@@ -65,7 +65,7 @@ table = (refl, refl, refl, refl, refl, refl, refl, refl, refl, refl, refl, refl,
 -- ---- how long an ending is: 5, 30, 42, 43
 
 long : MaybeStatus → ℕ
-unfolding ending bytes_of header request bytes signalFor signalOf find
+unfolding ending bytesOf header request bytes signalFor signalOf find
 long status = length (ending 0 status)
 
 after : ℕ → ℕ
@@ -99,7 +99,7 @@ among n (x ∷ xs) = eqb x n || among n xs
 
 pub signals-told : (n : ℕ) → isTold (Signaled (pos n)) ≡ among n (1 ∷ 2 ∷ 3 ∷ 4 ∷ 6 ∷ 8 ∷ 9 ∷ 10 ∷ 11 ∷ 12 ∷ 13 ∷ 14 ∷ 15 ∷ [])
 unfolding isTold signalFor signalOf bytes
-signals-told n = find-any (is_number n) signals refl
+signals-told n = find-any (isNumber n) signals refl
 
 pub none-negative : (n : ℕ) → isTold (Signaled (negsuc n)) ≡ false
 unfolding isTold signalFor
@@ -113,7 +113,7 @@ sevens zero = []
 sevens (suc n) = 7 ∷ sevens n
 
 closed_in : (room : ℕ) → MaybeStatus → WrittenAfter
-unfolding close closed isUntold isTold ending bytes_of header request bytes signalFor signalOf find sevens
+unfolding close closed isUntold isTold ending bytesOf header request bytes signalFor signalOf find sevens
 closed_in room status = close 5 status (sevens room)
 
 close-on-5 : List ℕ
@@ -139,7 +139,7 @@ short channel status b h = simp (lt-leb 43 (length b) h)
 -- ---- the reader, for channel 5: 20 (empty), 21, 22 from 5 bytes on, 41
 
 reads : List ℕ → Told
-unfolding read matching guess isTold request bytes signalFor signalOf signalNamed find same number_at be32At
+unfolding read matching guess isTold request bytes signalFor signalOf signalNamed find same numberAt be32At
 reads s = read 5 s
 
 -- exit-status with the channel's last byte, the byte that wants a reply, and the code's first and last
@@ -174,10 +174,10 @@ unfolding read
 other-kind channel k s h = simp (ne_eqb (length (k ∷ s)) 0 (omega arith), ne_eqb k 98 h)
 
 -- "22, which fewer than 5 bytes skip": from 5 bytes on bytes for another channel are 22, whatever stands behind it
-pub other-channel : (channel : ℕ) (s : List ℕ) → 5 ≤ length (98 ∷ s) → (number_at (98 ∷ s) 1 ≡ channel → ⊥) → read channel (98 ∷ s) ≡ Told.Refused OtherChannel
+pub other-channel : (channel : ℕ) (s : List ℕ) → 5 ≤ length (98 ∷ s) → (numberAt (98 ∷ s) 1 ≡ channel → ⊥) → read channel (98 ∷ s) ≡ Told.Refused OtherChannel
 unfolding read
 other-channel channel s h n =
-    simp (ne_eqb (length (98 ∷ s)) 0 (omega arith), le-ltb (length (98 ∷ s)) 5 h, ne_eqb (number_at (98 ∷ s) 1) channel n)
+    simp (ne_eqb (length (98 ∷ s)) 0 (omega arith), le-ltb (length (98 ∷ s)) 5 h, ne_eqb (numberAt (98 ∷ s) 1) channel n)
 
 unless : (b : Bool) (x y : Told) → (b ≡ true → ⊥) → cond b x y ≡ y
 unless true x y h = absurd (h refl)

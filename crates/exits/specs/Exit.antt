@@ -4,14 +4,14 @@ use Rattle.exec.specs.declared.MaybeStatus.{MaybeStatus}
 use Rattle.exec.specs.declared.Refusal.TheVariants.{BadLength, UnknownKind, OtherChannel, BufferShort, UntoldStatus, BadRequest}
 use Rattle.exec.specs.declared.Status.{Status}
 use Rattle.exec.specs.declared.Status.TheVariants.{Exited, Signaled}
-use Rattle.octets.specs.Bytes.{be32, number_at}
+use Rattle.octets.specs.Bytes.{be32, numberAt}
 use Rattle.octets.specs.Text.{bytes, same}
 use Rattle.codec.specs.declared.Record.TheVariants.{Close}
 use Rattle.codec.specs.declared.Written.TheVariants as Written
-use Rattle.codec.specs.Codec.{bytes_of, WrittenAfter, writtenAfter}
+use Rattle.codec.specs.Codec.{bytesOf, WrittenAfter, writtenAfter}
 use Rattle.exits.specs.declared.Told.{Told}
 use Rattle.exits.specs.declared.signals.Signal.{Signal}
-use Rattle.exits.specs.Signals.{name_of, signalNamed, signalFor}
+use Rattle.exits.specs.Signals.{nameOf, signalNamed, signalFor}
 
 -- ---- the request of a status
 
@@ -25,7 +25,7 @@ head channel name = 98 ∷ be32 channel ++ string name ++ 0 ∷ []
 
 -- behind it a signal's name, a false byte (no core was dumped), no error message and no language
 abbrev pub named : (channel : ℕ) → Signal → List ℕ
-named channel x = head channel (bytes "exit-signal") ++ string (name_of x) ++ (0 ∷ string [] ++ string [])
+named channel x = head channel (bytes "exit-signal") ++ string (nameOf x) ++ (0 ∷ string [] ++ string [])
 
 -- or the code
 unfoldable pub request : (channel : ℕ) → Status → List ℕ
@@ -52,7 +52,7 @@ isUntold (MaybeStatus.Some status) = not (isTold status)
 
 -- the request, and CLOSE directly behind it
 unfoldable pub ending : (channel : ℕ) → MaybeStatus → List ℕ
-ending channel status = requestOf channel status ++ bytes_of channel Close []
+ending channel status = requestOf channel status ++ bytesOf channel Close []
 
 -- both at the buffer's start, and nothing else is written
 unfoldable pub closed : (channel : ℕ) → MaybeStatus → List ℕ → WrittenAfter
@@ -76,7 +76,7 @@ nameIn s = take (length s - 34) (drop 25 s)
 
 -- the only status that bytes can tell, by their length
 unfoldable pub guess : List ℕ → Status
-guess s = cond (eqb (length s) 25) (Exited (pos (number_at s 21))) (Signaled (pos (signalNamed (nameIn s)).number))
+guess s = cond (eqb (length s) 25) (Exited (pos (numberAt s 21))) (Signaled (pos (signalNamed (nameIn s)).number))
 
 -- bytes tell a status where they are its request, and no others
 unfoldable pub matching : (channel : ℕ) → List ℕ → Status → Told
@@ -84,7 +84,7 @@ matching channel s status = cond (isTold status && same (request channel status)
 
 -- bytes are for the channel, as far as they name one
 abbrev pub isMine : (channel : ℕ) → List ℕ → Bool
-isMine channel s = ltb (length s) 5 || eqb (number_at s 1) channel
+isMine channel s = ltb (length s) 5 || eqb (numberAt s 1) channel
 
 unfoldable pub read : (channel : ℕ) → List ℕ → Told
 read channel s =

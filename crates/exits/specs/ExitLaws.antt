@@ -6,15 +6,15 @@ use Rattle.exec.specs.declared.Status.{Status}
 use Rattle.exec.specs.declared.Status.TheVariants.{Exited, Signaled}
 use Rattle.octets.specs.Text.{bytes}
 use Rattle.codec.specs.declared.Record.TheVariants.{Close}
-use Rattle.codec.specs.Codec.{bytes_of, header}
+use Rattle.codec.specs.Codec.{bytesOf, header}
 use Rattle.exits.specs.Signals.{signalFor}
 use Rattle.exits.specs.SignalLaws.{signal-fit}
 use Rattle.exits.specs.Exit.{request, isUntold, requestOf, ending, closed, close}
 
 -- an ending has 5 bytes more than its request
 pub ending-length : (channel : ℕ) (status : MaybeStatus) → length (requestOf channel status) + 5 ≡ length (ending channel status)
-unfolding ending bytes_of header
-ending-length channel status = sym (length-append (requestOf channel status) (bytes_of channel Close []))
+unfolding ending bytesOf header
+ending-length channel status = sym (length-append (requestOf channel status) (bytesOf channel Close []))
 
 -- and at most 43
 request-bound : (channel : ℕ) (status : Status) → length (request channel status) ≤ 38

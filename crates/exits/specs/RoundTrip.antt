@@ -9,17 +9,17 @@ use Rattle.exec.specs.declared.Refusal.{Refusal}
 use Rattle.exec.specs.declared.Status.{Status}
 use Rattle.exec.specs.declared.Status.TheVariants.{Exited, Signaled}
 use Rattle.ring.specs.Flags.{and_l, and_r}
-use Rattle.octets.specs.Bytes.{be32, number_at}
+use Rattle.octets.specs.Bytes.{be32, numberAt}
 use Rattle.octets.specs.BytesLaws.{number-written}
 use Rattle.octets.specs.Text.{bytes, same, same_refl, same-is}
 use Rattle.codec.specs.declared.Parsed.TheVariants as Parsed
 use Rattle.codec.specs.declared.Record.TheVariants.{Close}
 use Rattle.codec.specs.Codec as Codec
-use Rattle.codec.specs.Codec.{bytes_of, header}
+use Rattle.codec.specs.Codec.{bytesOf, header}
 use Rattle.codec.specs.RoundTrip as Records
 use Rattle.exits.specs.declared.Told.{Told}
 use Rattle.exits.specs.declared.signals.Signal.{Signal}
-use Rattle.exits.specs.Signals.{name_of, signalOf, signalFor, signalNamed}
+use Rattle.exits.specs.Signals.{nameOf, signalOf, signalFor, signalNamed}
 use Rattle.exits.specs.SignalLaws.{name-number}
 use Rattle.exits.specs.ExitLaws.{ending-length}
 use Rattle.exits.specs.Exit.{string, head, named, request, isTold, isUntold, requestOf, ending, nameIn, guess, matching, isMine, read}
@@ -61,16 +61,16 @@ coded channel code h =
     ap (λ (n : ℕ). Exited (pos n)) (number-written (head channel (bytes "exit-status")) [] code h)
 
 -- the name stands between byte 25 and the last 9
-name_back : (channel : ℕ) (x : Signal) → nameIn (named channel x) ≡ name_of x
+name_back : (channel : ℕ) (x : Signal) → nameIn (named channel x) ≡ nameOf x
 unfolding bytes
 name_back channel x =
-    let k : length (named channel x) - 34 ≡ length (name_of x) = simp length-append (omega arith) in
-    ap (λ (n : ℕ). take n (name_of x ++ (0 ∷ string [] ++ string []))) k ∙ take_at (name_of x) (0 ∷ string [] ++ string []) (length (name_of x)) refl
+    let k : length (named channel x) - 34 ≡ length (nameOf x) = simp length-append (omega arith) in
+    ap (λ (n : ℕ). take n (nameOf x ++ (0 ∷ string [] ++ string []))) k ∙ take_at (nameOf x) (0 ∷ string [] ++ string []) (length (nameOf x)) refl
 
 longer : (channel : ℕ) (x : Signal) → eqb (length (named channel x)) 25 ≡ false
 unfolding bytes
 longer channel x =
-    let l : length (named channel x) ≡ 34 + length (name_of x) = simp length-append (omega arith) in
+    let l : length (named channel x) ≡ 34 + length (nameOf x) = simp length-append (omega arith) in
     ne_eqb (length (named channel x)) 25 (λ (e : length (named channel x) ≡ 25). omega (arith, l, e))
 
 signalled : (channel n : ℕ) → ltb 0 (signalOf n).length ≡ true → guess (request channel (Signaled (pos n))) ≡ Signaled (pos n)
@@ -101,7 +101,7 @@ back channel status h t =
     let l : length (request channel status) ≡ length (98 ∷ (be32 channel ++ f.0)) = ap length f.1 in
     let some : eqb (length (request channel status)) 0 ≡ false = ne_eqb (length (request channel status)) 0 (omega (arith, l)) in
     let kind : eqb (get_or (request channel status) 0 0) 98 ≡ true = rw f.1 refl in
-    let mine : eqb (number_at (request channel status) 1) channel ≡ true = rw f.1 (eq-eqb (number_at (98 ∷ (be32 channel ++ f.0)) 1) channel (number-written (98 ∷ []) f.0 channel h)) in
+    let mine : eqb (numberAt (request channel status) 1) channel ≡ true = rw f.1 (eq-eqb (numberAt (98 ∷ (be32 channel ++ f.0)) 1) channel (number-written (98 ∷ []) f.0 channel h)) in
     rw (some, kind, mine, or-true, guessed channel status t, t, same_refl (request channel status)) refl
 
 -- ---- an ending, cut where its last 5 bytes begin
@@ -116,16 +116,16 @@ unfolding isUntold
 tells channel MaybeStatus.None h t = refl
 tells channel (MaybeStatus.Some status) h t = back channel status h (not-false (isTold status) t)
 
-close-reads : (channel : ℕ) → channel < 2 ^ 32 → Codec.read channel (bytes_of channel Close []) ≡ Parsed.Read Close
+close-reads : (channel : ℕ) → channel < 2 ^ 32 → Codec.read channel (bytesOf channel Close []) ≡ Parsed.Read Close
 close-reads channel h = Records.back channel Close [] h (omega arith) refl
 
-five : (channel : ℕ) (rest : List ℕ) → take 5 (bytes_of channel Close [] ++ rest) ≡ bytes_of channel Close []
-unfolding bytes_of header
+five : (channel : ℕ) (rest : List ℕ) → take 5 (bytesOf channel Close [] ++ rest) ≡ bytesOf channel Close []
+unfolding bytesOf header
 five channel rest = refl
 
-joined : (channel : ℕ) (status : MaybeStatus) (rest : List ℕ) → ending channel status ++ rest ≡ requestOf channel status ++ (bytes_of channel Close [] ++ rest)
+joined : (channel : ℕ) (status : MaybeStatus) (rest : List ℕ) → ending channel status ++ rest ≡ requestOf channel status ++ (bytesOf channel Close [] ++ rest)
 unfolding ending
-joined channel status rest = append_assoc (requestOf channel status) (bytes_of channel Close []) rest
+joined channel status rest = append_assoc (requestOf channel status) (bytesOf channel Close []) rest
 
 -- AN ENDING IS READ AS WHAT WAS WRITTEN, whatever stands behind it in the buffer
 pub ended-reads : (channel : ℕ) (status : MaybeStatus) (rest : List ℕ) → channel < 2 ^ 32 → isUntold status ≡ false
@@ -133,7 +133,7 @@ pub ended-reads : (channel : ℕ) (status : MaybeStatus) (rest : List ℕ) → c
     × (Codec.read channel (take 5 (drop (length (ending channel status) - 5) (ending channel status ++ rest))) ≡ Parsed.Read Close)
 ended-reads channel status rest h t =
     let q : List ℕ = requestOf channel status in
-    let c : List ℕ = bytes_of channel Close [] in
+    let c : List ℕ = bytesOf channel Close [] in
     let cut : length (ending channel status) - 5 ≡ length q = omega (arith, ending-length channel status) in
     let all : ending channel status ++ rest ≡ q ++ (c ++ rest) = joined channel status rest in (
       subst⁻¹ (Tells channel status) (rw (cut, all) (take_at q (c ++ rest) (length q) refl)) (tells channel status h t),

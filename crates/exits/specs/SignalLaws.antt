@@ -6,7 +6,7 @@ use Rattle.std.proofs.Math.Numerals.{unary_clauses}
 use Rattle.ring.specs.Flags.{and_l, and_r}
 use Rattle.exits.specs.declared.signals.Signal.{Signal}
 use Rattle.octets.specs.Text.{bytes, same, same-is}
-use Rattle.exits.specs.Signals.{signals, name_of, nobody, find, is_number, isNamed, signalOf, signalNamed, signalFor}
+use Rattle.exits.specs.Signals.{signals, nameOf, nobody, find, isNumber, isNamed, signalOf, signalNamed, signalFor}
 
 -- ---- a search from a place on
 
@@ -105,7 +105,7 @@ find-fit P = is-fit (find P signals) (find-every isFit P signals refl refl)
 
 pub signal-fit : (n : ℤ) → Fit (signalFor n)
 unfolding signalFor signalOf
-signal-fit (pos n) = find-fit (is_number n)
+signal-fit (pos n) = find-fit (isNumber n)
 signal-fit (negsuc n) = (omega arith, refl)
 
 -- and a number that an i32 holds
@@ -120,11 +120,11 @@ named-low name = find-low (isNamed name)
 -- the signal that a name finds is found by its number, and the other way round
 again : Signal → Bool
 unfolding bytes same signalOf signalNamed find
-again x = same (name_of (signalOf x.number)) (name_of x)
+again x = same (nameOf (signalOf x.number)) (nameOf x)
 
 anew : Signal → Bool
 unfolding bytes same signalOf signalNamed find
-anew x = eqb (signalNamed (name_of x)).number x.number
+anew x = eqb (signalNamed (nameOf x)).number x.number
 
 sized : Signal → Bool
 unfolding bytes same signalOf find
@@ -136,12 +136,12 @@ unfolding signalNamed sized
 named-length name = eqb-true _ _ (find-every sized (isNamed name) signals refl refl)
 
 -- NUMBER AND NAME: a number of the table is that of its name, and a name of the table that of its number
-pub name-number : (n : ℕ) → ltb 0 (signalOf n).length ≡ true → (signalNamed (name_of (signalOf n))).number ≡ n
+pub name-number : (n : ℕ) → ltb 0 (signalOf n).length ≡ true → (signalNamed (nameOf (signalOf n))).number ≡ n
 unfolding signalOf anew
 name-number n h =
-    eqb-true _ _ (find-every anew (is_number n) signals refl refl) ∙ eqb-true _ n (found (is_number n) signals h)
+    eqb-true _ _ (find-every anew (isNumber n) signals refl refl) ∙ eqb-true _ n (found (isNumber n) signals h)
 
-pub number-name : (name : List ℕ) → ltb 0 (signalNamed name).length ≡ true → name_of (signalOf (signalNamed name).number) ≡ name
+pub number-name : (name : List ℕ) → ltb 0 (signalNamed name).length ≡ true → nameOf (signalOf (signalNamed name).number) ≡ name
 unfolding signalNamed again
 number-name name h =
     same-is _ _ (find-every again (isNamed name) signals refl refl) ∙ same-is _ name (found (isNamed name) signals h)

@@ -13,8 +13,8 @@ signals =
     signal 1 "HUP" ∷ signal 2 "INT" ∷ signal 3 "QUIT" ∷ signal 4 "ILL" ∷ signal 6 "ABRT" ∷ signal 8 "FPE" ∷ signal 9 "KILL"
     ∷ signal 10 "USR1" ∷ signal 11 "SEGV" ∷ signal 12 "USR2" ∷ signal 13 "PIPE" ∷ signal 14 "ALRM" ∷ signal 15 "TERM" ∷ []
 
-abbrev pub name_of : Signal → List ℕ
-name_of x = take x.length x.name
+abbrev pub nameOf : Signal → List ℕ
+nameOf x = take x.length x.name
 
 -- no signal of the table: it has no name
 abbrev pub nobody : Signal
@@ -25,15 +25,15 @@ unfoldable pub find : (Signal → Bool) → List Signal → Signal
 find P [] = nobody
 find P (x ∷ xs) = cond (P x) x (find P xs)
 
-abbrev pub is_number : ℕ → Signal → Bool
-is_number n x = eqb x.number n
+abbrev pub isNumber : ℕ → Signal → Bool
+isNumber n x = eqb x.number n
 
 abbrev pub isNamed : (name : List ℕ) → Signal → Bool
-isNamed name x = same (name_of x) name
+isNamed name x = same (nameOf x) name
 
 -- the signal of a number, and of a name
 unfoldable pub signalOf : ℕ → Signal
-signalOf n = find (is_number n) signals
+signalOf n = find (isNumber n) signals
 
 unfoldable pub signalNamed : (name : List ℕ) → Signal
 signalNamed name = find (isNamed name) signals

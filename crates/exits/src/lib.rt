@@ -3,11 +3,11 @@
 
 ghost use Rattle.std.specs.Prelude.{true, false, ◌≡◌, [], ◌∷◌, ◌++◌, ◌+◌, ◌≤◌, length, drop, pos};
 ghost use Rattle.exec.specs.declared.Status.TheVariants.{Exited, Signaled};
-ghost use Rattle.octets.specs.Bytes.{be32, number_at};
+ghost use Rattle.octets.specs.Bytes.{be32, numberAt};
 ghost use Rattle.octets.specs.Text.{bytes, same};
 ghost use Rattle.ring.specs.Runs.{copied};
 ghost use Rattle.codec.specs.Codec.{writtenAfter};
-ghost use Rattle.exits.specs.Signals.{name_of, signalNamed};
+ghost use Rattle.exits.specs.Signals.{nameOf, signalNamed};
 ghost use Rattle.exits.specs.SignalLaws.{Fit};
 ghost use Rattle.exits.specs.Exit.{
   string,
@@ -107,7 +107,7 @@ fn put_code(buffer: &mut [u8], channel: u32, code: u32)
 #[tactic(auto, unfolding(octets::specs::Text::bytes))]
 fn put_name(buffer: &mut [u8], channel: u32, signal: Signal)
     requires { Fit signal × (29 ≤ length buffer.old) }
-    ensures { buffer.new ≡ (head channel (bytes "exit-signal") ++ string (name_of signal)) ++ drop (25 + signal.length) buffer.old }
+    ensures { buffer.new ≡ (head channel (bytes "exit-signal") ++ string (nameOf signal)) ++ drop (25 + signal.length) buffer.old }
 {
     let n = signal.length;
     let name = signal.name;
@@ -214,7 +214,7 @@ fn matching(bytes: &[u8], channel: u32, status: Status) -> Told
 
 // What 25 bytes tell: no status holds a code of 2^31 or more.
 fn read_code(bytes: &[u8], channel: u32) -> Told
-    ensures { result ≡ matching channel bytes.now (Exited (pos (number_at bytes.now 21))) }
+    ensures { result ≡ matching channel bytes.now (Exited (pos (numberAt bytes.now 21))) }
 {
     let code = octets::number_at(bytes, 21);
     if code < 2147483648 {

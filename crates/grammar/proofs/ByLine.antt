@@ -6,8 +6,8 @@ use Rattle.std.proofs.Math.Decide.{dec_lt}
 use Rattle.std.proofs.lemmas.List.{take-append-le}
 use Rattle.ring.specs.Flags.{and_l, and_r}
 use Rattle.syntax.specs.Answers.{lineText}
-use Rattle.grammar.specs.Feed.{Stage, First, Session, Step, Answered, answer_of, lineEnds, hold, eat, feeds, ends, prints}
-use Rattle.grammar.specs.ByLine.{cardOf, is_line, areLines, answersFrom, textFrom, ByLine}
+use Rattle.grammar.specs.Feed.{Stage, First, Session, Step, Answered, answerOf, lineEnds, hold, eat, feeds, ends, prints}
+use Rattle.grammar.specs.ByLine.{cardOf, isLine, areLines, answersFrom, textFrom, ByLine}
 
 -- ---- a line
 
@@ -28,11 +28,11 @@ hold-on b l =
     ]
 
 -- a line is answered by what is held of it
-held-answer : (x : Stage) (l : List ℕ) → answer_of x (held_of l) ≡ answer_of x l
-unfolding answer_of
+held-answer : (x : Stage) (l : List ℕ) → answerOf x (held_of l) ≡ answerOf x l
+unfolding answerOf
 held-answer x l =
     elim (dec_lt (length l) 65536) [
-      | yes h ↦ ap (answer_of x) (take_all 65536 l (omega arith))
+      | yes h ↦ ap (answerOf x) (take_all 65536 l (omega arith))
       | no h ↦
           let full : length (held_of l) ≡ 65536 = length-take-le 65536 l (omega arith) in
           rw (lt-leb (length (held_of l)) 65535 (omega arith), lt-leb (length l) 65535 (omega arith)) refl
@@ -48,13 +48,13 @@ unfolding feeds eat
 kept x n b p rest h = rw h (ap (λ (q : List ℕ). feeds (holding x n q) rest) (hold-on b p))
 
 -- and so are the bytes of a line
-fed : (x : Stage) (n : ℕ) (p l rest : List ℕ) → is_line l ≡ true
+fed : (x : Stage) (n : ℕ) (p l rest : List ℕ) → isLine l ≡ true
     → feeds (holding x n (held_of p)) (l ++ rest) ≡ feeds (holding x n (held_of (p ++ l))) rest
-unfolding is_line
+unfolding isLine
 fed x n p [] rest h = ap (λ (q : List ℕ). feeds (holding x n (held_of q)) rest) (sym (append-nil p))
 fed x n p (b ∷ l) rest h =
-    kept x n b p (l ++ rest) (unless (eqb b 10) (and_l (not (eqb b 10)) (is_line l) h))
-    ∙ fed x n (p ++ (b ∷ [])) l rest (and_r (not (eqb b 10)) (is_line l) h)
+    kept x n b p (l ++ rest) (unless (eqb b 10) (and_l (not (eqb b 10)) (isLine l) h))
+    ∙ fed x n (p ++ (b ∷ [])) l rest (and_r (not (eqb b 10)) (isLine l) h)
     ∙ ap (λ (q : List ℕ). feeds (holding x n (held_of q)) rest) (append_assoc p (b ∷ []) l)
   where
     unless : (e : Bool) → not e ≡ true → e ≡ false
@@ -68,7 +68,7 @@ answeredOn n a rest = record {
   printed = lineText (n + 1) a.answer ++ (feeds (holding a.stage (n + 1) []) rest).printed;
 }
 
-ended : (x : Stage) (n : ℕ) (l rest : List ℕ) → feeds (holding x n (held_of l)) (10 ∷ rest) ≡ answeredOn n (answer_of x l) rest
+ended : (x : Stage) (n : ℕ) (l rest : List ℕ) → feeds (holding x n (held_of l)) (10 ∷ rest) ≡ answeredOn n (answerOf x l) rest
 unfolding feeds eat lineEnds
 ended x n l rest = ap (λ (a : Answered). answeredOn n a rest) (held-answer x l)
 
@@ -79,10 +79,10 @@ lines-fed : (x : Stage) (n : ℕ) (ls : List (List ℕ)) → areLines ls ≡ tru
 unfolding feeds
 lines-fed x n [] h = (refl, refl)
 lines-fed x n (l ∷ ls) h =
-    let line = fed x n [] l (10 ∷ cardOf ls) (and_l (is_line l) (areLines ls) h) ∙ ended x n l (cardOf ls) in
-    let rest = lines-fed (answer_of x l).stage (n + 1) ls (and_r (is_line l) (areLines ls) h) in (
+    let line = fed x n [] l (10 ∷ cardOf ls) (and_l (isLine l) (areLines ls) h) ∙ ended x n l (cardOf ls) in
+    let rest = lines-fed (answerOf x l).stage (n + 1) ls (and_r (isLine l) (areLines ls) h) in (
       ap (λ (t : Step). t.session.held) line ∙ rest.0,
-      ap (λ (t : Step). t.printed) line ∙ ap (λ (t : List ℕ). lineText (n + 1) (answer_of x l).answer ++ t) rest.1,
+      ap (λ (t : Step). t.printed) line ∙ ap (λ (t : List ℕ). lineText (n + 1) (answerOf x l).answer ++ t) rest.1,
     )
 
 pub by-line : ByLine

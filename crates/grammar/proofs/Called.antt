@@ -3,7 +3,7 @@ use mathlib.Core.Bool.{true, ◌||◌}
 use mathlib.Core.Path.{◌≡◌, refl, subst}
 use Prim.Native.Nat.{ℕ}
 use Rattle.calls.specs.Call as Call
-use Rattle.calls.specs.Call.{Call, Answer, timeOf, is_refused}
+use Rattle.calls.specs.Call.{Call, Answer, timeOf, isRefused}
 use Rattle.account.specs.Step.{State, next, answer}
 use Rattle.account.specs.Records.{among}
 use Rattle.account.specs.Refused.{ofCalls}
@@ -23,5 +23,5 @@ Safe s last x = (n : ℕ) → x.answer ≡ Call.Refused n → (x.stage ≡ Runni
 pub own : (s : State) (last m : ℕ) → Known m → Safe s last (record { stage = Running s last; answer = Call.Refused m })
 own s last m h n e = let k : m ≡ n = cc in (refl, subst Known k h)
 
-pub called : (s : State) (last : ℕ) (c : Call) → Safe s last (record { stage = Running (next s c) (remembered (is_refused (answer s c)) (timeOf c) last); answer = answer s c })
+pub called : (s : State) (last : ℕ) (c : Call) → Safe s last (record { stage = Running (next s c) (remembered (isRefused (answer s c)) (timeOf c) last); answer = answer s c })
 called s last c n e = (rw (refusals.call_kept s c n e, e) refl, rw (refusals.call-number s c n e) refl)

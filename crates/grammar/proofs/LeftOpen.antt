@@ -22,7 +22,7 @@ use Rattle.runner.specs.Life as Life
 use Rattle.runner.specs.Message as Message
 use Rattle.runner.specs.Range as Range
 use Rattle.calls.specs.Call as Call
-use Rattle.calls.specs.Call.{Conf, Answer, is_refused}
+use Rattle.calls.specs.Call.{Conf, Answer, isRefused}
 use Rattle.account.specs.Claim.{Opens}
 use Rattle.account.specs.Step as Step
 use Rattle.account.specs.Step.{State}
@@ -35,9 +35,9 @@ use Rattle.syntax.specs.Lines.{fields, zeros}
 use Rattle.syntax.specs.Zeros.{zeros-length}
 use Rattle.opening.specs.Open.{Opening, at, lineOpen, timeout, openOf, isOpen, openingOf, limitsOf, timersOf}
 use Rattle.opening.specs.Timeout.{number-else, number-itself, line-now, line-timeout, line-bad}
-use Rattle.grammar.specs.Feed.{First, Running, Over, Answered, bad, prints, isShort, answer_of, answered, openedBy, first, later, tooLong}
+use Rattle.grammar.specs.Feed.{First, Running, Over, Answered, bad, prints, isShort, answerOf, answered, openedBy, first, later, tooLong}
 use Rattle.grammar.specs.LeftOpen.{asked, Starts, EveryCard}
-use Rattle.grammar.specs.ByLine.{cardOf, is_line, areLines, answersFrom, textFrom}
+use Rattle.grammar.specs.ByLine.{cardOf, isLine, areLines, answersFrom, textFrom}
 use Rattle.grammar.proofs.ByLine.{by-line}
 
 -- ---- the first line
@@ -50,14 +50,14 @@ record Opened (line : List ℕ) : Type 0 where
   pub opens : Opens given.conf given.now (zeros 65536) (zeros 1024)
 
 not-refused : (n : ℕ) → Call.Refused n ≡ Call.Ok → ⊥
-not-refused n e = true≢false (ap is_refused e)
+not-refused n e = true≢false (ap isRefused e)
 
 accepted : (r : Reply) (o : Opening) → (openedBy r o).answer ≡ Call.Ok → r ≡ Reply.Ok
 accepted Reply.Ok o e = refl
 accepted (Reply.Refused x) o e = absurd (not-refused (number x) e)
 
-opened-so : (line : List ℕ) → (answer_of First line).answer ≡ Call.Ok → Opened line
-unfolding answer_of answered first tooLong
+opened-so : (line : List ℕ) → (answerOf First line).answer ≡ Call.Ok → Opened line
+unfolding answerOf answered first tooLong
 opened-so line = by (isShort line) refl (lineOpen line) refl
   where
     by : (b : Bool) → isShort line ≡ b → (x : Option Opening) → lineOpen line ≡ x → (cond {A = Answered} b (first x) (tooLong First)).answer ≡ Call.Ok → Opened line
@@ -67,8 +67,8 @@ opened-so line = by (isShort line) refl (lineOpen line) refl
 
 -- leaves the runner that open gives
 first-line : (line : List ℕ) (x : Opened line)
-    → answer_of First line ≡ record { stage = Running (Step.opened x.given.conf x.given.now (zeros 65536) (zeros 1024)) x.given.now; answer = Call.Ok }
-unfolding answer_of answered first
+    → answerOf First line ≡ record { stage = Running (Step.opened x.given.conf x.given.now (zeros 65536) (zeros 1024)) x.given.now; answer = Call.Ok }
+unfolding answerOf answered first
 first-line line x = rw (x.short, x.reads) (ap (λ (r : Reply). openedBy r x.given) x.opens)
 
 -- ---- its deadline
@@ -82,8 +82,8 @@ fresh-deadline : (conf : Conf) (now : ℕ) (bs lengths : List ℕ) → Plain.ans
 unfolding Plain.answer Range.fresh Life.deadlineOf
 fresh-deadline conf now bs lengths = ap Call.Time (still (timeoutAt conf.timers.timeout now))
 
-deadline-line : (s : State) (last : ℕ) → (answer_of (Running s last) (bytes "deadline")).answer ≡ Step.answer s Call.deadline
-unfolding calls answer_of answered later
+deadline-line : (s : State) (last : ℕ) → (answerOf (Running s last) (bytes "deadline")).answer ≡ Step.answer s Call.deadline
+unfolding calls answerOf answered later
 deadline-line s last = refl
 
 asked_is : (line : List ℕ) (x : Opened line) → asked line ≡ Call.Ok ∷ Call.Time (timeoutAt x.given.conf.timers.timeout x.given.now) ∷ []
@@ -107,8 +107,8 @@ unfolding calls timeout
 texts = (refl, refl)
 
 -- a first line that is no line of the card
-unopened : (line : List ℕ) → lineOpen line ≡ none → answer_of First line ≡ bad Over
-unfolding answer_of answered first tooLong
+unopened : (line : List ℕ) → lineOpen line ≡ none → answerOf First line ≡ bad Over
+unfolding answerOf answered first tooLong
 unopened line e = rw e (by (isShort line))
   where
     by : (b : Bool) → ◌≡◌ {A = Answered} (cond b (bad Over) (bad Over)) (bad Over)
@@ -175,12 +175,12 @@ timesOut = Call.Ok
     ∷ []
 
 hung-answers : (bs lengths : List ℕ) → answersFrom (Running (begun (timed hour) 5 bs lengths) 5) hung ≡ timesOut
-unfolding hung calls answer_of answered later Step.next Step.answer Calls.launched Calls.tick Calls.deadline Calls.nextRequest Range.fresh Range.stop Range.in_range bytesWith outputFits Life.closeRunnerInput Life.endGrace Life.beginTermination Life.terminate Life.passGrace Life.passTimeout Life.passSettlement Life.giveUpUnlessClean Life.passGiveUp Life.dropLaunch Life.dropStreams Life.passAbandonment Life.fire Life.ticked Life.deadlineOf Life.noteStarted Life.noteLaunch Life.launchedNext Message.wishFor Message.wish Message.wishEffect
+unfolding hung calls answerOf answered later Step.next Step.answer Calls.launched Calls.tick Calls.deadline Calls.nextRequest Range.fresh Range.stop Range.inRange bytesWith outputFits Life.closeRunnerInput Life.endGrace Life.beginTermination Life.terminate Life.passGrace Life.passTimeout Life.passSettlement Life.giveUpUnlessClean Life.passGiveUp Life.dropLaunch Life.dropStreams Life.passAbandonment Life.fire Life.ticked Life.deadlineOf Life.noteStarted Life.noteLaunch Life.launchedNext Message.wishFor Message.wish Message.wishEffect
 hung-answers bs lengths = refl
 
 left_open : prints (bytes "open,5,7,2,4,B,8,B,8,0,-,10,5\nlaunched,0,-,-\ndeadline\ntick,3600000000004\nrequest\ntick,3600000000005\nrequest\ndeadline\n")
     ≡ textFrom 0 (Call.Ok ∷ timesOut)
-unfolding hung calls timeout openOf isOpen openingOf limitsOf timersOf is_line
+unfolding hung calls timeout openOf isOpen openingOf limitsOf timersOf isLine
 left_open = opened-card (bytes "open,5,7,2,4,B,8,B,8,0,-,10,5") (timed hour) 5 hung timesOut refl refl (opens hour 5) refl hung-answers
 
 -- ---- never: no limit, not the largest number either
@@ -198,12 +198,12 @@ abbrev goesOn : List Answer
 goesOn = Call.Ok ∷ Call.Time Never ∷ Call.Ok ∷ Call.Nothing ∷ Call.Time Never ∷ []
 
 overnight-answers : (bs lengths : List ℕ) → answersFrom (Running (begun (timed MaybeDuration.None) 0 bs lengths) 0) overnight ≡ goesOn
-unfolding overnight calls answer_of answered later Step.next Step.answer Calls.launched Calls.tick Calls.deadline Calls.nextRequest Range.fresh Range.stop Range.in_range bytesWith outputFits Life.passGrace Life.passTimeout Life.passSettlement Life.passGiveUp Life.passAbandonment Life.fire Life.ticked Life.deadlineOf Life.noteStarted Life.noteLaunch Life.launchedNext Message.wishFor Message.wish Message.wishEffect
+unfolding overnight calls answerOf answered later Step.next Step.answer Calls.launched Calls.tick Calls.deadline Calls.nextRequest Range.fresh Range.stop Range.inRange bytesWith outputFits Life.passGrace Life.passTimeout Life.passSettlement Life.passGiveUp Life.passAbandonment Life.fire Life.ticked Life.deadlineOf Life.noteStarted Life.noteLaunch Life.launchedNext Message.wishFor Message.wish Message.wishEffect
 overnight-answers bs lengths = refl
 
 no-limit : prints (bytes "open,0,7,2,4,B,8,B,8,0,never,10,5\nlaunched,0,-,-\ndeadline\ntick,18446744073709551615\nrequest\ndeadline\n")
     ≡ textFrom 0 (Call.Ok ∷ goesOn)
-unfolding overnight calls timeout openOf isOpen openingOf limitsOf timersOf is_line
+unfolding overnight calls timeout openOf isOpen openingOf limitsOf timersOf isLine
 no-limit = opened-card (bytes "open,0,7,2,4,B,8,B,8,0,never,10,5") (timed MaybeDuration.None) 0 overnight goesOn refl refl (opens MaybeDuration.None 0) refl overnight-answers
 
 -- ---- opened at the last instant from which the hour ends, and one later
@@ -221,12 +221,12 @@ neverEnds = Call.Ok ∷ Call.Time Never ∷ Call.Ok ∷ Call.Nothing ∷ []
 latest-answers : (bs lengths : List ℕ)
     → (answersFrom (Running (begun (timed hour) 18446740473709551615 bs lengths) 18446740473709551615) latest ≡ justEnds)
     × (answersFrom (Running (begun (timed hour) 18446740473709551616 bs lengths) 18446740473709551616) latest ≡ neverEnds)
-unfolding latest calls answer_of answered later Step.next Step.answer Calls.launched Calls.tick Calls.deadline Calls.nextRequest Range.fresh Range.stop Range.in_range bytesWith outputFits Life.closeRunnerInput Life.endGrace Life.beginTermination Life.terminate Life.passGrace Life.passTimeout Life.passSettlement Life.giveUpUnlessClean Life.passGiveUp Life.dropLaunch Life.dropStreams Life.passAbandonment Life.fire Life.ticked Life.deadlineOf Life.noteStarted Life.noteLaunch Life.launchedNext Message.wishFor Message.wish Message.wishEffect
+unfolding latest calls answerOf answered later Step.next Step.answer Calls.launched Calls.tick Calls.deadline Calls.nextRequest Range.fresh Range.stop Range.inRange bytesWith outputFits Life.closeRunnerInput Life.endGrace Life.beginTermination Life.terminate Life.passGrace Life.passTimeout Life.passSettlement Life.giveUpUnlessClean Life.passGiveUp Life.dropLaunch Life.dropStreams Life.passAbandonment Life.fire Life.ticked Life.deadlineOf Life.noteStarted Life.noteLaunch Life.launchedNext Message.wishFor Message.wish Message.wishEffect
 latest-answers bs lengths = (refl, refl)
 
 last-hour : (prints (bytes "open,18446740473709551615,7,2,4,B,8,B,8,0,-,10,5\nlaunched,0,-,-\ndeadline\ntick,18446744073709551615\nrequest\n") ≡ textFrom 0 (Call.Ok ∷ justEnds))
     × (prints (bytes "open,18446740473709551616,7,2,4,B,8,B,8,0,-,10,5\nlaunched,0,-,-\ndeadline\ntick,18446744073709551615\nrequest\n") ≡ textFrom 0 (Call.Ok ∷ neverEnds))
-unfolding latest calls timeout openOf isOpen openingOf limitsOf timersOf is_line
+unfolding latest calls timeout openOf isOpen openingOf limitsOf timersOf isLine
 last-hour = (
   opened-card (bytes "open,18446740473709551615,7,2,4,B,8,B,8,0,-,10,5") (timed hour) 18446740473709551615 latest justEnds refl refl (opens hour 18446740473709551615) refl (λ bs lengths. (latest-answers bs lengths).0),
   opened-card (bytes "open,18446740473709551616,7,2,4,B,8,B,8,0,-,10,5") (timed hour) 18446740473709551616 latest neverEnds refl refl (opens hour 18446740473709551616) refl (λ bs lengths. (latest-answers bs lengths).1),
@@ -235,5 +235,5 @@ last-hour = (
 -- ---- any other text opens nothing
 
 misspelt : prints (bytes "open,5,7,2,4,B,8,B,8,0,Never,10,5\ndeadline\n") ≡ textFrom 0 (Call.Refused 30 ∷ Call.Refused 30 ∷ [])
-unfolding calls timeout openOf isOpen openingOf limitsOf timersOf is_line answer_of answered first
+unfolding calls timeout openOf isOpen openingOf limitsOf timersOf isLine answerOf answered first
 misspelt = by-line (bytes "open,5,7,2,4,B,8,B,8,0,Never,10,5" ∷ bytes "deadline" ∷ []) refl

@@ -9,7 +9,7 @@ use Rattle.exec.specs.Limits.{isValid}
 use Rattle.runner.specs.Calls as Calls
 use Rattle.runner.specs.Range.{bytesDo, lengthsDo}
 use Rattle.calls.specs.Call as Call
-use Rattle.calls.specs.Call.{Call, Answer, timeOf, is_refused}
+use Rattle.calls.specs.Call.{Call, Answer, timeOf, isRefused}
 use Rattle.account.specs.Step.{State, replied}
 use Rattle.account.specs.Records.{among}
 use Rattle.account.specs.Refused.{openAnswer}
@@ -17,7 +17,7 @@ use Rattle.account.proofs.Refused.{refusals}
 use Rattle.account.proofs.Flags.{either}
 use Rattle.opening.specs.Open.{Opening, lineOpen}
 use Rattle.syntax.specs.Lines.{lineCall, zeros}
-use Rattle.grammar.specs.Feed.{Running, Over, Answered, bad, isBack, openedBy, first, later, answered, tooLong, isShort, answer_of}
+use Rattle.grammar.specs.Feed.{Running, Over, Answered, bad, isBack, openedBy, first, later, answered, tooLong, isShort, answerOf}
 use Rattle.grammar.specs.Refused.{RefusedLines}
 use Rattle.grammar.proofs.Called.{Safe, own, called}
 
@@ -28,8 +28,8 @@ unfolding later
 later-safe none s last = own s last 30 refl
 later-safe (some c) s last = either (Safe s last) (isBack (timeOf c) last) _ _ (own s last 31 refl) (called s last c)
 
-line-safe : (s : State) (last : ℕ) (line : List ℕ) → Safe s last (answer_of (Running s last) line)
-unfolding answer_of answered tooLong
+line-safe : (s : State) (last : ℕ) (line : List ℕ) → Safe s last (answerOf (Running s last) line)
+unfolding answerOf answered tooLong
 line-safe s last line = either (Safe s last) (isShort line) _ _ (later-safe (lineCall line) s last) (own s last 30 refl)
 
 -- ---- the first line
@@ -45,7 +45,7 @@ refused-first : (m : ℕ) → IsFirst m → First (Call.Refused m)
 refused-first m h n e = let k : m ≡ n = cc in subst IsFirst k h
 
 ok-first : First Call.Ok
-ok-first n e = absurd (false≢true (ap is_refused e))
+ok-first n e = absurd (false≢true (ap isRefused e))
 
 open-first : (o : Opening) → First (openAnswer o.conf o.now (zeros 65536) (zeros 1024))
 open-first o =
@@ -60,7 +60,7 @@ bad-first : Unopened (bad Over)
 bad-first n e = (refl, refused-first 30 refl n e)
 
 opened-by : (met : Reply) (o : Opening) → First (replied met) → Unopened (openedBy met o)
-opened-by Reply.Ok o h n e = absurd (false≢true (ap is_refused e))
+opened-by Reply.Ok o h n e = absurd (false≢true (ap isRefused e))
 opened-by (Reply.Refused x) o h n e = (refl, h n e)
 
 first-safe : (o : Option Opening) → Unopened (first o)
@@ -71,7 +71,7 @@ first-safe (some o) =
 
 -- DEMAND 1, OF A CARD'S LINES
 pub refused-lines : RefusedLines
-unfolding answer_of answered tooLong
+unfolding answerOf answered tooLong
 refused-lines = record {
   kept = λ s last line n e. (line-safe s last line n e).0;
   numbered = λ s last line n e. (line-safe s last line n e).1;

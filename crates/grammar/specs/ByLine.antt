@@ -2,7 +2,7 @@
 use Rattle.std.specs.Prelude.{Bool, true, not, ◌&&◌, ◌≡◌, List, [], ◌∷◌, ◌++◌, ℕ, ◌+◌, eqb}
 use Rattle.calls.specs.Call.{Answer}
 use Rattle.syntax.specs.Answers.{lineText}
-use Rattle.grammar.specs.Feed.{Stage, First, answer_of, prints}
+use Rattle.grammar.specs.Feed.{Stage, First, answerOf, prints}
 
 -- a card: lines, each with its end (10)
 abbrev pub cardOf : (lines : List (List ℕ)) → List ℕ
@@ -10,18 +10,18 @@ cardOf [] = []
 cardOf (l ∷ ls) = l ++ (10 ∷ cardOf ls)
 
 -- no end is within a line
-unfoldable pub is_line : List ℕ → Bool
-is_line [] = true
-is_line (b ∷ l) = not (eqb b 10) && is_line l
+unfoldable pub isLine : List ℕ → Bool
+isLine [] = true
+isLine (b ∷ l) = not (eqb b 10) && isLine l
 
 abbrev pub areLines : List (List ℕ) → Bool
 areLines [] = true
-areLines (l ∷ ls) = is_line l && areLines ls
+areLines (l ∷ ls) = isLine l && areLines ls
 
 -- what lines are answered from a stage on
 abbrev pub answersFrom : Stage → (lines : List (List ℕ)) → List Answer
 answersFrom x [] = []
-answersFrom x (l ∷ ls) = (answer_of x l).answer ∷ answersFrom (answer_of x l).stage ls
+answersFrom x (l ∷ ls) = (answerOf x l).answer ∷ answersFrom (answerOf x l).stage ls
 
 -- and printed, after the first n
 abbrev pub textFrom : (n : ℕ) → List Answer → List ℕ

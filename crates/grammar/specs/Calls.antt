@@ -4,34 +4,34 @@ use Rattle.std.specs.Prelude.{Bool, true, false, cond, ◌≡◌, refl, List, []
 use Rattle.std.proofs.Common.{sym, ap, ◌∙◌, append_assoc, append-nil, arith}
 use Rattle.std.proofs.Math.Option.{Option, none, some}
 use Rattle.calls.specs.Call as Call
-use Rattle.calls.specs.Call.{Call, Answer, Done, is_refused}
+use Rattle.calls.specs.Call.{Call, Answer, Done, isRefused}
 use Rattle.account.specs.Step.{State, next, answer, after, run}
 use Rattle.account.specs.Records.{among}
 use Rattle.syntax.specs.Lines.{lineCall}
 use Rattle.syntax.specs.Answers.{lineText}
-use Rattle.grammar.specs.Feed.{Stage, First, Running, Over, Session, Step, Answered, isBack, remembered, later, answered, tooLong, isShort, answer_of, lineEnds, hold, eat, feeds, ends}
+use Rattle.grammar.specs.Feed.{Stage, First, Running, Over, Session, Step, Answered, isBack, remembered, later, answered, tooLong, isShort, answerOf, lineEnds, hold, eat, feeds, ends}
 use Rattle.calls.specs.Call.{timeOf}
 
 -- ---- the calls
 
 -- a call that is not refused by 31
-abbrev pub made_of : Option Call → (last : ℕ) → List Call
-made_of none last = []
-made_of (some c) last = cond (isBack (timeOf c) last) [] (c ∷ [])
+abbrev pub madeOf : Option Call → (last : ℕ) → List Call
+madeOf none last = []
+madeOf (some c) last = cond (isBack (timeOf c) last) [] (c ∷ [])
 
 -- of a line, once a runner is open
 abbrev pub lineCalls : Stage → (line : List ℕ) → List Call
 lineCalls First line = []
-lineCalls (Running s last) line = cond (isShort line) (made_of (lineCall line) last) []
+lineCalls (Running s last) line = cond (isShort line) (madeOf (lineCall line) last) []
 lineCalls Over line = []
 
 -- of a byte, and of bytes
 abbrev pub eatCalls : Session → ℕ → List Call
 eatCalls s b = cond (eqb b 10) (lineCalls s.stage s.held) []
 
-unfoldable pub calls_of : Session → List ℕ → List Call
-calls_of s [] = []
-calls_of s (b ∷ rest) = eatCalls s b ++ calls_of (eat s b).session rest
+unfoldable pub callsOf : Session → List ℕ → List Call
+callsOf s [] = []
+callsOf s (b ∷ rest) = eatCalls s b ++ callsOf (eat s b).session rest
 
 -- ---- the runner after them
 
@@ -40,20 +40,20 @@ pub record IsRunning (x : Stage) (s : State) : Type 0 where
   pub last : ℕ
   pub is : x ≡ Running s last
 
-later-runs : (c : Option Call) (s : State) (last : ℕ) → IsRunning (later c s last).stage (after s (made_of c last))
+later-runs : (c : Option Call) (s : State) (last : ℕ) → IsRunning (later c s last).stage (after s (madeOf c last))
 unfolding later
 later-runs none s last = record { last = last; is = refl }
 later-runs (some c) s last = by (isBack (timeOf c) last)
   where
-    by : (b : Bool) → IsRunning (cond {A = Answered} b (record { stage = Running s last; answer = Call.Refused 31 }) (record { stage = Running (next s c) (remembered (is_refused (answer s c)) (timeOf c) last); answer = answer s c })).stage (after s (cond b [] (c ∷ [])))
+    by : (b : Bool) → IsRunning (cond {A = Answered} b (record { stage = Running s last; answer = Call.Refused 31 }) (record { stage = Running (next s c) (remembered (isRefused (answer s c)) (timeOf c) last); answer = answer s c })).stage (after s (cond b [] (c ∷ [])))
     by true = record { last = last; is = refl }
-    by false = record { last = remembered (is_refused (answer s c)) (timeOf c) last; is = refl }
+    by false = record { last = remembered (isRefused (answer s c)) (timeOf c) last; is = refl }
 
-line-runs : (s : State) (last : ℕ) (line : List ℕ) → IsRunning (answer_of (Running s last) line).stage (after s (lineCalls (Running s last) line))
-unfolding answer_of answered tooLong
+line-runs : (s : State) (last : ℕ) (line : List ℕ) → IsRunning (answerOf (Running s last) line).stage (after s (lineCalls (Running s last) line))
+unfolding answerOf answered tooLong
 line-runs s last line = by (isShort line)
   where
-    by : (b : Bool) → IsRunning (cond {A = Answered} b (later (lineCall line) s last) (tooLong (Running s last))).stage (after s (cond b (made_of (lineCall line) last) []))
+    by : (b : Bool) → IsRunning (cond {A = Answered} b (later (lineCall line) s last) (tooLong (Running s last))).stage (after s (cond b (madeOf (lineCall line) last) []))
     by true = later-runs (lineCall line) s last
     by false = record { last = last; is = refl }
 
@@ -62,7 +62,7 @@ eat-runs : (x : Session) (s : State) (b : ℕ) → IsRunning x.stage s → IsRun
 unfolding eat lineEnds
 eat-runs x s b r = by (eqb b 10)
   where
-    held : IsRunning (answer_of x.stage x.held).stage (after s (lineCalls x.stage x.held))
+    held : IsRunning (answerOf x.stage x.held).stage (after s (lineCalls x.stage x.held))
     held = rw r.is (line-runs s r.last x.held)
 
     by : (e : Bool) → IsRunning (cond {A = Step} e (lineEnds x) (record { session = record { stage = x.stage; lines = x.lines; held = hold b x.held }; printed = [] })).session.stage (after s (cond e (lineCalls x.stage x.held) []))
@@ -74,11 +74,11 @@ after-append s [] b = refl
 after-append s (c ∷ a) b = after-append (next s c) a b
 
 -- THE RUNNER AND ITS STORES AFTER A CARD ARE THOSE AFTER ITS CALLS
-pub runs : (x : Session) (s : State) (bs : List ℕ) → IsRunning x.stage s → IsRunning (feeds x bs).session.stage (after s (calls_of x bs))
-unfolding feeds calls_of
+pub runs : (x : Session) (s : State) (bs : List ℕ) → IsRunning x.stage s → IsRunning (feeds x bs).session.stage (after s (callsOf x bs))
+unfolding feeds callsOf
 runs x s [] r = r
 runs x s (b ∷ bs) r =
-    rw (after-append s (eatCalls x b) (calls_of (eat x b).session bs))
+    rw (after-append s (eatCalls x b) (callsOf (eat x b).session bs))
     (runs (eat x b).session (after s (eatCalls x b)) bs (eat-runs x s b r))
 
 -- ---- the answers
@@ -88,21 +88,21 @@ pub record Line : Type 0 where
   pub calls : List Call
   pub answer : Answer
 
-abbrev pub line_of : Stage → (line : List ℕ) → Line
-line_of x line = record { calls = lineCalls x line; answer = (answer_of x line).answer }
+abbrev pub lineOf : Stage → (line : List ℕ) → Line
+lineOf x line = record { calls = lineCalls x line; answer = (answerOf x line).answer }
 
 -- of a byte, and of bytes
 abbrev pub eatLines : Session → ℕ → List Line
-eatLines s b = cond (eqb b 10) (line_of s.stage s.held ∷ []) []
+eatLines s b = cond (eqb b 10) (lineOf s.stage s.held ∷ []) []
 
-unfoldable pub lines_of : Session → List ℕ → List Line
-lines_of s [] = []
-lines_of s (b ∷ rest) = eatLines s b ++ lines_of (eat s b).session rest
+unfoldable pub linesOf : Session → List ℕ → List Line
+linesOf s [] = []
+linesOf s (b ∷ rest) = eatLines s b ++ linesOf (eat s b).session rest
 
 -- what the lines after the first n print
-abbrev pub text_of : (n : ℕ) → List Line → List ℕ
-text_of n [] = []
-text_of n (l ∷ ls) = lineText (n + 1) l.answer ++ text_of (n + 1) ls
+abbrev pub textOf : (n : ℕ) → List Line → List ℕ
+textOf n [] = []
+textOf n (l ∷ ls) = lineText (n + 1) l.answer ++ textOf (n + 1) ls
 
 -- the calls of the lines, each with its line's answer
 abbrev pub told : Answer → List Call → List Done
@@ -114,13 +114,13 @@ donesOf [] = []
 donesOf (l ∷ ls) = told l.answer l.calls ++ donesOf ls
 
 -- A CARD PRINTS THE ANSWERS OF ITS LINES
-pub lines-printed : (x : Session) (bs : List ℕ) → (feeds x bs).printed ≡ text_of x.lines (lines_of x bs)
-unfolding feeds lines_of eat lineEnds
+pub lines-printed : (x : Session) (bs : List ℕ) → (feeds x bs).printed ≡ textOf x.lines (linesOf x bs)
+unfolding feeds linesOf eat lineEnds
 lines-printed x [] = refl
 lines-printed x (b ∷ bs) = ap (λ (t : List ℕ). (eat x b).printed ++ t) (lines-printed (eat x b).session bs) ∙ by (eqb b 10) refl
   where
     by : (e : Bool) → eqb b 10 ≡ e
-        → (eat x b).printed ++ text_of (eat x b).session.lines (lines_of (eat x b).session bs) ≡ text_of x.lines (eatLines x b ++ lines_of (eat x b).session bs)
+        → (eat x b).printed ++ textOf (eat x b).session.lines (linesOf (eat x b).session bs) ≡ textOf x.lines (eatLines x b ++ linesOf (eat x b).session bs)
     by true h = rw h refl
     by false h = rw h refl
 
@@ -139,24 +139,24 @@ pub record Answers (s : State) (l : Line) : Type 0 where
 some-call : (c : Call) → c ∷ [] ≡ [] → ⊥
 some-call c e = let z : ◌≡◌ {A = ℕ} 0 1 = cc in omega arith
 
-later-answers : (c : Option Call) (s : State) (last : ℕ) → Answers s (record { calls = made_of c last; answer = (later c s last).answer })
+later-answers : (c : Option Call) (s : State) (last : ℕ) → Answers s (record { calls = madeOf c last; answer = (later c s last).answer })
 unfolding later
 later-answers none s last = record { called = refl; uncalled = λ e. (30, refl, refl) }
 later-answers (some c) s last = by (isBack (timeOf c) last)
   where
     by : (b : Bool) → Answers s (record {
       calls = cond b [] (c ∷ []);
-      answer = (cond {A = Answered} b (record { stage = Running s last; answer = Call.Refused 31 }) (record { stage = Running (next s c) (remembered (is_refused (answer s c)) (timeOf c) last); answer = answer s c })).answer;
+      answer = (cond {A = Answered} b (record { stage = Running s last; answer = Call.Refused 31 }) (record { stage = Running (next s c) (remembered (isRefused (answer s c)) (timeOf c) last); answer = answer s c })).answer;
     })
     by true = record { called = refl; uncalled = λ e. (31, refl, refl) }
     by false = record { called = refl; uncalled = λ e. absurd (some-call c e) }
 
-line-answers : (s : State) (last : ℕ) (line : List ℕ) → Answers s (line_of (Running s last) line)
-unfolding answer_of answered tooLong
+line-answers : (s : State) (last : ℕ) (line : List ℕ) → Answers s (lineOf (Running s last) line)
+unfolding answerOf answered tooLong
 line-answers s last line = by (isShort line)
   where
     by : (b : Bool) → Answers s (record {
-      calls = cond b (made_of (lineCall line) last) [];
+      calls = cond b (madeOf (lineCall line) last) [];
       answer = (cond {A = Answered} b (later (lineCall line) s last) (tooLong (Running s last))).answer;
     })
     by true = later-answers (lineCall line) s last
@@ -174,38 +174,38 @@ dones-append (l ∷ a) b =
 eat-answers : (x : Session) (s : State) (b : ℕ) → IsRunning x.stage s → donesOf (eatLines x b) ≡ run s (eatCalls x b)
 eat-answers x s b r = by (eqb b 10)
   where
-    held : told (answer_of x.stage x.held).answer (lineCalls x.stage x.held) ≡ run s (lineCalls x.stage x.held)
+    held : told (answerOf x.stage x.held).answer (lineCalls x.stage x.held) ≡ run s (lineCalls x.stage x.held)
     held = rw r.is (line-answers s r.last x.held).called
 
-    by : (e : Bool) → donesOf (cond e (line_of x.stage x.held ∷ []) []) ≡ run s (cond e (lineCalls x.stage x.held) [])
+    by : (e : Bool) → donesOf (cond e (lineOf x.stage x.held ∷ []) []) ≡ run s (cond e (lineCalls x.stage x.held) [])
     by true = append-nil _ ∙ held
     by false = refl
 
 -- AND THE CALLS OF THE LINES ARE ANSWERED AS THE LIST OF CALLS IS
-pub answers : (x : Session) (s : State) (bs : List ℕ) → IsRunning x.stage s → donesOf (lines_of x bs) ≡ run s (calls_of x bs)
-unfolding lines_of calls_of
+pub answers : (x : Session) (s : State) (bs : List ℕ) → IsRunning x.stage s → donesOf (linesOf x bs) ≡ run s (callsOf x bs)
+unfolding linesOf callsOf
 answers x s [] r = refl
 answers x s (b ∷ bs) r =
     let rest = answers (eat x b).session (after s (eatCalls x b)) bs (eat-runs x s b r) in
-    dones-append (eatLines x b) (lines_of (eat x b).session bs)
-    ∙ ap (λ (ds : List Done). ds ++ donesOf (lines_of (eat x b).session bs)) (eat-answers x s b r)
+    dones-append (eatLines x b) (linesOf (eat x b).session bs)
+    ∙ ap (λ (ds : List Done). ds ++ donesOf (linesOf (eat x b).session bs)) (eat-answers x s b r)
     ∙ ap (λ (ds : List Done). run s (eatCalls x b) ++ ds) rest
-    ∙ sym (run-append s (eatCalls x b) (calls_of (eat x b).session bs))
+    ∙ sym (run-append s (eatCalls x b) (callsOf (eat x b).session bs))
 
 abbrev pub BadUncalled : List Line → Type 0
 BadUncalled [] = Unit
 BadUncalled (l ∷ ls) = (l.calls ≡ [] → IsBad l.answer) × BadUncalled ls
 
 -- AND A LINE WITHOUT A CALL IS REFUSED BY 30 OR 31
-pub uncalled : (x : Session) (s : State) (bs : List ℕ) → IsRunning x.stage s → BadUncalled (lines_of x bs)
-unfolding lines_of
+pub uncalled : (x : Session) (s : State) (bs : List ℕ) → IsRunning x.stage s → BadUncalled (linesOf x bs)
+unfolding linesOf
 uncalled x s [] r = tt
 uncalled x s (b ∷ bs) r = by (eqb b 10) (uncalled (eat x b).session (after s (eatCalls x b)) bs (eat-runs x s b r))
   where
-    held : lineCalls x.stage x.held ≡ [] → IsBad (answer_of x.stage x.held).answer
+    held : lineCalls x.stage x.held ≡ [] → IsBad (answerOf x.stage x.held).answer
     held = rw r.is (line-answers s r.last x.held).uncalled
 
-    by : (e : Bool) → BadUncalled (lines_of (eat x b).session bs) → BadUncalled (cond e (line_of x.stage x.held ∷ []) [] ++ lines_of (eat x b).session bs)
+    by : (e : Bool) → BadUncalled (linesOf (eat x b).session bs) → BadUncalled (cond e (lineOf x.stage x.held ∷ []) [] ++ linesOf (eat x b).session bs)
     by true h = (held, h)
     by false h = h
 

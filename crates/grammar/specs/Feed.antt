@@ -5,7 +5,7 @@ use Rattle.std.proofs.Math.Option.{Option, none, some}
 use Rattle.exec.specs.declared.Reply.{Reply}
 use Rattle.runner.specs.Calls as Calls
 use Rattle.calls.specs.Call as Call
-use Rattle.calls.specs.Call.{Call, Answer, timeOf, is_refused}
+use Rattle.calls.specs.Call.{Call, Answer, timeOf, isRefused}
 use Rattle.account.specs.Step.{State, replied, next, answer, opened}
 use Rattle.opening.specs.Open.{Opening, lineOpen}
 use Rattle.syntax.specs.Lines.{lineCall, zeros}
@@ -68,7 +68,7 @@ later none s last = bad (Running s last)
 later (some c) s last =
     cond (isBack (timeOf c) last)
     (record { stage = Running s last; answer = Call.Refused 31 })
-    (record { stage = Running (next s c) (remembered (is_refused (answer s c)) (timeOf c) last); answer = answer s c })
+    (record { stage = Running (next s c) (remembered (isRefused (answer s c)) (timeOf c) last); answer = answer s c })
 
 unfoldable pub answered : Stage → (line : List ℕ) → Answered
 answered First line = first (lineOpen line)
@@ -85,14 +85,14 @@ tooLong Over = bad Over
 abbrev pub isShort : (line : List ℕ) → Bool
 isShort line = leb (length line) 65535
 
-unfoldable pub answer_of : Stage → (line : List ℕ) → Answered
-answer_of x line = cond (isShort line) (answered x line) (tooLong x)
+unfoldable pub answerOf : Stage → (line : List ℕ) → Answered
+answerOf x line = cond (isShort line) (answered x line) (tooLong x)
 
 -- the line that is held, answered
 unfoldable pub lineEnds : Session → Step
 lineEnds s = record {
-  session = record { stage = (answer_of s.stage s.held).stage; lines = s.lines + 1; held = [] };
-  printed = lineText (s.lines + 1) (answer_of s.stage s.held).answer;
+  session = record { stage = (answerOf s.stage s.held).stage; lines = s.lines + 1; held = [] };
+  printed = lineText (s.lines + 1) (answerOf s.stage s.held).answer;
 }
 
 -- ---- bytes

@@ -10,7 +10,7 @@ use Rattle.account.specs.Step.{opened}
 use Rattle.syntax.specs.Lines.{fields, u64, zeros}
 use Rattle.syntax.specs.Words.{bytes}
 use Rattle.opening.specs.Open.{Opening, at, lineOpen}
-use Rattle.grammar.specs.Feed.{First, Running, Over, bad, isShort, answer_of}
+use Rattle.grammar.specs.Feed.{First, Running, Over, bad, isShort, answerOf}
 use Rattle.grammar.specs.ByLine.{answersFrom}
 
 -- the answers to a first line and to the question for the deadline behind it
@@ -19,12 +19,12 @@ asked line = answersFrom First (line ∷ bytes "deadline" ∷ [])
 
 -- a first line that is answered ok, and the time that its NOW says
 abbrev pub Starts : (line : List ℕ) (now : ℕ) → Type 0
-Starts line now = ((answer_of First line).answer ≡ Call.Ok) × (u64 (at (fields line) 1) ≡ some now)
+Starts line now = ((answerOf First line).answer ≡ Call.Ok) × (u64 (at (fields line) 1) ≡ some now)
 
 pub record EveryCard : Type 0 where
   -- a first line that says all that open needs, where open accepts it, is answered ok and leaves the runner that open gives
   pub opens : (line : List ℕ) (o : Opening) → isShort line ≡ true → lineOpen line ≡ some o → Opens o.conf o.now (zeros 65536) (zeros 1024)
-      → answer_of First line ≡ record { stage = Running (opened o.conf o.now (zeros 65536) (zeros 1024)) o.now; answer = Call.Ok }
+      → answerOf First line ≡ record { stage = Running (opened o.conf o.now (zeros 65536) (zeros 1024)) o.now; answer = Call.Ok }
   -- a missing TIMEOUT is 3,600,000,000,000 ns from open
   pub missing : (line : List ℕ) (now : ℕ) → Starts line now → at (fields line) 10 ≡ bytes "-" → asked line ≡ Call.Ok ∷ Call.Time (after now 3600000000000) ∷ []
   -- never is no limit
@@ -32,4 +32,4 @@ pub record EveryCard : Type 0 where
   -- a number is itself
   pub number : (line : List ℕ) (now n : ℕ) → Starts line now → u64 (at (fields line) 10) ≡ some n → asked line ≡ Call.Ok ∷ Call.Time (after now n) ∷ []
   -- any other text is 30, and no runner is opened
-  pub other : (line : List ℕ) → (at (fields line) 10 ≡ bytes "-" → ⊥) → (at (fields line) 10 ≡ bytes "never" → ⊥) → u64 (at (fields line) 10) ≡ none → answer_of First line ≡ bad Over
+  pub other : (line : List ℕ) → (at (fields line) 10 ≡ bytes "-" → ⊥) → (at (fields line) 10 ≡ bytes "never" → ⊥) → u64 (at (fields line) 10) ≡ none → answerOf First line ≡ bad Over

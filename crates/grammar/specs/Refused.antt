@@ -5,18 +5,18 @@ use Rattle.calls.specs.Call as Call
 use Rattle.account.specs.Step.{State}
 use Rattle.account.specs.Records.{among}
 use Rattle.account.specs.Refused.{ofCalls}
-use Rattle.grammar.specs.Feed.{First, Running, Over, bad, answer_of}
+use Rattle.grammar.specs.Feed.{First, Running, Over, bad, answerOf}
 use Rattle.grammar.specs.Calls.{ofLines}
 
 -- for every runner, stores and last time, line, and number
 pub record RefusedLines : Type 0 where
   -- once a runner is open, a line that is refused, by the card or by its call, leaves runner, stores and last time as they were
-  pub kept : (s : State) (last : ℕ) (line : List ℕ) (n : ℕ) → (answer_of (Running s last) line).answer ≡ Call.Refused n
-      → (answer_of (Running s last) line).stage ≡ Running s last
-  pub numbered : (s : State) (last : ℕ) (line : List ℕ) (n : ℕ) → (answer_of (Running s last) line).answer ≡ Call.Refused n
+  pub kept : (s : State) (last : ℕ) (line : List ℕ) (n : ℕ) → (answerOf (Running s last) line).answer ≡ Call.Refused n
+      → (answerOf (Running s last) line).stage ≡ Running s last
+  pub numbered : (s : State) (last : ℕ) (line : List ℕ) (n : ℕ) → (answerOf (Running s last) line).answer ≡ Call.Refused n
       → (among n ofCalls || among n ofLines) ≡ true
   -- a first line that is refused leaves no runner
-  pub unopened : (line : List ℕ) (n : ℕ) → (answer_of First line).answer ≡ Call.Refused n
-      → ((answer_of First line).stage ≡ Over) × (among n (10 ∷ 11 ∷ 30 ∷ []) ≡ true)
+  pub unopened : (line : List ℕ) (n : ℕ) → (answerOf First line).answer ≡ Call.Refused n
+      → ((answerOf First line).stage ≡ Over) × (among n (10 ∷ 11 ∷ 30 ∷ []) ≡ true)
   -- and then every line is 30
-  pub over : (line : List ℕ) → answer_of Over line ≡ bad Over
+  pub over : (line : List ℕ) → answerOf Over line ≡ bad Over

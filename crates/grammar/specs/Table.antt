@@ -7,7 +7,7 @@ use Rattle.syntax.specs.Table.{calls}
 use Rattle.syntax.specs.Words.{bytes}
 use Rattle.opening.specs.Open.{openOf, isOpen}
 use Rattle.account.specs.Step.{State}
-use Rattle.grammar.specs.Feed.{First, Running, Over, bad, remembered, first, later, answered, tooLong, answer_of}
+use Rattle.grammar.specs.Feed.{First, Running, Over, bad, remembered, first, later, answered, tooLong, answerOf}
 
 -- a session's lines: a time below the last is 31, and leaves all as it was; open is first and only first; where line 1 opened no
 -- runner, every later line is 30
@@ -21,8 +21,8 @@ unfolding calls openOf isOpen answered first later
 session-lines s = (refl, refl, refl, refl, refl)
 
 -- a line of 65,536 bytes is refused whole, whatever it says
-long-line : (s : State) (last : ℕ) (line : List ℕ) → length line ≡ 65536 → answer_of (Running s last) line ≡ bad (Running s last)
-unfolding answer_of tooLong
+long-line : (s : State) (last : ℕ) (line : List ℕ) → length line ≡ 65536 → answerOf (Running s last) line ≡ bad (Running s last)
+unfolding answerOf tooLong
 long-line s last line e = rw e refl
 
 -- a refused line's NOW is not remembered, another's is

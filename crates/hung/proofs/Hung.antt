@@ -31,7 +31,7 @@ use Rattle.calls.specs.Call.{Conf, Call}
 use Rattle.account.specs.Step as Step
 use Rattle.account.specs.Step.{State}
 use Rattle.account.specs.Claim.{Opens, isTerminal, anyTerminal, messages}
-use Rattle.account.specs.Records.{call, nextEntry, afterEntries, runEntries, made, calls_of}
+use Rattle.account.specs.Records.{call, nextEntry, afterEntries, runEntries, made, callsOf}
 use Rattle.account.proofs.Plain.{next, answer, begun, afterAll, run}
 use Rattle.account.proofs.Stages.{graceIf, timeoutIf, giveUpIf, dropLaunchIf, abandonStreamsIf, abandonIf, stage2, stage3, stage4, stage5, tickIf, tick_is, cancelIf, late, detachIf, launchedIf, cancelNext}
 use Rattle.account.proofs.Lives.{Frame, ticked-frame, tick-fin}
@@ -262,9 +262,9 @@ unfolding made
 hung conf now bytes lengths op cs ds es d t n e l u below m v =
     let o : State = Step.opened conf now bytes lengths in
     let s : State = nextEntry (afterEntries o cs) (call (Call.tick t)) in
-    let xs : List Call = calls_of conf (runEntries o cs) in
-    let ys : List Call = calls_of conf (runEntries s ds) in
-    let zs : List Call = calls_of conf (runEntries (nextEntry (afterEntries s ds) (call (Call.tick n))) es) in
+    let xs : List Call = callsOf conf (runEntries o cs) in
+    let ys : List Call = callsOf conf (runEntries s ds) in
+    let zs : List Call = callsOf conf (runEntries (nextEntry (afterEntries s ds) (call (Call.tick n))) es) in
     same-any conf (cs ++ (call (Call.tick t) ∷ (ds ++ (call (Call.tick n) ∷ es)))) o (good-open conf now bytes lengths op)
     ∙ ap (λ (calls : List Call). anyTerminal (Step.run o calls)) (late-calls conf now bytes lengths op cs ds es (call (Call.tick t)) (call (Call.tick n)) o)
     ∙ ap anyTerminal (same-run conf now bytes lengths op (xs ++ (Call.tick t ∷ (ys ++ (Call.tick n ∷ zs)))))

@@ -26,7 +26,7 @@ use Rattle.calls.specs.Call as Call
 use Rattle.calls.specs.Call.{Conf, Answer}
 use Rattle.account.specs.Step as Step
 use Rattle.account.specs.Step.{State}
-use Rattle.account.specs.Records.{Entry, EntryDone, call, nextEntry, answerEntry, runEntries, made, calls_of, anyTerminalIn}
+use Rattle.account.specs.Records.{Entry, EntryDone, call, nextEntry, answerEntry, runEntries, made, callsOf, anyTerminalIn}
 use Rattle.hung.specs.HungClaim.{RunsOn, Unended}
 use Rattle.hung.proofs.Hung.{hung}
 
@@ -64,8 +64,8 @@ abbrev five : List Entry
 five = call (Call.nextMessage (0 ∷ [])) ∷ four
 
 -- a list of the claim's, with its two ticks
-abbrev list_of : (before : List Entry) (t n : ℕ) (messages : List Entry) → List Entry
-list_of before t n messages = before ++ (call (Call.tick t) ∷ (asked ++ (call (Call.tick n) ∷ messages)))
+abbrev listOf : (before : List Entry) (t n : ℕ) (messages : List Entry) → List Entry
+listOf before t n messages = before ++ (call (Call.tick t) ∷ (asked ++ (call (Call.tick n) ∷ messages)))
 
 -- both streams truncated, and nothing to be used again
 abbrev timedOut : Outcome
@@ -80,23 +80,23 @@ timedOut = record {
 
 pub record Computed : Type 0 where
   -- no request before 10 and the termination at it; after the tick at 18 the fifth message is Terminal
-  pub answers : answersOf (runEntries (begins conf) (list_of running 10 18 five))
+  pub answers : answersOf (runEntries (begins conf) (listOf running 10 18 five))
       ≡ Call.Ok ∷ Call.Ok ∷ Call.Nothing ∷ Call.Time (At 10)
       ∷ Call.Ok ∷ Call.Asks (Call.Terminate Cause.TimedOut)
       ∷ Call.Ok ∷ Call.Says Call.Started ∷ Call.Says Call.InputClosed ∷ Call.Says (Call.End Stdout) ∷ Call.Says (Call.End Stderr) ∷ Call.Says (Call.Terminal timedOut) ∷ []
   -- four messages do not do, nor does a last tick before 18, nor a first one before 10
-  pub not-four : anyTerminalIn (runEntries (begins conf) (list_of running 10 18 four)) ≡ false
-  pub not_earlier : anyTerminalIn (runEntries (begins conf) (list_of running 10 17 five)) ≡ false
-  pub not-before : anyTerminalIn (runEntries (begins conf) (list_of running 9 17 five)) ≡ false
+  pub not-four : anyTerminalIn (runEntries (begins conf) (listOf running 10 18 four)) ≡ false
+  pub not_earlier : anyTerminalIn (runEntries (begins conf) (listOf running 10 17 five)) ≡ false
+  pub not-before : anyTerminalIn (runEntries (begins conf) (listOf running 9 17 five)) ≡ false
   -- nor where an exit was reported: it clears the timeout, and a stream that hung up is waited for
-  pub not-exited : anyTerminalIn (runEntries (begins conf) (list_of (call (Call.outputHungUp Stdout) ∷ call (Call.exited 0 MaybeStatus.None) ∷ running) 10 18 five)) ≡ false
+  pub not-exited : anyTerminalIn (runEntries (begins conf) (listOf (call (Call.outputHungUp Stdout) ∷ call (Call.exited 0 MaybeStatus.None) ∷ running) 10 18 five)) ≡ false
   -- nor where a time was above that of the tick: the timeout's termination was at 12
-  pub not-above : anyTerminalIn (runEntries (begins conf) (list_of (call (Call.tick 12) ∷ running) 10 18 five)) ≡ false
+  pub not-above : anyTerminalIn (runEntries (begins conf) (listOf (call (Call.tick 12) ∷ running) 10 18 five)) ≡ false
   -- nor where the sum is past the last instant: no end of grace is set
-  pub not_beyond : anyTerminalIn (runEntries (begins (withGrace 18446744073709551615)) (list_of running 10 18446744073709551628 five)) ≡ false
+  pub not_beyond : anyTerminalIn (runEntries (begins (withGrace 18446744073709551615)) (listOf running 10 18446744073709551628 five)) ≡ false
 
 pub computed : Computed
-unfolding Step.next Step.answer nextEntry answerEntry Calls.«open» Calls.tick Calls.deadline Calls.nextRequest Calls.nextMessage Calls.launched Calls.exited Calls.outputHungUp Range.fresh Range.stop Range.in_range outputFits bytesWith ifElse order Life.closeRunnerInput Life.endGrace Life.giveUp Life.abandonLaunch Life.abandonOpenStreams Life.beginTermination Life.terminate Life.passGrace Life.passTimeout Life.passSettlement Life.giveUpUnlessClean Life.passGiveUp Life.dropLaunch Life.dropStreams Life.passAbandonment Life.fire Life.ticked Life.deadlineOf Life.noteStarted Life.noteLaunch Life.launchedNext Life.noteExit Life.noteExitOnce Life.exitedNext Life.isReady Life.outcomeOf Streams.hungUpNext Message.sendableOf Message.choose Message.outputPaid Message.outputSent Message.effect Message.payload Message.bufferAfter Message.saidFor Message.wishFor Message.wish Message.wishEffect
+unfolding Step.next Step.answer nextEntry answerEntry Calls.«open» Calls.tick Calls.deadline Calls.nextRequest Calls.nextMessage Calls.launched Calls.exited Calls.outputHungUp Range.fresh Range.stop Range.inRange outputFits bytesWith ifElse order Life.closeRunnerInput Life.endGrace Life.giveUp Life.abandonLaunch Life.abandonOpenStreams Life.beginTermination Life.terminate Life.passGrace Life.passTimeout Life.passSettlement Life.giveUpUnlessClean Life.passGiveUp Life.dropLaunch Life.dropStreams Life.passAbandonment Life.fire Life.ticked Life.deadlineOf Life.noteStarted Life.noteLaunch Life.launchedNext Life.noteExit Life.noteExitOnce Life.exitedNext Life.isReady Life.outcomeOf Streams.hungUpNext Message.sendableOf Message.choose Message.outputPaid Message.outputSent Message.effect Message.payload Message.bufferAfter Message.saidFor Message.wishFor Message.wish Message.wishEffect
 computed = record {
   answers = refl;
   not-four = refl;
@@ -124,11 +124,11 @@ requested = (λ now x e. (let z : true ≡ false = cc in true≢false z), untime
 deadlined : RunsOn 10 Call.deadline
 deadlined = (λ now x e. (let z : true ≡ false = cc in true≢false z), untimed)
 
-unended : Unended 10 (calls_of conf (runEntries (begins conf) running))
+unended : Unended 10 (callsOf conf (runEntries (begins conf) running))
 unfolding made
 unended = (launched, (ticked, (requested, (deadlined, tt))))
 
 -- so Terminal comes in it by the claim alone, too
-pub ends : anyTerminalIn (runEntries (begins conf) (list_of running 10 18 five)) ≡ true
+pub ends : anyTerminalIn (runEntries (begins conf) (listOf running 10 18 five)) ≡ true
 unfolding made Calls.«open» bytesWith
 ends = hung conf 0 (0 ∷ 0 ∷ 0 ∷ []) [] refl running asked five 10 10 18 refl (omega arith) unended (omega arith) (omega arith) (omega arith)

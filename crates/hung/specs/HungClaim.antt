@@ -8,7 +8,7 @@ use Rattle.exec.specs.Time.{timeoutAt}
 use Rattle.calls.specs.Call.{Conf, Call, exited, tick, timeOf}
 use Rattle.account.specs.Step.{opened}
 use Rattle.account.specs.Claim.{messages}
-use Rattle.account.specs.Records.{Entry, call, nextEntry, afterEntries, runEntries, calls_of, anyTerminalIn}
+use Rattle.account.specs.Records.{Entry, call, nextEntry, afterEntries, runEntries, callsOf, anyTerminalIn}
 
 -- the program runs on: the call reports no exit, and its own time is not above t
 abbrev pub RunsOn : ℕ → Call → Type 0
@@ -26,7 +26,7 @@ Hung conf now bytes lengths =
     → let ticked = nextEntry (afterEntries (opened conf now bytes lengths) cs) (call (tick t)) in
     let before = afterEntries ticked ds in
     timeoutAt conf.timers.timeout now ≡ At d → d ≤ t
-    → Unended t (calls_of conf (runEntries (opened conf now bytes lengths) cs))
+    → Unended t (callsOf conf (runEntries (opened conf now bytes lengths) cs))
     → t + conf.timers.grace + conf.timers.settlement < 2 ^ 64 → t + conf.timers.grace + conf.timers.settlement ≤ n
-    → 5 ≤ messages (calls_of conf (runEntries (nextEntry before (call (tick n))) es))
+    → 5 ≤ messages (callsOf conf (runEntries (nextEntry before (call (tick n))) es))
     → anyTerminalIn (runEntries (opened conf now bytes lengths) (cs ++ (call (tick t) ∷ (ds ++ (call (tick n) ∷ es))))) ≡ true

@@ -23,17 +23,17 @@ use Rattle.lifecycle.specs.declared.life.Settling.TheVariants.{Idle, Requested, 
 use Rattle.lifecycle.specs.Life.{isFenced, isSettled, expectedBy, settleWith}
 use Rattle.choice.specs.declared.Choice.{Choice}
 use Rattle.output.specs.declared.Output.{Output}
-use Rattle.output.specs.Output.{is_held, closedOut, failedOut, hungUp, lostOut, intake, endedOut, askedOut, sentOut}
+use Rattle.output.specs.Output.{isHeld, closedOut, failedOut, hungUp, lostOut, intake, endedOut, askedOut, sentOut}
 use Rattle.output.specs.Outputs.{anyHeld}
 use Rattle.runner.specs.declared.answer.Request.TheVariants as Request
 use Rattle.runner.specs.declared.message.Wish.{Wish}
 use Rattle.runner.specs.declared.runner.Runner.{Runner}
 use Rattle.runner.specs.Calls as Calls
-use Rattle.runner.specs.Calls.{noting, hearing, storesDo, inputBy, outputBy, pendingBy, written_by, requestBy, messageBy, whenBy}
+use Rattle.runner.specs.Calls.{noting, hearing, storesDo, inputBy, outputBy, pendingBy, writtenBy, requestBy, messageBy, whenBy}
 use Rattle.runner.specs.Life.{awaitsLaunch, isCleanedUp, closeRunnerInput, noteStarted, noteLaunch, launchedNext, settledNext, deadlineOf, isReady, outcomeOf, cancelAnswer, cancelNext}
 use Rattle.runner.specs.Message.{MessageAfter, sendableOf, choose, outputPaid, outputSent, effect, payload, bufferAfter, saidFor, wish, handed, wishEffect}
-use Rattle.runner.specs.Range.{in_range, stop, bytesDo, lengthsDo}
-use Rattle.runner.specs.State.{at, out_of}
+use Rattle.runner.specs.Range.{inRange, stop, bytesDo, lengthsDo}
+use Rattle.runner.specs.State.{at, outOf}
 use Rattle.runner.specs.Streams.{InputAfter, isShut, room, received, outputTook, outputTaken, outputNext, outputStore, readAllowanceOf, discardedNext, closedNext, failedNext, hungUpNext, creditIn, creditAnswer, creditNext, inputAnswer, inputNext, inputStore, inputLengths, endAnswer, endNext, pendingOf, writtenNext, writtenLengths}
 use Rattle.calls.specs.Call as Call
 use Rattle.calls.specs.Call.{Call, Answer}
@@ -72,9 +72,9 @@ settled-sees y r = let s : Settling = r.life.settling in settle-sees (settleWith
 
 -- ---- a stream
 
-at-sees : (x : Stream) (f : Output → Output) (r : Runner) → ((out_of x r).closed ≡ true → (f (out_of x r)).closed ≡ true) → (is_held (out_of x r) ≡ false → is_held (f (out_of x r)) ≡ false)
+at-sees : (x : Stream) (f : Output → Output) (r : Runner) → ((outOf x r).closed ≡ true → (f (outOf x r)).closed ≡ true) → (isHeld (outOf x r) ≡ false → isHeld (f (outOf x r)) ≡ false)
     → calm (at x f (calm r)) ≡ calm (at x f r)
-at-sees x f r c h = plain r (at x f r) refl refl (put-clean x (f (out_of x r)) r c) (put-moot x (f (out_of x r)) r h)
+at-sees x f r c h = plain r (at x f r) refl refl (put-clean x (f (outOf x r)) r c) (put-moot x (f (outOf x r)) r h)
 
 -- one that hung up is not held
 hung : (c : Bool) → (not c && false) ≡ false
@@ -84,7 +84,7 @@ hung false = refl
 output-sees : (x : Stream) (n : ℕ) → Sees (λ (z : Runner). outputNext z x n)
 unfolding outputNext
 output-sees x n r =
-    let o : Output = intake (isShut x r) (out_of x r).discarding (room x r) n (out_of x r) in
+    let o : Output = intake (isShut x r) (outOf x r).discarding (room x r) n (outOf x r) in
     plain r (outputNext r x n) refl refl (put-clean x o r (λ e. e)) (put-moot x o r (λ e. e))
 
 -- ---- the calls of the peer, by whether the key is the execution's own
@@ -121,9 +121,9 @@ effect-sees Choice.Credit r = plain r (effect Choice.Credit r) refl refl (λ e. 
 effect-sees Choice.Started r = plain r (effect Choice.Started r) refl refl (λ e. e) (λ e. e)
 effect-sees Choice.InputClosed r = plain r (effect Choice.InputClosed r) refl refl (λ e. e) (λ e. e)
 effect-sees (Choice.End x) r =
-    let o : Output = endedOut (out_of x r) in plain r (effect (Choice.End x) r) refl refl (put-clean x o r (λ e. e)) (put-moot x o r (λ e. e))
+    let o : Output = endedOut (outOf x r) in plain r (effect (Choice.End x) r) refl refl (put-clean x o r (λ e. e)) (put-moot x o r (λ e. e))
 effect-sees (Choice.Output x n) r =
-    let o : Output = sentOut r.limits.chunk n (out_of x r) in
+    let o : Output = sentOut r.limits.chunk n (outOf x r) in
     plain r (effect (Choice.Output x n) r) refl refl (put-clean x o r (λ e. e)) (put-moot x o r (λ e. e))
 effect-sees Choice.Terminal r = plain r (effect Choice.Terminal r) refl refl (λ e. e) (λ e. e)
 
@@ -238,7 +238,7 @@ module _ (s : State) where
   }
   taken (Reply.Refused z) x b = getting (Call.Refused _)
 
-  handed-over : (p : Reply) (n : ℕ) → (let y = written_by p (calm r) n s.lengths in let z = written_by p r n s.lengths in
+  handed-over : (p : Reply) (n : ℕ) → (let y = writtenBy p (calm r) n s.lengths in let z = writtenBy p r n s.lengths in
       Alike (record { runner = y.noting.runner; bytes = s.bytes; lengths = y.lengths }) (replied y.noting.reply) (record { runner = z.noting.runner; bytes = s.bytes; lengths = z.lengths }) (replied z.noting.reply))
   unfolding writtenNext writtenLengths
   handed-over Reply.Ok n = record {
@@ -259,7 +259,7 @@ module _ (s : State) where
   wished (Reply.Refused z) = getting (Call.Refused _)
 
 pub call-sees : (c : Call) (s : State) → Alike (next (calmS s) c) (answer (calmS s) c) (next s c) (answer s c)
-unfolding next answer stop in_range Calls.key Calls.limits Calls.credit Calls.input Calls.endInput Calls.cancel Calls.launched Calls.readAllowance Calls.output Calls.discarded Calls.outputClosed Calls.outputFailed Calls.outputHungUp Calls.pendingInput Calls.inputWritten Calls.inputClosed Calls.exited Calls.settled Calls.dropped Calls.reset Calls.disconnect Calls.tick Calls.deadline Calls.nextRequest Calls.nextMessage Calls.isFinished Calls.isDetached Calls.awaitsSettlement Calls.memoryBound Calls.buffered Calls.highWater readAllowanceOf discardedNext closedNext failedNext hungUpNext closeRunnerInput
+unfolding next answer stop inRange Calls.key Calls.limits Calls.credit Calls.input Calls.endInput Calls.cancel Calls.launched Calls.readAllowance Calls.output Calls.discarded Calls.outputClosed Calls.outputFailed Calls.outputHungUp Calls.pendingInput Calls.inputWritten Calls.inputClosed Calls.exited Calls.settled Calls.dropped Calls.reset Calls.disconnect Calls.tick Calls.deadline Calls.nextRequest Calls.nextMessage Calls.isFinished Calls.isDetached Calls.awaitsSettlement Calls.memoryBound Calls.buffered Calls.highWater readAllowanceOf discardedNext closedNext failedNext hungUpNext closeRunnerInput
 call-sees Call.key s = getting s _
 call-sees Call.limits s = getting s _
 call-sees (Call.credit k p u) s =
@@ -281,7 +281,7 @@ call-sees (Call.output x b) s = taken s (stop s.runner (bytesDo s.runner.limits 
 call-sees (Call.discarded x n) s = noted s (stop s.runner true) _ _ (at-sees x (lostOut (ltb 0 n)) s.runner (λ e. e) (λ e. e))
 call-sees (Call.outputClosed x) s = noted s (stop s.runner true) _ _ (at-sees x closedOut s.runner (λ e. refl) (λ e. refl))
 call-sees (Call.outputFailed x) s = noted s (stop s.runner true) _ _ (at-sees x failedOut s.runner (λ e. refl) (λ e. refl))
-call-sees (Call.outputHungUp x) s = noted s (stop s.runner true) _ _ (at-sees x hungUp s.runner (λ e. e) (λ e. hung (out_of x s.runner).closed))
+call-sees (Call.outputHungUp x) s = noted s (stop s.runner true) _ _ (at-sees x hungUp s.runner (λ e. e) (λ e. hung (outOf x s.runner).closed))
 call-sees Call.pendingInput s = waiting s (stop s.runner (bytesDo s.runner.limits s.bytes))
 call-sees (Call.inputWritten n) s = handed-over s (stop s.runner (lengthsDo s.runner.limits s.lengths)) n
 call-sees Call.inputClosed s = noted s (stop s.runner true) _ _ (plain s.runner (closeRunnerInput s.runner) refl refl (λ e. e) (λ e. e))

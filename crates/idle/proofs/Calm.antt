@@ -11,11 +11,11 @@ use Rattle.lifecycle.specs.declared.life.Settling.TheVariants.{Idle, Requested, 
 use Rattle.lifecycle.specs.Life.{launchKnown, exitKnown, isFenced, isSettled}
 use Rattle.lifecycle.specs.Setters.{setGiveUpAt, setAbandonAt, setSettling}
 use Rattle.output.specs.declared.Output.{Output}
-use Rattle.output.specs.Output.{is_held}
+use Rattle.output.specs.Output.{isHeld}
 use Rattle.output.specs.Outputs.{putOutput, eachOutput, allClosed, anyHeld}
 use Rattle.runner.specs.declared.runner.Runner.{Runner}
 use Rattle.runner.specs.Life.{awaitsLaunch, isCleanedUp}
-use Rattle.runner.specs.State.{with, withLife, withOutputs, out_of}
+use Rattle.runner.specs.State.{with, withLife, withOutputs, outOf}
 use Rattle.account.specs.Step.{State, onRunner}
 use Rattle.account.proofs.Flags.{and_l, and_r, and_both}
 use Rattle.account.proofs.Sides.{of-every, on_out, none_of, of_none}
@@ -124,8 +124,8 @@ module _ (r : Runner) (e : isMoot r ≡ true) where
   pub moot-fenced : isFenced r.life.settling ≡ true
   moot-fenced = and_r (not (awaitsLaunch r)) _ moot-given
 
-  pub moot-held : (x : Stream) → is_held (out_of x r) ≡ false
-  moot-held = none_of (λ (x : Stream). is_held (out_of x r)) (not-false (anyHeld r.outputs) (and_r given _ e))
+  pub moot-held : (x : Stream) → isHeld (outOf x r) ≡ false
+  moot-held = none_of (λ (x : Stream). isHeld (outOf x r)) (not-false (anyHeld r.outputs) (and_r given _ e))
 
 -- settling is not Settled and Fenced at once
 pub unsettled : (s : Settling) → isFenced s ≡ true → isSettled s ≡ true → ⊥
@@ -137,19 +137,19 @@ unsettled Fenced e f = false≢true f
 -- ---- a change of one stream's output, which stays closed if it was, and is not held if it was not
 
 module _ (x : Stream) (o : Output) (r : Runner) where
-  pub put-clean : ((out_of x r).closed ≡ true → o.closed ≡ true) → isCleanedUp r ≡ true → isCleanedUp (withOutputs (putOutput x o r.outputs) r) ≡ true
+  pub put-clean : ((outOf x r).closed ≡ true → o.closed ≡ true) → isCleanedUp r ≡ true → isCleanedUp (withOutputs (putOutput x o r.outputs) r) ≡ true
   put-clean h e =
-      let k = every-stream (λ (y : Stream). (out_of y r).closed) (and_r (reports r e) _ (clean-closed r e)) in
+      let k = every-stream (λ (y : Stream). (outOf y r).closed) (and_r (reports r e) _ (clean-closed r e)) in
       and_both _ _
       (and_both (reports r e) _ (and_l (reports r e) _ (clean-closed r e))
       (of-every _ (on_out (λ (y : Stream) (p : Output). p.closed ≡ true) x o r.outputs (h (k x)) (λ y d. k y))))
       (clean-settled r e)
 
-  pub put-moot : (is_held (out_of x r) ≡ false → is_held o ≡ false) → isMoot r ≡ true → isMoot (withOutputs (putOutput x o r.outputs) r) ≡ true
+  pub put-moot : (isHeld (outOf x r) ≡ false → isHeld o ≡ false) → isMoot r ≡ true → isMoot (withOutputs (putOutput x o r.outputs) r) ≡ true
   put-moot h e =
       let k = moot-held r e in
       and_both _ _ (moot-given r e)
-      (false-not _ (of_none _ (on_out (λ (y : Stream) (p : Output). is_held p ≡ false) x o r.outputs (h (k x)) (λ y d. k y))))
+      (false-not _ (of_none _ (on_out (λ (y : Stream) (p : Output). isHeld p ≡ false) x o r.outputs (h (k x)) (λ y d. k y))))
 
 -- ---- a change of settling, which stays Settled or Fenced if it was
 

@@ -13,7 +13,7 @@ use Rattle.runner.specs.declared.runner.Runner.{Runner}
 use Rattle.runner.specs.Calls as Calls
 use Rattle.runner.specs.Calls.{noting, whenBy}
 use Rattle.runner.specs.Life.{ticked, deadlineOf}
-use Rattle.runner.specs.Range.{in_range, stop, bytesDo}
+use Rattle.runner.specs.Range.{inRange, stop, bytesDo}
 use Rattle.calls.specs.Call as Call
 use Rattle.calls.specs.Call.{Conf, Answer}
 use Rattle.account.specs.Step.{State, onRunner, next, answer, opened, fires}
@@ -38,7 +38,7 @@ module _ (s t : State) (h : calmS s ≡ calmS t) where
   alike-reported = ap deadlineIn (alike-answer (call Call.deadline))
 
   alike-message : (buffer : List ℕ) → messageBuffer s buffer ≡ messageBuffer t buffer
-  unfolding Calls.nextMessage stop in_range
+  unfolding Calls.nextMessage stop inRange
   alike-message buffer = sym (shows s) ∙ ap (λ (x : State). messageBuffer x buffer) h ∙ shows t
     where
       shows : (x : State) → messageBuffer (calmS x) buffer ≡ messageBuffer x buffer

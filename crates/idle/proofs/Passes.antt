@@ -17,8 +17,8 @@ use Rattle.lifecycle.specs.Setters.{setGiveUpAt, setAbandonAt}
 use Rattle.output.specs.declared.Output.{Output}
 use Rattle.output.specs.Output.{abandoned}
 use Rattle.runner.specs.declared.runner.Runner.{Runner}
-use Rattle.runner.specs.Life.{awaitsLaunch, isCleanedUp, closeRunnerInput, endGrace, giveUp, abandonLaunch, abandonOpenStreams, beginTermination, passGrace, terminate, passTimeout, passSettlement, giveUpUnlessClean, passGiveUp, dropLaunch, dropStreams, passAbandonment, fire, ticked, isLate, cancelAnswer, cancelNext, noteExit, is_over, noteExitOnce, timeoutCleared, exitedNext, silenced, giveUpSoon, cutOff, cutOffOnce, detachNext}
-use Rattle.runner.specs.State.{with, withClocks, out_of}
+use Rattle.runner.specs.Life.{awaitsLaunch, isCleanedUp, closeRunnerInput, endGrace, giveUp, abandonLaunch, abandonOpenStreams, beginTermination, passGrace, terminate, passTimeout, passSettlement, giveUpUnlessClean, passGiveUp, dropLaunch, dropStreams, passAbandonment, fire, ticked, isLate, cancelAnswer, cancelNext, noteExit, isOver, noteExitOnce, timeoutCleared, exitedNext, silenced, giveUpSoon, cutOff, cutOffOnce, detachNext}
+use Rattle.runner.specs.State.{with, withClocks, outOf}
 use Rattle.account.proofs.Flags.{or_left}
 use Rattle.account.proofs.Sides.{each_same}
 use Rattle.idle.proofs.Calm.{Sees, isMoot, swap, unless, giveUpShown, abandonShown, calm, kept, anew, plain, still, on, branch, clean-settled, clean-exit, clean-awaits, moot-awaits, moot-fenced, moot-held, unsettled, settle-sees}
@@ -130,7 +130,7 @@ moot-streams : (r : Runner) → isMoot r ≡ true → calm (abandonOpenStreams r
 unfolding abandonOpenStreams
 moot-streams r m =
     ap (λ (os : List Output). calm (with (setAbandonAt Never r.clocks) r.life r.flags r.input os r))
-    (each_same abandoned (λ (o : Output). o) r.outputs (λ x. unheld (out_of x r) (out_of x r).closed (out_of x r).hung_up refl refl (moot-held r m x)))
+    (each_same abandoned (λ (o : Output). o) r.outputs (λ x. unheld (outOf x r) (outOf x r).closed (outOf x r).hung_up refl refl (moot-held r m x)))
     ∙ ap (λ (d : Deadline). swap (giveUpShown r) d r) (hidden (isMoot r) m)
   where
     hidden : (b : Bool) → b ≡ true → unless b Never ≡ unless b r.clocks.abandon_at
@@ -192,9 +192,9 @@ cancel-shows Admission.Own now r = rw (ap isLate (tick-sees now r)) refl
 -- an exit that counts finds nothing cleaned up, and sets the time of abandonment anew
 exit-sees : (now : ℕ) (x : MaybeStatus) → Sees (λ (z : Runner). noteExitOnce z now x)
 unfolding noteExitOnce noteExit closeRunnerInput
-exit-sees now x r = by (is_over r) refl
+exit-sees now x r = by (isOver r) refl
   where
-    by : (b : Bool) → is_over r ≡ b → calm (cond b (calm r) (noteExit (calm r) now x)) ≡ calm (cond b r (noteExit r now x))
+    by : (b : Bool) → isOver r ≡ b → calm (cond b (calm r) (noteExit (calm r) now x)) ≡ calm (cond b r (noteExit r now x))
     by true e = still r
     by false e =
         let t : Runner = noteExit r now x in

@@ -13,7 +13,7 @@ use Rattle.calls.specs.Call.{Conf, Answer}
 use Rattle.account.specs.Step.{State, next, opened}
 use Rattle.account.specs.Records.{Entry, EntryDone, call, nextEntry, answerEntry, afterEntries}
 use Rattle.idle.specs.IdleClaim.{Woven, made, idle, woven, amid, reported, isBefore}
-use Rattle.idle.specs.PollClaim.{Beat, ticking, polled, afterTicks, isBy, Punctual, AllPunctual, instants, atEveryInstant, ifDue, dues, dues_of, atDeadlines, whenDue, Polls}
+use Rattle.idle.specs.PollClaim.{Beat, ticking, polled, afterTicks, isBy, Punctual, AllPunctual, instants, atEveryInstant, ifDue, dues, duesOf, atDeadlines, whenDue, Polls}
 use Rattle.idle.proofs.Calm.{calmS}
 use Rattle.idle.proofs.Idle.{alike-left, alike-answer, alike-reported, idle-still, reported-later}
 
@@ -45,9 +45,9 @@ at-it : (t : ℕ) (d : Deadline) → isBy t d ≡ true → isBefore t d ≡ fals
 at-it t Never h k = absurd (true≢false k)
 at-it t (At d) h k = ap At (omega (arith, leb-true t d h, ltb-false t d k))
 
-abbrev at_of : Deadline → ℕ
-at_of Never = 0
-at_of (At d) = d
+abbrev atOf : Deadline → ℕ
+atOf Never = 0
+atOf (At d) = d
 
 -- ---- up to an entry: s is the host's, t that of the one that ticks at every instant
 
@@ -73,7 +73,7 @@ module _ (clock : ℕ) where
       by true e skip = skip e
       by false e skip =
           let k : At n ≡ At u = sym (at-it n (reported s) p.1 e) ∙ alike-reported s t h ∙ d in
-          let m : n ≡ u = ap at_of k in
+          let m : n ≡ u = ap atOf k in
           on ts (next s (Call.tick n)) (alike-left s t h (call (Call.tick n)) ∙ ap (λ (x : ℕ). calmS (next t (Call.tick x))) m) p.2
 
   polled-alike : (n u : ℕ) (ts : List ℕ) (s t : State) → calmS s ≡ calmS t → isBy u (reported t) ≡ true → u + n ≡ suc clock → Punctual clock s ts
@@ -133,39 +133,39 @@ ticking-after [] ws s = refl
 ticking-after (t ∷ ts) ws s = ticking-after ts ws (next s (Call.tick t))
 
 -- one tick more than its clock shows instants before now
-abbrev up_to : ℕ → List ℕ
-up_to clock = instants 0 (suc clock)
+abbrev upTo : ℕ → List ℕ
+upTo clock = instants 0 (suc clock)
 
 polls-list : (bs : List Beat) (s t : State) → calmS s ≡ calmS t → AllPunctual s bs
     → (amid s (polled bs) ≡ amid t (polled (atEveryInstant bs))) × (calmS (afterEntries s (woven (polled bs))) ≡ calmS (afterEntries t (woven (polled (atEveryInstant bs)))))
 polls-list [] s t h p = (refl, h)
 polls-list (b ∷ bs) s t h p =
     let e : Entry = b.entry in
-    let v : State = afterTicks s b.ticks in let w : State = afterTicks t (up_to b.clock) in
+    let v : State = afterTicks s b.ticks in let w : State = afterTicks t (upTo b.clock) in
     let k : calmS v ≡ calmS w = polled-alike b.clock (suc b.clock) 0 b.ticks s t h (from_zero (reported t)) (omega arith) p.0 in
     let l = polls-list bs (nextEntry v e) (nextEntry w e) (alike-left v w k e) p.1 in (
       ticking-amid b.ticks (made e ∷ polled bs) s
           ∙ ap (λ (x : Answer). record { entry = e; answer = x } ∷ amid (nextEntry v e) (polled bs)) (alike-answer v w k e)
           ∙ ap (λ (ds : List EntryDone). record { entry = e; answer = answerEntry w e } ∷ ds) l.0
-          ∙ sym (ticking-amid (up_to b.clock) (made e ∷ polled (atEveryInstant bs)) t),
-      ap calmS (ticking-after b.ticks (made e ∷ polled bs) s) ∙ l.1 ∙ ap calmS (sym (ticking-after (up_to b.clock) (made e ∷ polled (atEveryInstant bs)) t)),
+          ∙ sym (ticking-amid (upTo b.clock) (made e ∷ polled (atEveryInstant bs)) t),
+      ap calmS (ticking-after b.ticks (made e ∷ polled bs) s) ∙ l.1 ∙ ap calmS (sym (ticking-after (upTo b.clock) (made e ∷ polled (atEveryInstant bs)) t)),
     )
 
 every-list : (bs : List Beat) (s : State) → AllPunctual s (atEveryInstant bs)
 every-list [] s = tt
 every-list (b ∷ bs) s =
-    (every-punctual b.clock (suc b.clock) 0 s (from_zero (reported s)) (omega arith), every-list bs (nextEntry (afterTicks s (up_to b.clock)) b.entry))
+    (every-punctual b.clock (suc b.clock) 0 s (from_zero (reported s)) (omega arith), every-list bs (nextEntry (afterTicks s (upTo b.clock)) b.entry))
 
 dues-list : (bs : List Beat) (s : State) → AllPunctual s (atDeadlines s bs)
 dues-list [] s = tt
 dues-list (b ∷ bs) s =
-    (dues-punctual b.clock (suc b.clock) 0 s (from_zero (reported s)) (omega arith), dues-list bs (nextEntry (afterTicks s (dues_of s b)) b.entry))
+    (dues-punctual b.clock (suc b.clock) 0 s (from_zero (reported s)) (omega arith), dues-list bs (nextEntry (afterTicks s (duesOf s b)) b.entry))
 
 -- who ticks at every instant ticks at the same ones, whatever the ticks were before
 every-same : (bs : List Beat) (s : State) → atEveryInstant (atDeadlines s bs) ≡ atEveryInstant bs
 every-same [] s = refl
 every-same (b ∷ bs) s =
-    ap (λ (cs : List Beat). record { ticks = up_to b.clock; clock = b.clock; entry = b.entry } ∷ cs) (every-same bs (nextEntry (afterTicks s (dues_of s b)) b.entry))
+    ap (λ (cs : List Beat). record { ticks = upTo b.clock; clock = b.clock; entry = b.entry } ∷ cs) (every-same bs (nextEntry (afterTicks s (duesOf s b)) b.entry))
 
 -- ---- picks: s is the run that spares, t the one that ticks on every pick
 

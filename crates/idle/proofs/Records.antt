@@ -16,7 +16,7 @@ use Rattle.runner.specs.declared.runner.Runner.{Runner}
 use Rattle.runner.specs.Calls as Calls
 use Rattle.runner.specs.Calls.{storesDo}
 use Rattle.runner.specs.Message.{MessageAfter}
-use Rattle.runner.specs.Range.{in_range, stop, bytesDo}
+use Rattle.runner.specs.Range.{inRange, stop, bytesDo}
 use Rattle.channel.specs.Calls as Channel
 use Rattle.channel.specs.Calls.{ReadAfter, WriteAfter, writeAfter, heardAs, notedAs, admitted, parsedRead, admittedRead, hasEnded, wrote, partBack, told, asked, isLeft, unwritten, sent, room, roomyWrite, admittedWrite}
 use Rattle.calls.specs.Call as Call
@@ -91,7 +91,7 @@ module _ (channel : ℕ) (store buffer : List ℕ) (r : Runner) where
   }
 
   sent-sees : Writes (sent (calm r) channel store buffer) (sent r channel store buffer)
-  unfolding sent asked Calls.nextMessage stop in_range
+  unfolding sent asked Calls.nextMessage stop inRange
   sent-sees =
       let m = message-sees (stop r (bytesDo r.limits store)) r store (take r.limits.chunk (drop 13 buffer)) in
       subst (λ (b : Bool). Writes (writes b (asked (calm r) store buffer) (calm r)) (writes (isLeft (asked r store buffer).saying.said) (asked r store buffer) r))
@@ -107,13 +107,13 @@ module _ (channel : ℕ) (store buffer : List ℕ) (r : Runner) where
   write-sees (Reply.Refused x) = record { runner = still r; wrote = refl; buffer = refl }
 
   pub record-sees : Writes (Channel.writeRecord (calm r) channel store buffer) (Channel.writeRecord r channel store buffer)
-  unfolding Channel.writeRecord admitted stop in_range
+  unfolding Channel.writeRecord admitted stop inRange
   record-sees = write-sees (admitted r (bytesDo r.limits store))
 
 -- ---- an entry
 
 pub entry-sees : (e : Entry) (s : State) → Alike (nextEntry (calmS s) e) (answerEntry (calmS s) e) (nextEntry s e) (answerEntry s e)
-unfolding nextEntry answerEntry Channel.readRecord admitted stop in_range
+unfolding nextEntry answerEntry Channel.readRecord admitted stop inRange
 entry-sees (call c) s = call-sees c s
 entry-sees (readRecord now channel b) s = read-sees (admitted s.runner (storesDo s.runner s.bytes s.lengths)) now channel b s
 entry-sees (writeRecord channel buffer) s =

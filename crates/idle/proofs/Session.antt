@@ -16,7 +16,7 @@ use Rattle.exec.specs.Key.{admits}
 use Rattle.exec.specs.Limits.{cost, bytesWith, bytesWindow, limitsFor}
 use Rattle.ring.specs.Ring.{wrap, ringRead, ringFrom, ringWrite}
 use Rattle.ring.specs.Runs.{copied}
-use Rattle.octets.specs.Bytes.{number_at, be32At}
+use Rattle.octets.specs.Bytes.{numberAt, be32At}
 use Rattle.choice.specs.Order.{ifElse, order}
 use Rattle.output.specs.Output.{outputFits}
 use Rattle.codec.specs.Codec as Codec
@@ -75,7 +75,7 @@ between = idle 0
 
 pub between-idle : AllIdle (begins short) between
     × (answersOf (amid (begins short) between) ≡ Call.Ok ∷ Call.Taken 1 ∷ Call.Time (At 10) ∷ Call.Value 1 ∷ [])
-unfolding Step.next Step.answer nextEntry answerEntry Calls.«open» Calls.launched Calls.output Calls.tick Calls.deadline Calls.buffered Range.fresh Range.stop Range.in_range outputFits bytesWith wrap ringWrite copied Life.passGrace Life.passTimeout Life.passSettlement Life.passGiveUp Life.passAbandonment Life.fire Life.ticked Life.deadlineOf Life.noteStarted Life.noteLaunch Life.launchedNext Streams.outputTaken Streams.outputNext Streams.outputStore Streams.outputTook
+unfolding Step.next Step.answer nextEntry answerEntry Calls.«open» Calls.launched Calls.output Calls.tick Calls.deadline Calls.buffered Range.fresh Range.stop Range.inRange outputFits bytesWith wrap ringWrite copied Life.passGrace Life.passTimeout Life.passSettlement Life.passGiveUp Life.passAbandonment Life.fire Life.ticked Life.deadlineOf Life.noteStarted Life.noteLaunch Life.launchedNext Streams.outputTaken Streams.outputNext Streams.outputStore Streams.outputTook
 between-idle = ((refl, (refl, (refl, (refl, tt)))), refl)
 
 -- and the first run, without them
@@ -88,7 +88,7 @@ atLast = idle 18446744073709551615 ∷ made (call (Call.tick 1844674407370955161
 
 pub none-idle : (AllIdle (begins none) atLast × (answersOf (amid (begins none) atLast) ≡ Call.Ok ∷ Call.Time Never ∷ []))
     × (AllIdle (Step.opened short 0 [] []) atLast × (answersOf (amid (Step.opened short 0 [] []) atLast) ≡ Call.Refused 10 ∷ Call.Refused 10 ∷ []))
-unfolding Step.next Step.answer nextEntry answerEntry Calls.«open» Calls.tick Calls.deadline Range.fresh Range.stop Range.in_range outputFits bytesWith Life.passGrace Life.passTimeout Life.passSettlement Life.passGiveUp Life.passAbandonment Life.fire Life.ticked Life.deadlineOf
+unfolding Step.next Step.answer nextEntry answerEntry Calls.«open» Calls.tick Calls.deadline Range.fresh Range.stop Range.inRange outputFits bytesWith Life.passGrace Life.passTimeout Life.passSettlement Life.passGiveUp Life.passAbandonment Life.fire Life.ticked Life.deadlineOf
 none-idle = (((refl, tt), refl), ((refl, tt), refl))
 
 -- the same on a channel: a record read, and three written into 43 bytes; no deadline is reported
@@ -107,7 +107,7 @@ onChannel = made (call (Call.launched LaunchResult.Started))
 pub channel-idle : AllIdle (Step.opened channel 0 (zeros 16) []) onChannel
     × (answersOf (amid (Step.opened channel 0 (zeros 16) []) onChannel)
     ≡ Call.Ok ∷ Call.Applied ∷ Call.Taken 3 ∷ Call.Says (Call.Credit 8) ∷ Call.Says Call.Started ∷ Call.Says (Call.Output Stdout (97 ∷ 98 ∷ 99 ∷ [])) ∷ [])
-unfolding Step.next Step.answer nextEntry answerEntry Calls.«open» Calls.launched Calls.output Calls.tick Calls.deadline Calls.nextMessage Calls.credit Range.fresh Range.stop Range.in_range outputFits bytesWith admits cost wrap ringRead ringFrom ringWrite copied ifElse order Life.passGrace Life.passTimeout Life.passSettlement Life.passGiveUp Life.passAbandonment Life.fire Life.ticked Life.deadlineOf Life.noteStarted Life.noteLaunch Life.launchedNext Life.isReady Life.outcomeOf Message.sendableOf Message.choose Message.outputPaid Message.outputSent Message.effect Message.payload Message.bufferAfter Message.saidFor Streams.outputTaken Streams.outputNext Streams.outputStore Streams.outputTook Streams.creditIn Streams.creditAnswer Streams.creditNext number_at be32At Channel.admitted Channel.made Channel.parsedRead Channel.admittedRead Channel.readRecord Channel.sentAs Channel.sentBuffer Channel.wrote Channel.wroteBuffer Channel.told Channel.asked Channel.isLeft Channel.sent Channel.roomyWrite Channel.admittedWrite Channel.writeRecord Codec.header Codec.bytes_of Codec.laidRecord Codec.kinded Codec.fitting Codec.checked Codec.read
+unfolding Step.next Step.answer nextEntry answerEntry Calls.«open» Calls.launched Calls.output Calls.tick Calls.deadline Calls.nextMessage Calls.credit Range.fresh Range.stop Range.inRange outputFits bytesWith admits cost wrap ringRead ringFrom ringWrite copied ifElse order Life.passGrace Life.passTimeout Life.passSettlement Life.passGiveUp Life.passAbandonment Life.fire Life.ticked Life.deadlineOf Life.noteStarted Life.noteLaunch Life.launchedNext Life.isReady Life.outcomeOf Message.sendableOf Message.choose Message.outputPaid Message.outputSent Message.effect Message.payload Message.bufferAfter Message.saidFor Streams.outputTaken Streams.outputNext Streams.outputStore Streams.outputTook Streams.creditIn Streams.creditAnswer Streams.creditNext numberAt be32At Channel.admitted Channel.made Channel.parsedRead Channel.admittedRead Channel.readRecord Channel.sentAs Channel.sentBuffer Channel.wrote Channel.wroteBuffer Channel.told Channel.asked Channel.isLeft Channel.sent Channel.roomyWrite Channel.admittedWrite Channel.writeRecord Codec.header Codec.bytesOf Codec.laidRecord Codec.kinded Codec.fitting Codec.checked Codec.read
 channel-idle = ((refl, (refl, (refl, tt))), refl)
 
 -- ---- what a tick put in may move: two timers that no answer shows, so that the two runs do not end in the same state
@@ -134,7 +134,7 @@ unseen : (AllIdle (begins none) fenced
     × (AllIdle (begins none) clean
     × ((afterEntries (begins none) (alone clean)).runner.clocks.give_up_at ≡ At 0)
     × ((afterEntries (begins none) (woven clean)).runner.clocks.give_up_at ≡ Never))
-unfolding Step.next Step.answer nextEntry Calls.«open» Calls.launched Calls.exited Calls.settled Calls.outputClosed Calls.cancel Calls.tick Calls.deadline Range.fresh Range.stop Range.in_range outputFits bytesWith admits Life.closeRunnerInput Life.endGrace Life.beginTermination Life.terminate Life.abandonOpenStreams Life.passGrace Life.passTimeout Life.passSettlement Life.giveUpUnlessClean Life.passGiveUp Life.dropLaunch Life.dropStreams Life.passAbandonment Life.fire Life.ticked Life.deadlineOf Life.cancelNext Life.noteStarted Life.noteLaunch Life.launchedNext Life.noteExit Life.noteExitOnce Life.exitedNext Life.settledNext Streams.closedNext
+unfolding Step.next Step.answer nextEntry Calls.«open» Calls.launched Calls.exited Calls.settled Calls.outputClosed Calls.cancel Calls.tick Calls.deadline Range.fresh Range.stop Range.inRange outputFits bytesWith admits Life.closeRunnerInput Life.endGrace Life.beginTermination Life.terminate Life.abandonOpenStreams Life.passGrace Life.passTimeout Life.passSettlement Life.giveUpUnlessClean Life.passGiveUp Life.dropLaunch Life.dropStreams Life.passAbandonment Life.fire Life.ticked Life.deadlineOf Life.cancelNext Life.noteStarted Life.noteLaunch Life.launchedNext Life.noteExit Life.noteExitOnce Life.exitedNext Life.settledNext Streams.closedNext
 unseen = (((refl, tt), refl, refl), ((refl, tt), refl, refl))
 
 abbrev isNever : Deadline → Bool
@@ -214,7 +214,7 @@ pub record Computed : Type 0 where
   pub late : (lately (13 ∷ 17 ∷ 20 ∷ []) ≡ Call.Nothing) × (lately (20 ∷ []) ≡ Call.Asks (Call.Discard Stdout))
 
 pub computed : Computed
-unfolding Step.next Step.answer nextEntry answerEntry Calls.«open» Calls.tick Calls.deadline Calls.nextRequest Calls.launched Calls.exited Calls.cancel Calls.awaitsSettlement Calls.readAllowance Range.fresh Range.stop Range.in_range outputFits bytesWith admits Life.closeRunnerInput Life.endGrace Life.giveUp Life.abandonLaunch Life.abandonOpenStreams Life.beginTermination Life.terminate Life.passGrace Life.passTimeout Life.passSettlement Life.giveUpUnlessClean Life.passGiveUp Life.dropLaunch Life.dropStreams Life.passAbandonment Life.fire Life.ticked Life.deadlineOf Life.cancelNext Life.noteStarted Life.noteLaunch Life.launchedNext Life.noteExit Life.noteExitOnce Life.exitedNext Streams.readAllowanceOf Message.wishFor Message.wish Message.wishEffect
+unfolding Step.next Step.answer nextEntry answerEntry Calls.«open» Calls.tick Calls.deadline Calls.nextRequest Calls.launched Calls.exited Calls.cancel Calls.awaitsSettlement Calls.readAllowance Range.fresh Range.stop Range.inRange outputFits bytesWith admits Life.closeRunnerInput Life.endGrace Life.giveUp Life.abandonLaunch Life.abandonOpenStreams Life.beginTermination Life.terminate Life.passGrace Life.passTimeout Life.passSettlement Life.giveUpUnlessClean Life.passGiveUp Life.dropLaunch Life.dropStreams Life.passAbandonment Life.fire Life.ticked Life.deadlineOf Life.cancelNext Life.noteStarted Life.noteLaunch Life.launchedNext Life.noteExit Life.noteExitOnce Life.exitedNext Streams.readAllowanceOf Message.wishFor Message.wish Message.wishEffect
 computed = record {
   before-it = (refl, refl, refl);
   after-it = (refl, refl, refl);

@@ -11,7 +11,7 @@ use Rattle.exec.specs.declared.Cause.TheVariants.{TimedOut}
 use Rattle.exec.specs.Time.{earliest, due}
 use Rattle.lifecycle.specs.declared.life.Settling.{Settling}
 use Rattle.lifecycle.specs.declared.life.Settling.TheVariants.{Idle, Requested, Settled, Fenced}
-use Rattle.lifecycle.specs.Clocks.{first_of}
+use Rattle.lifecycle.specs.Clocks.{firstOf}
 use Rattle.lifecycle.specs.Life.{launchKnown, isFenced, settlingLate, expired, expired-in-time, expectedBy}
 use Rattle.lifecycle.specs.Setters.{setGiveUpAt, setSettling}
 use Rattle.output.specs.Outputs.{anyHeld}
@@ -66,13 +66,13 @@ module _ (now : ℕ) (r : Runner) where
     pub give-up : due gives now ≡ false
     pub abandonment : due leavesAt now ≡ false
 
-  first-due : due (first_of r.clocks (expectedBy r.life.settling) (not (isCleanedUp r)) (abandons r)) now
+  first-due : due (firstOf r.clocks (expectedBy r.life.settling) (not (isCleanedUp r)) (abandons r)) now
       ≡ ((((due r.clocks.timeout_at now || due r.clocks.grace_until now) || due (expectedBy r.life.settling) now) || due gives now) || due leavesAt now)
   first-due =
       earliest-due (earliest first3 gives) leavesAt now
       ∙ rw (earliest-due first3 gives now, earliest-due first2 (expectedBy r.life.settling) now, earliest-due r.clocks.timeout_at r.clocks.grace_until now) refl
 
-  waits : due (first_of r.clocks (expectedBy r.life.settling) (not (isCleanedUp r)) (abandons r)) now ≡ false → Waits
+  waits : due (firstOf r.clocks (expectedBy r.life.settling) (not (isCleanedUp r)) (abandons r)) now ≡ false → Waits
   waits e =
       by (due r.clocks.timeout_at now) (due r.clocks.grace_until now) (due (expectedBy r.life.settling) now) (due gives now) (due leavesAt now)
       refl refl refl refl refl (sym first-due ∙ e)
@@ -140,7 +140,7 @@ module _ (now : ℕ) (r : Runner) where
   unfolding ticked deadlineOf
   tick-idle e = by r.flags.finished e
     where
-      by : (f : Bool) → due (cond f Never (first_of r.clocks (expectedBy r.life.settling) (not (isCleanedUp r)) (abandons r))) now ≡ false → calm (cond f r (fire r now)) ≡ calm r
+      by : (f : Bool) → due (cond f Never (firstOf r.clocks (expectedBy r.life.settling) (not (isCleanedUp r)) (abandons r))) now ≡ false → calm (cond f r (fire r now)) ≡ calm r
       by true e = refl
       by false e = fire-idle (waits e)
 

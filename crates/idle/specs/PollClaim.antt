@@ -68,13 +68,13 @@ abbrev pub dues : (most clock : ℕ) → State → List ℕ
 dues zero clock s = []
 dues (suc n) clock s = ifDue (reported s) clock (λ (d : ℕ). d ∷ dues n clock (next s (Call.tick d)))
 
-abbrev pub dues_of : State → Beat → List ℕ
-dues_of s b = dues (suc b.clock) b.clock s
+abbrev pub duesOf : State → Beat → List ℕ
+duesOf s b = dues (suc b.clock) b.clock s
 
 abbrev pub atDeadlines : State → List Beat → List Beat
 atDeadlines s [] = []
 atDeadlines s (b ∷ bs) =
-    record { ticks = dues_of s b; clock = b.clock; entry = b.entry } ∷ atDeadlines (nextEntry (afterTicks s (dues_of s b)) b.entry) bs
+    record { ticks = duesOf s b; clock = b.clock; entry = b.entry } ∷ atDeadlines (nextEntry (afterTicks s (duesOf s b)) b.entry) bs
 
 -- ---- picks: the instants at which a host looks at its clock, among its entries
 

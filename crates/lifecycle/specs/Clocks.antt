@@ -30,8 +30,8 @@ clocksDue c now =
     ((due c.timeout_at now || due c.grace_until now) || due c.give_up_at now) || due c.abandon_at now
 
 -- the first to fire, with the settlement's, and those of give-up and abandonment where they would still do anything
-abbrev pub first_of : Clocks → Deadline → (giveUp abandon : Bool) → Deadline
-first_of c settlement giveUp abandon =
+abbrev pub firstOf : Clocks → Deadline → (giveUp abandon : Bool) → Deadline
+firstOf c settlement giveUp abandon =
     earliest (earliest (earliest (earliest c.timeout_at c.grace_until) settlement)
     (cond giveUp c.give_up_at Never)) (cond abandon c.abandon_at Never)
 

@@ -1,7 +1,7 @@
 // The deadlines of an execution, and what each event does to them.
 ghost use Rattle.std.specs.Prelude.{◌≡◌};
 ghost use Rattle.lifecycle.specs.Setters.{setTimeoutAt, setGraceUntil, setGiveUpAt, setAbandonAt};
-ghost use Rattle.lifecycle.specs.Clocks.{terminateClocks, stopWaiting, giveUpBy, clocksDue, first_of};
+ghost use Rattle.lifecycle.specs.Clocks.{terminateClocks, stopWaiting, giveUpBy, clocksDue, firstOf};
 
 use exec::Deadline;
 
@@ -150,7 +150,7 @@ impl Clocks {
 
     // The next to fire, with the settlement's; `give_up` and `abandon` say whether those two would still do anything.
     pub fn first(self, settlement: Deadline, give_up: bool, abandon: bool) -> Deadline
-        ensures { result ≡ first_of self settlement give_up abandon }
+        ensures { result ≡ firstOf self settlement give_up abandon }
     {
         let timeout_at = self.timeout_at;
         let grace_until = self.grace_until;

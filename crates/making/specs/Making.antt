@@ -23,7 +23,7 @@ use Rattle.runner.specs.Streams.{OutputAfter, InputAfter, pendingOf}
 use Rattle.runner.specs.declared.answer.Saying.{Saying}
 use Rattle.runner.specs.Message.{MessageAfter, messageAfter, saidFor, choose, sendableOf}
 use Rattle.exec.specs.Limits.{poolOf}
-use Rattle.runner.specs.State.{out_of, credit_at}
+use Rattle.runner.specs.State.{outOf, creditAt}
 use Rattle.runner.specs.MessageLaws.{chosen, least}
 use Rattle.calls.specs.Call as Account
 use Rattle.calls.specs.Call.{Call}
@@ -51,20 +51,20 @@ timeIs (MaybeTime.At now) = some now
 abbrev pub TimeIs : MaybeTime → Calls.Call → Type 0
 TimeIs r c = (work : List ℕ) → timeIs r ≡ timeOf (callIs c work)
 
-abbrev pub state_of : Runner → (bytes lengths : List ℕ) → State
-state_of r bytes lengths = record { runner = r; bytes = bytes; lengths = lengths }
+abbrev pub stateOf : Runner → (bytes lengths : List ℕ) → State
+stateOf r bytes lengths = record { runner = r; bytes = bytes; lengths = lengths }
 
 -- the runner, its stores and the answer after a call
 abbrev pub Made : State → Call → Making → (bytes lengths work : List ℕ) → Type 0
-Made s c r bytes lengths work = (state_of r.runner bytes lengths ≡ next s c) × (answerIs r.answer work ≡ answer s c)
+Made s c r bytes lengths work = (stateOf r.runner bytes lengths ≡ next s c) × (answerIs r.answer work ≡ answer s c)
 
 -- the same for a call that is lent no store, whatever the stores are
 abbrev pub Moves : Runner → Call → Making → Type 0
-Moves x c r = (bytes lengths work : List ℕ) → Made (state_of x bytes lengths) c r bytes lengths work
+Moves x c r = (bytes lengths work : List ℕ) → Made (stateOf x bytes lengths) c r bytes lengths work
 
 -- the answer to a question, whatever the lengths are
 abbrev pub Tells : Runner → (bytes : List ℕ) → Call → Answer → (work : List ℕ) → Type 0
-Tells x bytes c a work = (lengths : List ℕ) → answerIs a work ≡ answer (state_of x bytes lengths) c
+Tells x bytes c a work = (lengths : List ℕ) → answerIs a work ≡ answer (stateOf x bytes lengths) c
 
 -- the same for a call that is lent stores, from what it leaves
 abbrev pub OutputMade : Runner → Answer → (bytes : List ℕ) → OutputAfter → Type 0
@@ -133,7 +133,7 @@ chosen-fits Choice.Terminal r k f = tt
 
 sends-fit : (r : Runner) (k : ℕ) (x : Stream) (n : ℕ) → Choice.Output x n ≡ choose r k → n ≤ k
 unfolding sendableOf
-sends-fit r k x n e = let c = chosen r k x n e in let m = min (min (out_of x r).queued r.limits.chunk) k in omega (arith, c.bytes, least r.limits.output.unit (credit_at (poolOf r.limits x) r.credits).available m)
+sends-fit r k x n e = let c = chosen r k x n e in let m = min (min (outOf x r).queued r.limits.chunk) k in omega (arith, c.bytes, least r.limits.output.unit (creditAt (poolOf r.limits x) r.credits).available m)
 
 pub said_fits : (r : Runner) (store buffer : List ℕ) → Fits (nextMessage r store buffer).saying.said (length buffer)
 unfolding nextMessage

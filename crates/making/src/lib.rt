@@ -8,7 +8,7 @@ ghost use Rattle.runner.specs.Calls as Runs;
 ghost use Rattle.syntax.specs.Lines.{zeros};
 ghost use Rattle.syntax.specs.Meaning.{timedIs, questionIs, callIs};
 ghost use Rattle.answering.specs.Answering.{answerIs, AnswerIs};
-ghost use Rattle.making.specs.Making.{TimeIs, state_of, OutputMade, InputMade, MessageMade, Made, Moves, Tells};
+ghost use Rattle.making.specs.Making.{TimeIs, stateOf, OutputMade, InputMade, MessageMade, Made, Moves, Tells};
 
 use answering::Answer;
 use exec::{Key, Stream};
@@ -171,7 +171,7 @@ fn waits(refusal: u32, pending: &[u8], work: &mut [u8]) -> Answer
 #[tactic(auto, unfolding(account::specs::Step::answer))]
 fn pending_input(runner: Runner, store: &[u8], work: &mut [u8]) -> Answer
     requires { length store.now ≤ length work.old }
-    ensures { answerIs result work.new ≡ answer (state_of runner store.now []) Calls.pendingInput }
+    ensures { answerIs result work.new ≡ answer (stateOf runner store.now []) Calls.pendingInput }
 {
     let mut refusal: u32 = 0;
     let pending = runner.pending_input(store, &mut refusal);
@@ -222,7 +222,7 @@ pub fn make(
     work: &mut [u8],
 ) -> Making
     requires { (length store.old ≤ 65536) × (length work.old ≡ 65536) }
-    ensures { Made (state_of runner store.old lengths.old) (callIs call work.old) result store.new lengths.new work.new }
+    ensures { Made (stateOf runner store.old lengths.old) (callIs call work.old) result store.new lengths.new work.new }
 {
     match call {
         Call::Credit(key, pool, units) => heard(runner.credit(key, pool, units)),

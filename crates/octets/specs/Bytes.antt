@@ -10,5 +10,5 @@ unfoldable pub be32At : List ℕ → ℕ → ℕ
 be32At s at = get_or s at 0 * 16777216 + get_or s (at + 1) 0 * 65536 + get_or s (at + 2) 0 * 256 + get_or s (at + 3) 0
 
 -- the same, and 0 where the bytes end before it does
-unfoldable pub number_at : List ℕ → ℕ → ℕ
-number_at s at = cond (leb (at + 4) (length s)) (be32At s at) 0
+unfoldable pub numberAt : List ℕ → ℕ → ℕ
+numberAt s at = cond (leb (at + 4) (length s)) (be32At s at) 0

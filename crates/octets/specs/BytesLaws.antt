@@ -6,15 +6,15 @@ use Rattle.std.proofs.Math.Seq.{get_or-append_seam}
 use Rattle.std.proofs.lemmas.List.Edits.{sets-eq}
 use Rattle.ring.specs.Runs.{copied, copied-step, copied-after}
 use Rattle.ring.specs.Lent.{copied_all, copied-join}
-use Rattle.octets.specs.Bytes.{be32, be32At, number_at}
+use Rattle.octets.specs.Bytes.{be32, be32At, numberAt}
 
 -- ---- a number and its bytes
 
 -- the number that four bytes stand for
-abbrev of_bytes : (a b c d : ℕ) → ℕ
-of_bytes a b c d = a * 16777216 + b * 65536 + c * 256 + d
+abbrev ofBytes : (a b c d : ℕ) → ℕ
+ofBytes a b c d = a * 16777216 + b * 65536 + c * 256 + d
 
-pub be32-back : (v : ℕ) → v < 2 ^ 32 → of_bytes (v / 16777216 % 256) (v / 65536 % 256) (v / 256 % 256) (v % 256) ≡ v
+pub be32-back : (v : ℕ) → v < 2 ^ 32 → ofBytes (v / 16777216 % 256) (v / 65536 % 256) (v / 256 % 256) (v % 256) ≡ v
 be32-back v h =
     let two : v / 256 / 256 ≡ v / 65536 = div-div-eq-div-mul v 256 256 in
     let three : v / 65536 / 256 ≡ v / 16777216 = div-div-eq-div-mul v 65536 256 in
@@ -25,9 +25,9 @@ be32-back v h =
     let d : v / 16777216 % 256 ≡ v / 16777216 = mod-eq_of_lt w in
     omega arith
 
-be32-of : (a b c d : ℕ) → a < 256 → b < 256 → c < 256 → d < 256 → be32 (of_bytes a b c d) ≡ a ∷ b ∷ c ∷ d ∷ []
+be32-of : (a b c d : ℕ) → a < 256 → b < 256 → c < 256 → d < 256 → be32 (ofBytes a b c d) ≡ a ∷ b ∷ c ∷ d ∷ []
 be32-of a b c d ha hb hc hd =
-    let v = of_bytes a b c d in
+    let v = ofBytes a b c d in
     let w : v / 16777216 % 256 ≡ a = omega arith in
     let x : v / 65536 % 256 ≡ b = omega arith in
     let y : v / 256 % 256 ≡ c = omega arith in
@@ -36,12 +36,12 @@ be32-of a b c d ha hb hc hd =
 
 -- ---- a number in a list of bytes
 
-pub number-there : (s : List ℕ) (at : ℕ) → at + 4 ≤ length s → number_at s at ≡ be32At s at
-unfolding number_at
+pub number-there : (s : List ℕ) (at : ℕ) → at + 4 ≤ length s → numberAt s at ≡ be32At s at
+unfolding numberAt
 number-there s at h = simp (le-leb (at + 4) (length s) h)
 
 -- a number is read where it was written
-pub number-written : (p t : List ℕ) (v : ℕ) → v < 2 ^ 32 → number_at (p ++ (be32 v ++ t)) (length p) ≡ v
+pub number-written : (p t : List ℕ) (v : ℕ) → v < 2 ^ 32 → numberAt (p ++ (be32 v ++ t)) (length p) ≡ v
 unfolding be32At
 number-written p t v h =
     let q = be32 v ++ t in
@@ -63,8 +63,8 @@ module _ (s : List ℕ) (bytes : (i : ℕ) → get_or s i 0 < 256) where
   unfolding be32At
   below at = omega (arith, bytes at, bytes (at + 1), bytes (at + 2), bytes (at + 3))
 
-  pub number_fits : (at : ℕ) → number_at s at < 2 ^ 32
-  unfolding number_at
+  pub number_fits : (at : ℕ) → numberAt s at < 2 ^ 32
+  unfolding numberAt
   number_fits at = cond_below (leb (at + 4) (length s)) (be32At s at) 0 (2 ^ 32) (below at) (omega arith)
 
   be32-there : (at : ℕ) → be32 (be32At s at) ≡ get_or s at 0 ∷ get_or s (at + 1) 0 ∷ get_or s (at + 2) 0 ∷ get_or s (at + 3) 0 ∷ []
@@ -72,7 +72,7 @@ module _ (s : List ℕ) (bytes : (i : ℕ) → get_or s i 0 < 256) where
   be32-there at = be32-of _ _ _ _ (bytes at) (bytes (at + 1)) (bytes (at + 2)) (bytes (at + 3))
 
   -- the list from a number on: the number's bytes, and what stands behind them
-  pub peel : (at v : ℕ) → at + 4 ≤ length s → number_at s at ≡ v → drop at s ≡ be32 v ++ drop (at + 4) s
+  pub peel : (at v : ℕ) → at + 4 ≤ length s → numberAt s at ≡ v → drop at s ≡ be32 v ++ drop (at + 4) s
   peel at v h e =
       let four : drop at s ≡ get_or s at 0 ∷ get_or s (at + 1) 0 ∷ get_or s (at + 2) 0 ∷ get_or s (at + 3) 0 ∷ drop (at + 4) s =
       cc (

@@ -3,7 +3,7 @@
 
 ghost use Rattle.std.specs.Prelude.{◌≡◌, [], ◌∷◌, ◌+◌, ◌≤◌, ◌<◌, ◌^◌, length};
 ghost use Rattle.ring.specs.Runs.{copied};
-ghost use Rattle.octets.specs.Bytes.{be32, be32At, number_at};
+ghost use Rattle.octets.specs.Bytes.{be32, be32At, numberAt};
 ghost use Rattle.octets.specs.Text.{same};
 
 fn wide(x: u8) -> u32
@@ -22,10 +22,10 @@ pub fn get_be32(s: &[u8], at: usize) -> u32
 }
 
 // The same, and 0 where the bytes end before it does.
-#[tactic(auto, unfolding(crate::specs::Bytes::number_at))]
+#[tactic(auto, unfolding(crate::specs::Bytes::numberAt))]
 pub fn number_at(s: &[u8], at: usize) -> u32
     requires { at + 4 < 2 ^ 64 }
-    ensures { result ≡ number_at s.now at }
+    ensures { result ≡ numberAt s.now at }
 {
     if at + 4 <= s.len() {
         get_be32(s, at)

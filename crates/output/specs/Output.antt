@@ -24,8 +24,8 @@ abbrev pub isDone : Output → Bool
 isDone o = o.closed && not (ltb 0 o.queued)
 
 -- a process may hold it open
-abbrev pub is_held : Output → Bool
-is_held o = not o.closed && not o.hung_up
+abbrev pub isHeld : Output → Bool
+isHeld o = not o.closed && not o.hung_up
 
 -- done, with its end told or nobody to tell
 abbrev pub isDelivered : Bool → Output → Bool

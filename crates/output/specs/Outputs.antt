@@ -4,7 +4,7 @@ use Rattle.exec.specs.declared.Stream.{Stream}
 use Rattle.exec.specs.declared.Stream.TheVariants.{Stdout, Stderr}
 use Rattle.exec.specs.Stream.{isStdout, isStderr, pick, everyStream, anyStream, sumOfStreams}
 use Rattle.output.specs.declared.Output.{Output}
-use Rattle.output.specs.Output.{newOutput, is_held, isDelivered, outputFits, outputWithin}
+use Rattle.output.specs.Output.{newOutput, isHeld, isDelivered, outputFits, outputWithin}
 
 abbrev pub stdout : List Output → Output
 stdout os = get_or os 0 newOutput
@@ -28,7 +28,7 @@ abbrev pub allClosed : List Output → Bool
 allClosed os = everyStream (λ (x : Stream). (outputIn x os).closed)
 
 abbrev pub anyHeld : List Output → Bool
-anyHeld os = anyStream (λ (x : Stream). is_held (outputIn x os))
+anyHeld os = anyStream (λ (x : Stream). isHeld (outputIn x os))
 
 abbrev pub allDelivered : List Output → (detached : Bool) → Bool
 allDelivered os detached = everyStream (λ (x : Stream). isDelivered detached (outputIn x os))

@@ -5,7 +5,7 @@ ghost use Rattle.std.specs.Prelude.{◌≡◌, cond, ◌+◌, ◌≤◌, ◌<◌
 ghost use Rattle.output.specs.Output.{
   newOutput,
   isDone,
-  is_held,
+  isHeld,
   isDelivered,
   graceEnded,
   givenUp,
@@ -89,7 +89,7 @@ impl Output {
 
     // Whether a process may hold it open.
     pub fn is_held(self) -> bool
-        ensures { result ≡ is_held self }
+        ensures { result ≡ isHeld self }
     {
         !self.closed & !self.hung_up
     }

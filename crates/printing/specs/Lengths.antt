@@ -5,11 +5,11 @@ use Rattle.std.proofs.Math.Decide.{dec_lt}
 use Rattle.std.specs.Int.{w32}
 use Rattle.ring.specs.Runs.{copied}
 use Rattle.printing.specs.Written.{Wrote, wrote, same_text}
-use Rattle.decimal.specs.Decimal.{signed_of}
+use Rattle.decimal.specs.Decimal.{signedOf}
 use Rattle.decimal.specs.DecimalLaws.{count_most}
 
-pub signed-most : (z : ℤ) → SFits w32 z → length (signed_of z) ≤ 12
-unfolding signed_of
+pub signed-most : (z : ℤ) → SFits w32 z → length (signedOf z) ≤ 12
+unfolding signedOf
 signed-most (pos n) f =
     let l : n < 2147483648 = f.sfits in
     omega (arith, count_most 9 n (omega arith))
@@ -25,9 +25,9 @@ take-fewer k n s h =
     ]
 
 -- z written as y, which it is
-pub wrote-signed : {out then : List ℕ} {at to : ℕ} (y z : ℤ) → y ≡ z → SFits w32 z → then ≡ copied out at (signed_of y) 0 (length (signed_of y))
-    → to ≡ at + length (signed_of y) → at + 12 ≤ length out → Wrote 12 out then at to (signed_of z)
+pub wrote-signed : {out then : List ℕ} {at to : ℕ} (y z : ℤ) → y ≡ z → SFits w32 z → then ≡ copied out at (signedOf y) 0 (length (signedOf y))
+    → to ≡ at + length (signedOf y) → at + 12 ≤ length out → Wrote 12 out then at to (signedOf z)
 wrote-signed {out} y z e f h g r =
     let l = signed-most z f in
-    let k = ap (λ (x : ℤ). length (signed_of x)) e in
-    same_text (ap signed_of e) (wrote (signed_of y) h g (omega arith) (omega arith))
+    let k = ap (λ (x : ℤ). length (signedOf x)) e in
+    same_text (ap signedOf e) (wrote (signedOf y) h g (omega arith) (omega arith))

@@ -2,7 +2,7 @@
 #![tactic(auto)]
 
 ghost use Rattle.std.specs.Prelude.{◌≡◌, [], ◌∷◌, ◌++◌, ◌+◌, ◌≤◌, length, take};
-ghost use Rattle.decimal.specs.Decimal.{digitsOf, signed_of};
+ghost use Rattle.decimal.specs.Decimal.{digitsOf, signedOf};
 ghost use Rattle.hexadecimal.specs.Hexadecimal.{hexOf};
 ghost use Rattle.syntax.specs.Words.{bytes, streamName, causeName};
 ghost use Rattle.syntax.specs.Answers.{
@@ -59,7 +59,7 @@ pub fn put_number(n: u64, out: &mut [u8], at: usize) -> usize
 
 fn put_signed(n: i32, out: &mut [u8], at: usize) -> usize
     requires { at + 21 ≤ length out.old }
-    ensures { Wrote 12 out.old out.new at result (signed_of n) }
+    ensures { Wrote 12 out.old out.new at result (signedOf n) }
 {
     decimal::write_signed(n, out, at)
 }
@@ -121,7 +121,7 @@ fn put_maybe_cause(cause: MaybeCause, out: &mut [u8], at: usize) -> usize
 // A letter, and a number behind it.
 fn put_lettered(letter: u8, n: i32, out: &mut [u8], at: usize) -> usize
     requires { at + 22 ≤ length out.old }
-    ensures { Wrote 13 out.old out.new at result ((letter ∷ []) ++ signed_of n) }
+    ensures { Wrote 13 out.old out.new at result ((letter ∷ []) ++ signedOf n) }
 {
     let m = put_byte(letter, out, at);
     put_signed(n, out, m)

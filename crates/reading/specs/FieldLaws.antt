@@ -4,7 +4,7 @@ use Rattle.std.proofs.Common.{sym, ap, ◌∙◌, arith, add-one, length-drop, d
 use Rattle.std.proofs.Math.Option.{none, some}
 use Rattle.std.proofs.Math.Seq.{drop-length}
 use Rattle.exec.specs.declared.MaybeStatus.TheVariants as MaybeStatus
-use Rattle.syntax.specs.Lines.{inFirst, missing, fields, status, call_of}
+use Rattle.syntax.specs.Lines.{inFirst, missing, fields, status, callOf}
 use Rattle.reading.specs.Meaning.{exitedWith, signaledWith}
 
 -- the index of the first comma, or the length where there is none
@@ -61,8 +61,8 @@ fields-some [] = record { head = []; tail = []; is = refl }
 fields-some (b ∷ s) = first_of b (eqb b 44) (fields s) (fields-some s)
 
 -- five arguments or more are none
-pub five-none : (name a b c d t : List ℕ) → call_of (name ∷ a ∷ b ∷ c ∷ d ∷ fields t) ≡ none
-unfolding call_of
+pub five-none : (name a b c d t : List ℕ) → callOf (name ∷ a ∷ b ∷ c ∷ d ∷ fields t) ≡ none
+unfolding callOf
 five-none name a b c d t = let f = fields-some t in rw f.is refl
 
 -- the same with the parts of a line as the code makes them

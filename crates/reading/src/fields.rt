@@ -3,7 +3,7 @@ ghost use Rattle.std.specs.Prelude.{◌≡◌, ◌≤◌, ◌/◌, length};
 ghost use Rattle.decimal.specs.Answers.{AtMost};
 ghost use Rattle.decimal.specs.Decimal.{signed};
 ghost use Rattle.hexadecimal.specs.Hexadecimal.{unhex};
-ghost use Rattle.syntax.specs.Lines.{u64, u32, messageLength, key_of, status, launchResult};
+ghost use Rattle.syntax.specs.Lines.{u64, u32, messageLength, keyOf, status, launchResult};
 ghost use Rattle.reading.specs.Meaning.{numberIs, narrowIs, signedIs, keyIs, statusIs, launchIs, bytesIs, exitedWith, signaledWith, failureOf, startedOf};
 
 use crate::words::{MaybeFlag, flag, missing};
@@ -63,7 +63,7 @@ pub enum MaybeKey {
 }
 
 pub(crate) fn key(id: &[u8], generation: &[u8]) -> MaybeKey
-    ensures { keyIs result ≡ key_of id.now generation.now }
+    ensures { keyIs result ≡ keyOf id.now generation.now }
 {
     let MaybeNumber::Some(i) = wide(id) else {
         return MaybeKey::None;

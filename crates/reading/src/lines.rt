@@ -1,7 +1,7 @@
 // A line as a call: the method's name, and its arguments as in the Rust, a key as two fields. The bytes of a payload are left
 // at the start of `work`.
 ghost use Rattle.std.specs.Prelude.{◌≡◌, [], ◌∷◌, ◌≤◌, ◌/◌, length, drop};
-ghost use Rattle.syntax.specs.Lines.{fields, find, plainCalls, readAllowanceOf, outputClosedOf, outputFailedOf, outputHungUpOf, inputWrittenOf, settled_of, droppedOf, resetOf, disconnectOf, tickOf, messageOf, endInputOf, outputOf, discardedOf, exitedOf, launchedOf, input_of, creditOf, cancelOf, call_of, lineCall};
+ghost use Rattle.syntax.specs.Lines.{fields, find, plainCalls, readAllowanceOf, outputClosedOf, outputFailedOf, outputHungUpOf, inputWrittenOf, settledOf, droppedOf, resetOf, disconnectOf, tickOf, messageOf, endInputOf, outputOf, discardedOf, exitedOf, launchedOf, inputOf, creditOf, cancelOf, callOf, lineCall};
 ghost use Rattle.reading.specs.Meaning.{lineIs, LineIs};
 ghost use Rattle.reading.specs.Naming.{call1From};
 ghost use Rattle.reading.specs.FieldLaws.{commaAt};
@@ -116,7 +116,7 @@ fn input_written(a: &[u8]) -> Line
 }
 
 fn settled(a: &[u8]) -> Line
-    ensures { LineIs result (settled_of a.now) }
+    ensures { LineIs result (settledOf a.now) }
 {
     let MaybeSettlement::Some(x) = words::settlement(a) else {
         return Line::None;
@@ -169,9 +169,9 @@ fn message(a: &[u8]) -> Line
     Line::Call(Call::NextMessage(n as u16))
 }
 
-#[tactic(auto, unfolding(syntax::specs::Words::bytes, syntax::specs::Lines::find, crate::specs::Naming::placeNamed, syntax::specs::Lines::call_of, crate::specs::Naming::call1From))]
+#[tactic(auto, unfolding(syntax::specs::Words::bytes, syntax::specs::Lines::find, crate::specs::Naming::placeNamed, syntax::specs::Lines::callOf, crate::specs::Naming::call1From))]
 fn call1(name: &[u8], a: &[u8]) -> Line
-    ensures { LineIs result (call_of (name.now ∷ a.now ∷ [])) }
+    ensures { LineIs result (callOf (name.now ∷ a.now ∷ [])) }
 {
     let n = place4(
         name,
@@ -271,10 +271,10 @@ fn exited(a: &[u8], b: &[u8]) -> Line
     Line::Call(Call::At(now, Timed::Exited(x)))
 }
 
-#[tactic(auto, unfolding(syntax::specs::Lines::call_of, syntax::specs::Words::bytes, syntax::specs::Lines::find, crate::specs::Naming::placeNamed))]
+#[tactic(auto, unfolding(syntax::specs::Lines::callOf, syntax::specs::Words::bytes, syntax::specs::Lines::find, crate::specs::Naming::placeNamed))]
 fn call2(name: &[u8], a: &[u8], b: &[u8], work: &mut [u8]) -> Line
     requires { length b.now / 2 ≤ length work.old }
-    ensures { lineIs result work.new ≡ call_of (name.now ∷ a.now ∷ b.now ∷ []) }
+    ensures { lineIs result work.new ≡ callOf (name.now ∷ a.now ∷ b.now ∷ []) }
 {
     let n = place4(name, b"end_input", b"output", b"discarded", b"exited");
     match n {
@@ -299,7 +299,7 @@ fn launched(a: &[u8], b: &[u8], c: &[u8]) -> Line
 
 fn input(a: &[u8], b: &[u8], c: &[u8], work: &mut [u8]) -> Line
     requires { length c.now / 2 ≤ length work.old }
-    ensures { lineIs result work.new ≡ input_of a.now b.now c.now }
+    ensures { lineIs result work.new ≡ inputOf a.now b.now c.now }
 {
     let MaybeKey::Some(key) = fields::key(a, b) else {
         return Line::None;
@@ -310,10 +310,10 @@ fn input(a: &[u8], b: &[u8], c: &[u8], work: &mut [u8]) -> Line
     Line::Call(Call::Input(key, n))
 }
 
-#[tactic(auto, unfolding(syntax::specs::Lines::call_of, syntax::specs::Words::bytes, syntax::specs::Lines::find, crate::specs::Naming::placeNamed))]
+#[tactic(auto, unfolding(syntax::specs::Lines::callOf, syntax::specs::Words::bytes, syntax::specs::Lines::find, crate::specs::Naming::placeNamed))]
 fn call3(name: &[u8], a: &[u8], b: &[u8], c: &[u8], work: &mut [u8]) -> Line
     requires { length c.now / 2 ≤ length work.old }
-    ensures { lineIs result work.new ≡ call_of (name.now ∷ a.now ∷ b.now ∷ c.now ∷ []) }
+    ensures { lineIs result work.new ≡ callOf (name.now ∷ a.now ∷ b.now ∷ c.now ∷ []) }
 {
     let n = place2(name, b"launched", b"input");
     match n {
@@ -355,9 +355,9 @@ fn cancel(a: &[u8], b: &[u8], c: &[u8], d: &[u8]) -> Line
     Line::Call(Call::At(now, Timed::Cancel(key, x)))
 }
 
-#[tactic(auto, unfolding(syntax::specs::Lines::call_of, syntax::specs::Words::bytes, syntax::specs::Lines::find, crate::specs::Naming::placeNamed))]
+#[tactic(auto, unfolding(syntax::specs::Lines::callOf, syntax::specs::Words::bytes, syntax::specs::Lines::find, crate::specs::Naming::placeNamed))]
 fn call4(name: &[u8], a: &[u8], b: &[u8], c: &[u8], d: &[u8]) -> Line
-    ensures { LineIs result (call_of (name.now ∷ a.now ∷ b.now ∷ c.now ∷ d.now ∷ [])) }
+    ensures { LineIs result (callOf (name.now ∷ a.now ∷ b.now ∷ c.now ∷ d.now ∷ [])) }
 {
     let n = place2(name, b"credit", b"cancel");
     match n {
@@ -385,7 +385,7 @@ pub fn comma(text: &[u8]) -> usize
 }
 
 fn after4(name: &[u8], a: &[u8], b: &[u8], c: &[u8], rest: &[u8]) -> Line
-    ensures { LineIs result (call_of (name.now ∷ a.now ∷ b.now ∷ c.now ∷ fields rest.now)) }
+    ensures { LineIs result (callOf (name.now ∷ a.now ∷ b.now ∷ c.now ∷ fields rest.now)) }
 {
     if comma(rest) == rest.len() {
         return call4(name, a, b, c, rest);
@@ -395,7 +395,7 @@ fn after4(name: &[u8], a: &[u8], b: &[u8], c: &[u8], rest: &[u8]) -> Line
 
 fn after3(name: &[u8], a: &[u8], b: &[u8], rest: &[u8], work: &mut [u8]) -> Line
     requires { length rest.now / 2 ≤ length work.old }
-    ensures { lineIs result work.new ≡ call_of (name.now ∷ a.now ∷ b.now ∷ fields rest.now) }
+    ensures { lineIs result work.new ≡ callOf (name.now ∷ a.now ∷ b.now ∷ fields rest.now) }
 {
     let n = rest.len();
     let at = comma(rest);
@@ -408,7 +408,7 @@ fn after3(name: &[u8], a: &[u8], b: &[u8], rest: &[u8], work: &mut [u8]) -> Line
 
 fn after2(name: &[u8], a: &[u8], rest: &[u8], work: &mut [u8]) -> Line
     requires { length rest.now / 2 ≤ length work.old }
-    ensures { lineIs result work.new ≡ call_of (name.now ∷ a.now ∷ fields rest.now) }
+    ensures { lineIs result work.new ≡ callOf (name.now ∷ a.now ∷ fields rest.now) }
 {
     let n = rest.len();
     let at = comma(rest);
@@ -421,7 +421,7 @@ fn after2(name: &[u8], a: &[u8], rest: &[u8], work: &mut [u8]) -> Line
 
 fn after1(name: &[u8], rest: &[u8], work: &mut [u8]) -> Line
     requires { length rest.now / 2 ≤ length work.old }
-    ensures { lineIs result work.new ≡ call_of (name.now ∷ fields rest.now) }
+    ensures { lineIs result work.new ≡ callOf (name.now ∷ fields rest.now) }
 {
     let n = rest.len();
     let at = comma(rest);
@@ -433,7 +433,7 @@ fn after1(name: &[u8], rest: &[u8], work: &mut [u8]) -> Line
 }
 
 // The call of a line.
-#[tactic(auto, unfolding(syntax::specs::Lines::call_of))]
+#[tactic(auto, unfolding(syntax::specs::Lines::callOf))]
 pub fn call_of(line: &[u8], work: &mut [u8]) -> Line
     requires { length line.now / 2 ≤ length work.old }
     ensures { lineIs result work.new ≡ lineCall line.now }

@@ -28,7 +28,13 @@ fn tell(to: &mut impl Write, runner: Runner, store: &[u8]) -> io::Result<Runner>
 
 // One byte less is refused, with a message waiting that is then told.
 fn hear(to: &mut impl Write, runner: Runner, store: &mut [u8]) -> io::Result<Runner> {
-    let heard = read(to, runner, 5, b"\x5e\x00\x00\x00\x05\x00\x00\x00\x02hi", store)?;
+    let heard = read(
+        to,
+        runner,
+        5,
+        b"\x5e\x00\x00\x00\x05\x00\x00\x00\x02hi",
+        store,
+    )?;
     let rest = taken(to, heard, store)?;
     tell_late(to, rest, store)
 }
@@ -43,7 +49,9 @@ fn tell_late(to: &mut impl Write, runner: Runner, store: &[u8]) -> io::Result<Ru
 // not read; data cut short; data whose length counts the header too; data for channel 6; extended data of type 2, and of type 1,
 // which is not for a runner to read; data after the end; a grant of no units; a 98 for channel 6, of which the kind is met first.
 fn refuse(to: &mut impl Write, runner: Runner, store: &mut [u8]) -> io::Result<Runner> {
-    read_all(to, runner,
+    read_all(
+        to,
+        runner,
         5,
         b"\x05\x60\x00\x00\x00\x05\
         \x00\

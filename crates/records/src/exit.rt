@@ -18,7 +18,12 @@ pub(crate) fn run(to: &mut impl Write) -> io::Result<()> {
 }
 
 // The peer ends the input first, so that no credit is due.
-fn session(to: &mut impl Write, status: MaybeStatus, store: &mut [u8], buffer: &mut [u8]) -> io::Result<Runner> {
+fn session(
+    to: &mut impl Write,
+    status: MaybeStatus,
+    store: &mut [u8],
+    buffer: &mut [u8],
+) -> io::Result<Runner> {
     let begun = begin(to, channel(4, 8), 5, b"\x60\x00\x00\x00\x05", store)?;
     let done = ended(to, begun, status)?;
     write(to, done, 5, store, buffer)
@@ -70,7 +75,9 @@ fn negative(to: &mut impl Write) -> io::Result<()> {
 // wanted; a byte too many, and one too few; TERM with its core dumped; BUS; INT as a name of four letters, and with an error
 // message.
 fn read_ours(to: &mut impl Write) -> io::Result<()> {
-    exit_all(to, 5,
+    exit_all(
+        to,
+        5,
         b"\x00\
         \x05\x61\x00\x00\x00\x05\
         \x01\x62\
@@ -94,7 +101,9 @@ fn read_ours(to: &mut impl Write) -> io::Result<()> {
 // and 255 and by the thirteen signals, each told, so that it is the request that is written of that status; and BUS, which it gives
 // a name of its own.
 fn read_openssh(to: &mut impl Write) -> io::Result<()> {
-    exit_all(to, 1,
+    exit_all(
+        to,
+        1,
         b"\x19\x62\x00\x00\x00\x01\x00\x00\x00\x0feow@openssh.com\x00\
         \x19\x62\x00\x00\x00\x01\x00\x00\x00\x0bexit-status\x00\x00\x00\x00\x00\
         \x19\x62\x00\x00\x00\x01\x00\x00\x00\x0bexit-status\x00\x00\x00\x00\x01\

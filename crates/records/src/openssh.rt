@@ -42,7 +42,9 @@ fn echo(to: &mut impl Write, runner: Runner, store: &mut [u8]) -> io::Result<Run
 
 // The input ends before the workload takes it, so that no more credit is due.
 fn hear(to: &mut impl Write, runner: Runner, store: &mut [u8]) -> io::Result<Runner> {
-    let heard = read_all(to, runner,
+    let heard = read_all(
+        to,
+        runner,
         2,
         b"\x0b\x5e\x00\x00\x00\x02\x00\x00\x00\x02ab\
         \x05\x60\x00\x00\x00\x02",

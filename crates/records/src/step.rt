@@ -39,14 +39,26 @@ pub(crate) fn open(to: &mut impl Write, limits: Limits, store: &[u8]) -> io::Res
 }
 
 // A runner whose workload runs, and the first record of its peer.
-pub(crate) fn begin(to: &mut impl Write, limits: Limits, channel: u32, bytes: &[u8], store: &mut [u8]) -> io::Result<Runner> {
+pub(crate) fn begin(
+    to: &mut impl Write,
+    limits: Limits,
+    channel: u32,
+    bytes: &[u8],
+    store: &mut [u8],
+) -> io::Result<Runner> {
     let opened = open(to, limits, store)?;
     let runner = noted(to, b"launched", opened.launched(LaunchResult::Started))?;
     read(to, runner, channel, bytes, store)
 }
 
 // Reads a record for the channel.
-pub(crate) fn read(to: &mut impl Write, runner: Runner, channel: u32, bytes: &[u8], store: &mut [u8]) -> io::Result<Runner> {
+pub(crate) fn read(
+    to: &mut impl Write,
+    runner: Runner,
+    channel: u32,
+    bytes: &[u8],
+    store: &mut [u8],
+) -> io::Result<Runner> {
     let mut lengths = [0u32; 2];
     let reading = read_record(runner, NOW, channel, bytes, store, &mut lengths);
     let answer = reading.answer;
@@ -55,10 +67,13 @@ pub(crate) fn read(to: &mut impl Write, runner: Runner, channel: u32, bytes: &[u
 }
 
 // Reads records that stand one after the other, each behind a byte that says its length.
-pub(crate) fn read_all(to: &mut impl Write, mut runner: Runner,
+pub(crate) fn read_all(
+    to: &mut impl Write,
+    mut runner: Runner,
     channel: u32,
     records: &[u8],
-    store: &mut [u8]) -> io::Result<Runner> {
+    store: &mut [u8],
+) -> io::Result<Runner> {
     let mut i = 0;
     while i < records.len() {
         let start = i + 1;
@@ -80,7 +95,13 @@ fn least(a: usize, b: usize) -> usize
 }
 
 // Writes the records of the messages that wait, and eight at most.
-pub(crate) fn write(to: &mut impl Write, mut runner: Runner, channel: u32, store: &[u8], buffer: &mut [u8]) -> io::Result<Runner> {
+pub(crate) fn write(
+    to: &mut impl Write,
+    mut runner: Runner,
+    channel: u32,
+    store: &[u8],
+    buffer: &mut [u8],
+) -> io::Result<Runner> {
     let mut turns = 8;
     while 0 < turns {
         let writing = write_record(runner, channel, store, buffer);
@@ -110,7 +131,13 @@ pub(crate) fn output(to: &mut impl Write, runner: Runner, store: &mut [u8]) -> i
     output_to(to, half, Stream::Stderr, b"bad", store)
 }
 
-fn output_to(to: &mut impl Write, runner: Runner, stream: Stream, bytes: &[u8], store: &mut [u8]) -> io::Result<Runner> {
+fn output_to(
+    to: &mut impl Write,
+    runner: Runner,
+    stream: Stream,
+    bytes: &[u8],
+    store: &mut [u8],
+) -> io::Result<Runner> {
     let taking = runner.output(stream, store, bytes);
     let taken = taking.taken;
     print::output(to, stream, taken)?;
@@ -123,21 +150,35 @@ pub(crate) fn taken(to: &mut impl Write, runner: Runner, store: &[u8]) -> io::Re
     let bytes = runner.pending_input(store, &mut refusal);
     print::pending(to, bytes)?;
     let mut lengths = [0u32; 2];
-    noted(to, b"input_written,2", runner.input_written(&mut lengths, 2))
+    noted(
+        to,
+        b"input_written,2",
+        runner.input_written(&mut lengths, 2),
+    )
 }
 
 // The workload's streams close; it exits with a status, if that is known, and settles.
-pub(crate) fn ended(to: &mut impl Write, runner: Runner, status: MaybeStatus) -> io::Result<Runner> {
+pub(crate) fn ended(
+    to: &mut impl Write,
+    runner: Runner,
+    status: MaybeStatus,
+) -> io::Result<Runner> {
     let shut = closed(to, runner)?;
     let done = exited(to, shut, status)?;
     settled(to, done)
 }
 
 fn closed(to: &mut impl Write, runner: Runner) -> io::Result<Runner> {
-    let half = noted(to, b"output_closed,Stdout",
+    let half = noted(
+        to,
+        b"output_closed,Stdout",
         runner.output_closed(Stream::Stdout),
     )?;
-    noted(to, b"output_closed,Stderr", half.output_closed(Stream::Stderr))
+    noted(
+        to,
+        b"output_closed,Stderr",
+        half.output_closed(Stream::Stderr),
+    )
 }
 
 fn exited(to: &mut impl Write, runner: Runner, status: MaybeStatus) -> io::Result<Runner> {
@@ -162,7 +203,12 @@ fn request(to: &mut impl Write, runner: Runner) -> io::Result<Runner> {
 }
 
 // Takes the next message without its record.
-pub(crate) fn message(to: &mut impl Write, runner: Runner, store: &[u8], buffer: &mut [u8]) -> io::Result<Runner> {
+pub(crate) fn message(
+    to: &mut impl Write,
+    runner: Runner,
+    store: &[u8],
+    buffer: &mut [u8],
+) -> io::Result<Runner> {
     let saying = runner.next_message(store, buffer);
     let said = saying.said;
     print::said(to, said)?;

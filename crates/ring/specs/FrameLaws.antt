@@ -8,7 +8,7 @@ use Rattle.std.proofs.Math.Decide.{dec_lt}
 use Rattle.ring.specs.Runs.{copied, copied-zero, copied-one}
 use Rattle.ring.specs.Ring.{wrap, firstRun, ringRead, ringFrom, ringWrite}
 use Rattle.ring.specs.RingLaws.{wrap-below, wrap-le, wrap-lt, wrap-wrap, wrap-apart, ringAt, read_length, read_at, read_past, read_is, read_none, read-wrapped, write_read}
-use Rattle.ring.specs.Frames.{freedOf, rest_of, sum, Popped, stop, popFrom, popped}
+use Rattle.ring.specs.Frames.{freedOf, restOf, sum, Popped, stop, popFrom, popped}
 
 -- ---- a plain list
 
@@ -30,8 +30,8 @@ way f n =
     ]
 
 -- the count is used up or nothing is left: all n bytes are taken, or all that wait
-pub rest_sum : (fs : List ℕ) (n : ℕ) → sum (rest_of fs n) ≡ sum fs - n
-unfolding rest_of
+pub rest_sum : (fs : List ℕ) (n : ℕ) → sum (restOf fs n) ≡ sum fs - n
+unfolding restOf
 rest_sum [] n = omega arith
 rest_sum (f ∷ fs) n =
     elim (way f n) [
@@ -41,8 +41,8 @@ rest_sum (f ∷ fs) n =
     ]
 
 -- every frame is freed or left
-pub rest-length : (fs : List ℕ) (n : ℕ) → freedOf fs n + length (rest_of fs n) ≡ length fs
-unfolding freedOf rest_of
+pub rest-length : (fs : List ℕ) (n : ℕ) → freedOf fs n + length (restOf fs n) ≡ length fs
+unfolding freedOf restOf
 rest-length [] n = omega arith
 rest-length (f ∷ fs) n =
     elim (way f n) [
@@ -180,8 +180,8 @@ record Leaves (k size start done : ℕ) (q : Popped) (x : ℕ) (fs : List ℕ) :
   rest : ringRead 0 size (wrap size (start + q.freed)) (done + k - q.freed) q.lengths ≡ fs
 
 leaves : (k size start left done : ℕ) (s : List ℕ) → size ≤ length s → start ≤ size → done + k ≤ size
-    → (let fs = ringRead 0 size (wrap size (start + done)) k s in Leaves k size start done (popFrom k size start left done s) (freedOf fs left) (rest_of fs left))
-unfolding popFrom freedOf rest_of
+    → (let fs = ringRead 0 size (wrap size (start + done)) k s in Leaves k size start done (popFrom k size start left done s) (freedOf fs left) (restOf fs left))
+unfolding popFrom freedOf restOf
 leaves zero size start left done s area begins room =
     let none : done + 0 - done ≡ 0 = omega arith in
     let empty = read_none 0 size (wrap size (start + done)) s in
@@ -218,7 +218,7 @@ module _ (frames size start count : ℕ) (s : List ℕ) (area : size ≤ length 
   abbrev after : Popped
   after = popped frames size start count s
 
-  both : Leaves frames size start 0 after (freedOf waiting count) (rest_of waiting count)
+  both : Leaves frames size start 0 after (freedOf waiting count) (restOf waiting count)
   both =
       let none : start + 0 ≡ start = omega arith in
       rw (none, ← read-wrapped 0 size start frames s (omega arith) begins room) at (leaves frames size start count 0 s area begins (omega arith))
@@ -226,7 +226,7 @@ module _ (frames size start count : ℕ) (s : List ℕ) (area : size ≤ length 
   pub pop-freed : after.freed ≡ freedOf waiting count
   pop-freed = both.freed ∙ omega arith
 
-  pub pop-rest : ringRead 0 size (wrap size (start + after.freed)) (frames - after.freed) after.lengths ≡ rest_of waiting count
+  pub pop-rest : ringRead 0 size (wrap size (start + after.freed)) (frames - after.freed) after.lengths ≡ restOf waiting count
   pop-rest = let all : 0 + frames ≡ frames = omega arith in rw all at both.rest
 
   -- no more units are freed than frames wait

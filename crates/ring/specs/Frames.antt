@@ -9,9 +9,9 @@ freedOf [] n = 0
 freedOf (f ∷ fs) n = cond (eqb n 0) 0 (cond (ltb n f) 0 (suc (freedOf fs (n - f))))
 
 -- the frames that are left, of which the first may have been taken in part
-unfoldable pub rest_of : List ℕ → (n : ℕ) → List ℕ
-rest_of [] n = []
-rest_of (f ∷ fs) n = cond (eqb n 0) (f ∷ fs) (cond (ltb n f) ((f - n) ∷ fs) (rest_of fs (n - f)))
+unfoldable pub restOf : List ℕ → (n : ℕ) → List ℕ
+restOf [] n = []
+restOf (f ∷ fs) n = cond (eqb n 0) (f ∷ fs) (cond (ltb n f) ((f - n) ∷ fs) (restOf fs (n - f)))
 
 -- the bytes of all frames
 abbrev pub sum : List ℕ → ℕ

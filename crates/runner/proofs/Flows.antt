@@ -16,19 +16,19 @@ use Rattle.output.specs.Output.{IntakeAfter, intakeAfter, takenIn, keeps, keeps-
 use Rattle.output.specs.Outputs.{putOutput}
 use Rattle.runner.specs.declared.runner.Runner.{Runner}
 use Rattle.runner.specs.RangeLaws.{InRange}
-use Rattle.runner.specs.State.{withInput, withOutputs, out_of, buffered}
+use Rattle.runner.specs.State.{withInput, withOutputs, outOf, buffered}
 use Rattle.runner.specs.Streams.{isShut, room, outputFilled}
 
 -- the queue that was filled is within its chunk, so all that is held is within the need
 pub filled-fits : (r : Runner) (x : Stream) (n : ℕ) → InRange r → buffered (outputFilled r x n) ≤ byteNeed r.limits
-filled-fits r x n h = by x (keeps-fit (isShut x r) (out_of x r).discarding (room x r) n)
+filled-fits r x n h = by x (keeps-fit (isShut x r) (outOf x r).discarding (room x r) n)
   where
-    by : (y : Stream) → keeps (isShut y r) (out_of y r).discarding (room y r) n ≤ room y r → buffered (outputFilled r y n) ≤ byteNeed r.limits
+    by : (y : Stream) → keeps (isShut y r) (outOf y r).discarding (room y r) n ≤ room y r → buffered (outputFilled r y n) ≤ byteNeed r.limits
     by Stdout k = omega (arith, (h.queue Stdout).most, (h.queue Stderr).most, h.input.most)
     by Stderr k = omega (arith, (h.queue Stdout).most, (h.queue Stderr).most, h.input.most)
 
 -- what is held then is a number of 64 bits
-pub filled-small : (r : Runner) (x : Stream) (bytes store : List ℕ) (o : Output) (at : ℕ) (t : Intake) (store' : List ℕ) (next : List Output) → o ≡ out_of x r
+pub filled-small : (r : Runner) (x : Stream) (bytes store : List ℕ) (o : Output) (at : ℕ) (t : Intake) (store' : List ℕ) (next : List Output) → o ≡ outOf x r
     → intakeAfter t store' ≡ takenIn o r.flags.gave_up at r.limits.chunk bytes store → next ≡ putOutput x t.output r.outputs
     → InRange r → byteNeed r.limits ≤ 2 ^ 64 - 1 → buffered (withOutputs next r) < 2 ^ 64
 unfolding takenIn

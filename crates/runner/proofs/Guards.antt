@@ -10,7 +10,7 @@ use Rattle.inbox.specs.RangeLaws.{both}
 use Rattle.runner.specs.declared.runner.Runner.{Runner}
 use Rattle.runner.specs.Range.{bytesDo, lengthsDo, stop}
 use Rattle.runner.specs.RangeLaws.{InRange, Good, is-good, stopIf, stopped, stands, agrees, tested, goes}
-use Rattle.runner.specs.Streams.{is_taken}
+use Rattle.runner.specs.Streams.{isTaken}
 
 pub tested_stop : (r : Runner) (stores : Bool) → stop r stores ≡ cond (agrees r stores && stands r) Reply.Ok (Reply.Refused (stopped r))
 unfolding stopIf
@@ -47,13 +47,13 @@ pub record Heard (r : Runner) (k : Key) (g : Bool) : Type 0 where
   pub own : admits r.key k ≡ Admission.Own
   pub goes_on : r.flags.finished ≡ false
 
-pub heard : (r : Runner) (k : Key) (good h : Bool) → h ≡ (good && is_taken (admits r.key k) r) → h ≡ true → Heard r k good
+pub heard : (r : Runner) (k : Key) (good h : Bool) → h ≡ (good && isTaken (admits r.key k) r) → h ≡ true → Heard r k good
 heard r k good h e t =
-    let b = both good (is_taken (admits r.key k) r) (sym e ∙ t) in
+    let b = both good (isTaken (admits r.key k) r) (sym e ∙ t) in
     let p = by (admits r.key k) b.1 in
     record { good = b.0; own = p.0; goes_on = p.1 }
   where
-    by : (a : Admission) → is_taken a r ≡ true → (a ≡ Admission.Own) × (r.flags.finished ≡ false)
+    by : (a : Admission) → isTaken a r ≡ true → (a ≡ Admission.Own) × (r.flags.finished ≡ false)
     by Admission.Own t = (refl, not-true r.flags.finished t)
     by Admission.Stale t = absurd (false≢true t)
     by (Admission.Refused x) t = absurd (false≢true t)

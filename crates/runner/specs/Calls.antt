@@ -159,13 +159,13 @@ pub record WrittenAfter : Type 0 where
 abbrev pub writtenAfter : Noting → List ℕ → WrittenAfter
 writtenAfter n lengths = record { noting = n; lengths = lengths }
 
-abbrev pub written_by : Reply → Runner → ℕ → List ℕ → WrittenAfter
-written_by Reply.Ok r count lengths =
+abbrev pub writtenBy : Reply → Runner → ℕ → List ℕ → WrittenAfter
+writtenBy Reply.Ok r count lengths =
     writtenAfter (record { runner = writtenNext r count lengths; reply = Reply.Ok }) (writtenLengths r count lengths)
-written_by (Reply.Refused x) r count lengths = writtenAfter (record { runner = r; reply = Reply.Refused x }) lengths
+writtenBy (Reply.Refused x) r count lengths = writtenAfter (record { runner = r; reply = Reply.Refused x }) lengths
 
 unfoldable pub inputWritten : Runner → ℕ → List ℕ → WrittenAfter
-inputWritten r count lengths = written_by (stop r (lengthsDo r.limits lengths)) r count lengths
+inputWritten r count lengths = writtenBy (stop r (lengthsDo r.limits lengths)) r count lengths
 
 unfoldable pub inputClosed : Runner → Noting
 inputClosed r = noting (stop r true) (closeRunnerInput r) r

@@ -17,7 +17,7 @@ use Rattle.exec.specs.declared.Stream.TheVariants.{Stdout, Stderr}
 use Rattle.exec.specs.Time.{after, then, due}
 use Rattle.lifecycle.specs.declared.life.Launch.TheVariants as Launch
 use Rattle.lifecycle.specs.declared.life.Settling.TheVariants.{Fenced}
-use Rattle.lifecycle.specs.Clocks.{terminateClocks, stopWaiting, giveUpBy, clocksDue, first_of}
+use Rattle.lifecycle.specs.Clocks.{terminateClocks, stopWaiting, giveUpBy, clocksDue, firstOf}
 use Rattle.lifecycle.specs.Life.{launchKnown, exitKnown, isFenced, isSettled, settlingLate, expectedBy, endFor, endWith, lifeGivenUp, lifeExpired, lifeSettled, lifeOutcome}
 use Rattle.lifecycle.specs.Setters.{setTimeoutAt, setGraceUntil, setGiveUpAt, setAbandonAt, setLaunch, setSettling}
 use Rattle.input.specs.Input.{closeInput, messageTold}
@@ -25,7 +25,7 @@ use Rattle.output.specs.Output.{graceEnded, givenUp, abandoned}
 use Rattle.output.specs.Outputs.{eachOutput, allClosed, anyHeld, allDelivered}
 use Rattle.runner.specs.declared.answer.Hearing.{Hearing}
 use Rattle.runner.specs.declared.runner.Runner.{Runner}
-use Rattle.runner.specs.State.{with, withClocks, withLife, flags_of, out_of}
+use Rattle.runner.specs.State.{with, withClocks, withLife, flagsOf, outOf}
 
 -- the launch result is still waited for: it has not arrived, and the runner has not given up on it
 abbrev pub awaitsLaunch : Runner → Bool
@@ -53,14 +53,14 @@ endGrace r =
 unfoldable pub giveUp : Runner → Runner
 giveUp r =
     with (stopWaiting r.clocks) (lifeGivenUp r.life)
-    (flags_of r.flags.started_message false true r.flags.launch_abandoned r.flags.detached r.flags.credited r.flags.finished)
+    (flagsOf r.flags.started_message false true r.flags.launch_abandoned r.flags.detached r.flags.credited r.flags.finished)
     r.input (eachOutput givenUp r.outputs) r
 
 -- ends the wait for a launch, fencing settling
 unfoldable pub abandonLaunch : Runner → Runner
 abandonLaunch r =
     with r.clocks (setSettling Fenced r.life)
-    (flags_of r.flags.started_message r.flags.settle_request r.flags.gave_up true r.flags.detached r.flags.credited r.flags.finished)
+    (flagsOf r.flags.started_message r.flags.settle_request r.flags.gave_up true r.flags.detached r.flags.credited r.flags.finished)
     r.input r.outputs r
 
 -- closes and marks each stream neither closed nor hung up
@@ -122,7 +122,7 @@ anyDue r now = not r.flags.finished && (clocksDue r.clocks now || settlingLate r
 unfoldable pub deadlineOf : Runner → Deadline
 deadlineOf r =
     cond r.flags.finished Never
-    (first_of r.clocks (expectedBy r.life.settling) (not (isCleanedUp r))
+    (firstOf r.clocks (expectedBy r.life.settling) (not (isCleanedUp r))
     (awaitsLaunch r || (isFenced r.life.settling && anyHeld r.outputs)))
 
 -- ---- the peer's cancellation: not even a tick for a stale key; Late once a termination began or the execution ended
@@ -155,7 +155,7 @@ cancelNext Admission.Own r now cause =
 unfoldable pub noteStarted : Runner → Runner
 noteStarted r =
     with r.clocks (setLaunch Launch.Started r.life)
-    (flags_of (not r.flags.detached) r.flags.settle_request r.flags.gave_up r.flags.launch_abandoned r.flags.detached r.flags.credited r.flags.finished)
+    (flagsOf (not r.flags.detached) r.flags.settle_request r.flags.gave_up r.flags.launch_abandoned r.flags.detached r.flags.credited r.flags.finished)
     r.input r.outputs r
 
 unfoldable pub noteLaunch : Runner → LaunchResult → Runner
@@ -171,15 +171,15 @@ noteExit r now status =
     closeRunnerInput (with
     (setAbandonAt (then (after now r.timers.settlement) r.timers.grace) r.clocks)
     (endWith r.life status (after now r.timers.settlement))
-    (flags_of r.flags.started_message true r.flags.gave_up r.flags.launch_abandoned r.flags.detached r.flags.credited r.flags.finished)
+    (flagsOf r.flags.started_message true r.flags.gave_up r.flags.launch_abandoned r.flags.detached r.flags.credited r.flags.finished)
     r.input r.outputs r)
 
 -- the exit is known, or given up on
-abbrev pub is_over : Runner → Bool
-is_over r = exitKnown r.life.exit || r.flags.gave_up
+abbrev pub isOver : Runner → Bool
+isOver r = exitKnown r.life.exit || r.flags.gave_up
 
 unfoldable pub noteExitOnce : Runner → ℕ → MaybeStatus → Runner
-noteExitOnce r now status = cond (is_over r) r (noteExit r now status)
+noteExitOnce r now status = cond (isOver r) r (noteExit r now status)
 
 abbrev pub timeoutCleared : Runner → Runner
 timeoutCleared r = withClocks (setTimeoutAt Never r.clocks) r
@@ -197,7 +197,7 @@ settledNext r s = withLife (lifeSettled r.life s) r
 unfoldable pub silenced : Runner → Runner
 silenced r =
     with r.clocks r.life
-    (flags_of false r.flags.settle_request r.flags.gave_up r.flags.launch_abandoned true r.flags.credited r.flags.finished)
+    (flagsOf false r.flags.settle_request r.flags.gave_up r.flags.launch_abandoned true r.flags.credited r.flags.finished)
     (messageTold r.input) r.outputs r
 
 unfoldable pub giveUpSoon : Runner → ℕ → Runner
@@ -220,4 +220,4 @@ isReady r =
     && (isSettled r.life.settling || isFenced r.life.settling)
 
 unfoldable pub outcomeOf : Runner → Outcome
-outcomeOf r = lifeOutcome r.life (out_of Stdout r).truncated (out_of Stderr r).truncated
+outcomeOf r = lifeOutcome r.life (outOf Stdout r).truncated (outOf Stderr r).truncated

@@ -22,24 +22,24 @@ use Rattle.runner.specs.declared.runner.Runner.{Runner}
 use Rattle.choice.specs.Order.{order}
 use Rattle.runner.specs.Life.{awaitsLaunch, isReady, outcomeOf}
 use Rattle.runner.specs.RangeLaws.{stopped}
-use Rattle.runner.specs.State.{withLife, with_flags, withInput, withFlow, flags_of, out_of, at, base, credit_at, putCredit}
+use Rattle.runner.specs.State.{withLife, withFlags, withInput, withFlow, flagsOf, outOf, at, base, creditAt, putCredit}
 
 -- the flags that a message moves
 abbrev pub messageFlags : (started credited finished : Bool) → Flags → Flags
 messageFlags started credited finished f =
-    flags_of started f.settle_request f.gave_up f.launch_abandoned f.detached credited finished
+    flagsOf started f.settle_request f.gave_up f.launch_abandoned f.detached credited finished
 
 -- ---- the choice
 
 -- how many bytes of a stream one message may carry now: of those queued, in a chunk and in the buffer, what credit lets
 unfoldable pub sendableOf : Runner → (buffer : ℕ) → Stream → ℕ
 sendableOf r buffer x =
-    sendable r.limits.output.unit (credit_at (poolOf r.limits x) r.credits).available
-    (min (min (out_of x r).queued r.limits.chunk) buffer)
+    sendable r.limits.output.unit (creditAt (poolOf r.limits x) r.credits).available
+    (min (min (outOf x r).queued r.limits.chunk) buffer)
 
 -- a stream is done, and its end not told
 abbrev pub untold : Runner → Stream → Bool
-untold r x = isDone (out_of x r) && not (out_of x r).ended
+untold r x = isDone (outOf x r) && not (outOf x r).ended
 
 unfoldable pub choose : Runner → (buffer : ℕ) → Choice
 choose r buffer =
@@ -51,13 +51,13 @@ choose r buffer =
 
 -- a message other than credit
 abbrev pub plain : Runner → Runner
-plain r = with_flags (messageFlags r.flags.started_message false r.flags.finished r.flags) r
+plain r = withFlags (messageFlags r.flags.started_message false r.flags.finished r.flags) r
 
 -- the cost of n bytes of a stream leaves the account of its pool; the stream that follows has its turn next
 unfoldable pub outputPaid : Stream → ℕ → Runner → Runner
 outputPaid x n r =
     withFlow
-    (putCredit (poolOf r.limits x) (spent (credit_at (poolOf r.limits x) r.credits) (cost r.limits.output.unit n)) r.credits)
+    (putCredit (poolOf r.limits x) (spent (creditAt (poolOf r.limits x) r.credits) (cost r.limits.output.unit n)) r.credits)
     (index (following x)) (messageFlags r.flags.started_message false r.flags.finished r.flags) r.high_water r
 
 -- and the bytes leave its queue
@@ -67,16 +67,16 @@ outputSent x n r = at x (sentOut r.limits.chunk n) (outputPaid x n r)
 unfoldable pub effect : Choice → Runner → Runner
 effect Choice.None r = r
 effect Choice.Credit r =
-    with_flags (messageFlags r.flags.started_message true r.flags.finished r.flags) (withInput (grantedIn r.input) r)
-effect Choice.Started r = with_flags (messageFlags false false r.flags.finished r.flags) r
+    withFlags (messageFlags r.flags.started_message true r.flags.finished r.flags) (withInput (grantedIn r.input) r)
+effect Choice.Started r = withFlags (messageFlags false false r.flags.finished r.flags) r
 effect Choice.InputClosed r = plain (withInput (messageTold r.input) r)
 effect (Choice.End x) r = plain (at x endedOut r)
 effect (Choice.Output x n) r = outputSent x n r
-effect Choice.Terminal r = with_flags (messageFlags r.flags.started_message r.flags.credited true r.flags) r
+effect Choice.Terminal r = withFlags (messageFlags r.flags.started_message r.flags.credited true r.flags) r
 
 -- the bytes of an output message, at the start of the buffer
 unfoldable pub payload : Runner → Stream → ℕ → List ℕ → List ℕ
-payload r x n store = ringRead (base x r.limits.chunk) r.limits.chunk (out_of x r).start n store
+payload r x n store = ringRead (base x r.limits.chunk) r.limits.chunk (outOf x r).start n store
 
 -- what sending the bytes leaves: the outputs, and the buffer
 pub record SentAfter : Type 0 where
@@ -121,11 +121,11 @@ saidFor (Choice.Output x n) r = Said.Message (Message.Output x n)
 saidFor Choice.Terminal r = Said.Message (Message.Terminal (outcomeOf r))
 
 -- the choice of a call that may be refused by 12, 10 or 11, and its answer
-abbrev pub choice_of : (good : Bool) → Runner → (buffer : ℕ) → Choice
-choice_of good r buffer = cond good (choose r buffer) Choice.None
+abbrev pub choiceOf : (good : Bool) → Runner → (buffer : ℕ) → Choice
+choiceOf good r buffer = cond good (choose r buffer) Choice.None
 
-abbrev pub answer_of : (good : Bool) → Choice → Runner → Said
-answer_of good c r = cond good (saidFor c r) (Said.Refused (stopped r))
+abbrev pub answerOf : (good : Bool) → Choice → Runner → Said
+answerOf good c r = cond good (saidFor c r) (Said.Refused (stopped r))
 
 -- what next_message leaves: its answer with the state, and the buffer
 pub record MessageAfter : Type 0 where
@@ -146,7 +146,7 @@ wishFor MaybeCause.None discard0 discard1 close settle =
 
 unfoldable pub wish : Runner → Wish
 wish r =
-    wishFor r.life.terminate_request (out_of Stdout r).discard_requested (out_of Stderr r).discard_requested
+    wishFor r.life.terminate_request (outOf Stdout r).discard_requested (outOf Stderr r).discard_requested
     r.input.close_requested r.flags.settle_request
 
 abbrev pub handed : Request → Runner → Runner
@@ -154,7 +154,7 @@ handed (Request.Terminate cause) r = withLife (terminateTaken r.life) r
 handed (Request.Discard x) r = at x askedOut r
 handed Request.CloseInput r = withInput (closeAsked r.input) r
 handed Request.Settle r =
-    with_flags (flags_of r.flags.started_message false r.flags.gave_up r.flags.launch_abandoned r.flags.detached r.flags.credited r.flags.finished) r
+    withFlags (flagsOf r.flags.started_message false r.flags.gave_up r.flags.launch_abandoned r.flags.detached r.flags.credited r.flags.finished) r
 
 unfoldable pub wishEffect : Wish → Runner → Runner
 wishEffect Wish.None r = r

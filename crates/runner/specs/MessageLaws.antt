@@ -23,17 +23,17 @@ use Rattle.runner.specs.Life.{awaitsLaunch, isReady}
 use Rattle.runner.specs.Message.{sendableOf, untold, choose, payload}
 use Rattle.runner.specs.Range.{bytesDo, stop}
 use Rattle.runner.specs.RangeLaws.{Queued, InRange, Good, is-good}
-use Rattle.runner.specs.State.{out_of, base, credit_at}
+use Rattle.runner.specs.State.{outOf, base, creditAt}
 
 -- the account of its pool has the cost of n bytes
 pub record Payable (r : Runner) (x : Stream) (n : ℕ) : Type 0 where
-  pub paid : cost r.limits.output.unit n ≤ (credit_at (poolOf r.limits x) r.credits).available
+  pub paid : cost r.limits.output.unit n ≤ (creditAt (poolOf r.limits x) r.credits).available
 
 -- n bytes are queued in the store, and fit the buffer
 pub record Sendable (r : Runner) (x : Stream) (n : ℕ) (store buffer : List ℕ) : Type 0 where
   pub area : base x r.limits.chunk + r.limits.chunk ≤ length store
-  pub queue : Queued r.limits.chunk (out_of x r)
-  pub queued : n ≤ (out_of x r).queued
+  pub queue : Queued r.limits.chunk (outOf x r)
+  pub queued : n ≤ (outOf x r).queued
   pub fits : n ≤ length buffer
 
 -- something is said
@@ -142,8 +142,8 @@ module _ (r : Runner) (x : Stream) (n : ℕ) (store buffer : List ℕ) (h : InRa
   pub is-sendable : Sendable r x n store buffer
   unfolding sendableOf
   is-sendable =
-      let m = min (min (out_of x r).queued r.limits.chunk) (length buffer) in
-      let l = least r.limits.output.unit (credit_at (poolOf r.limits x) r.credits).available m in
+      let m = min (min (outOf x r).queued r.limits.chunk) (length buffer) in
+      let l = least r.limits.output.unit (creditAt (poolOf r.limits x) r.credits).available m in
       record {
         area = area_of r x store need;
         queue = h.queue x;
@@ -159,4 +159,4 @@ payload-length r store buffer x n g e =
     let good : Good r (bytesDo r.limits store) = is-good r (bytesDo r.limits store) g in
     let b : Sendable r x n store buffer = is-sendable r x n store buffer good.range (leb-true (byteNeed r.limits) (length store) good.stores-do) e in
     let most = b.queued in let within = b.queue.most in
-    read_length (base x r.limits.chunk) r.limits.chunk (out_of x r).start n store b.area b.queue.begins (omega arith)
+    read_length (base x r.limits.chunk) r.limits.chunk (outOf x r).start n store b.area b.queue.begins (omega arith)

@@ -19,11 +19,11 @@ use Rattle.input.specs.Input.{newInput}
 use Rattle.output.specs.Output.{newOutput}
 use Rattle.output.specs.Outputs.{outputsFit}
 use Rattle.runner.specs.declared.runner.Runner.{Runner}
-use Rattle.runner.specs.State.{flags_of, creditsFit}
+use Rattle.runner.specs.State.{flagsOf, creditsFit}
 
 -- queues, starts, credit, units and turn are in their ranges
-unfoldable pub in_range : Runner → Bool
-in_range r =
+unfoldable pub inRange : Runner → Bool
+inRange r =
     ((outputsFit r.limits.chunk r.outputs && creditsFit r.credits)
     && inboxFits r.limits r.input.window r.input.inbox)
     && leb r.turn 1
@@ -43,7 +43,7 @@ openStop l stores =
 
 -- what any other call meets: a state out of range (12), and then the same
 unfoldable pub stop : Runner → (stores : Bool) → Reply
-stop r stores = cond (not (in_range r)) (Reply.Refused StateOutOfRange) (openStop r.limits stores)
+stop r stores = cond (not (inRange r)) (Reply.Refused StateOutOfRange) (openStop r.limits stores)
 
 -- ---- open
 
@@ -67,7 +67,7 @@ fresh k l t now = record {
     terminate_request = MaybeCause.None;
     settling = Settling.Idle;
   };
-  flags = flags_of false false false false false false false;
+  flags = flagsOf false false false false false false false;
   input = newInput l.input.size;
   outputs = newOutput ∷ newOutput ∷ [];
   credits = newCredit l.output.size ∷ newCredit l.output.size ∷ [];

@@ -18,8 +18,8 @@ use Rattle.output.specs.Output as Queue
 use Rattle.output.specs.Output.{outputFits, output-range}
 use Rattle.output.specs.Outputs.{outputsFit, outputsWithin}
 use Rattle.runner.specs.declared.runner.Runner.{Runner}
-use Rattle.runner.specs.Range.{in_range, openStop, stop}
-use Rattle.runner.specs.State.{out_of, credit_at, creditsFit}
+use Rattle.runner.specs.Range.{inRange, openStop, stop}
+use Rattle.runner.specs.State.{outOf, creditAt, creditsFit}
 
 -- ---- in range
 
@@ -29,16 +29,16 @@ pub record Queued (chunk : ℕ) (o : Output) : Type 0 where
   pub begins : o.start ≤ chunk
 
 pub record InRange (r : Runner) : Type 0 where
-  pub queue : (x : Stream) → Queued r.limits.chunk (out_of x r)
-  pub account : (x : Stream) → (credit_at (index x) r.credits).available ≤ (credit_at (index x) r.credits).window
+  pub queue : (x : Stream) → Queued r.limits.chunk (outOf x r)
+  pub account : (x : Stream) → (creditAt (index x) r.credits).available ≤ (creditAt (index x) r.credits).window
   pub input : Inbox.InRange r.limits r.input.window r.input.inbox
   pub turn : r.turn ≤ 1
 
 queued : (chunk : ℕ) (o : Output) → outputFits chunk o ≡ true → Queued chunk o
 queued chunk o h = let p = output-range chunk o h in record { most = p.0; begins = p.1 }
 
-pub in-range : (r : Runner) → in_range r ≡ true → InRange r
-unfolding in_range
+pub in-range : (r : Runner) → inRange r ≡ true → InRange r
+unfolding inRange
 in-range r h =
     let chunk = r.limits.chunk in
     let fit = outputsFit chunk r.outputs in
@@ -49,8 +49,8 @@ in-range r h =
     let q = Inbox.both (fit && paid) held p.0 in
     let o = Inbox.both fit paid q.0 in
     record {
-      queue = λ x. queued chunk (out_of x r) (every-stream (λ (y : Stream). outputFits chunk (out_of y r)) o.0 x);
-      account = λ x. leb-true _ _ (every-stream (λ (y : Stream). creditFits (credit_at (index y) r.credits)) o.1 x);
+      queue = λ x. queued chunk (outOf x r) (every-stream (λ (y : Stream). outputFits chunk (outOf y r)) o.0 x);
+      account = λ x. leb-true _ _ (every-stream (λ (y : Stream). creditFits (creditAt (index y) r.credits)) o.1 x);
       input = Inbox.in-range r.limits r.input.window r.input.inbox q.1;
       turn = leb-true r.turn 1 p.1;
     }
@@ -59,14 +59,14 @@ in-range r h =
 
 -- none of 12, 10 and 11
 abbrev isGood : Runner → (stores : Bool) → Bool
-isGood r stores = (in_range r && isValid r.limits) && stores
+isGood r stores = (inRange r && isValid r.limits) && stores
 
 -- the refusal of an open that meets 10 or 11, and of a call that meets one of the three
 abbrev pub unopened : Limits → Refusal
 unopened l = cond (isValid l) StoreShort NoLimits
 
 unfoldable pub stopped : Runner → Refusal
-stopped r = cond (in_range r) (unopened r.limits) StateOutOfRange
+stopped r = cond (inRange r) (unopened r.limits) StateOutOfRange
 
 -- what a call meets, given whether it meets none
 unfoldable pub stopIf : (good : Bool) → Runner → Reply
@@ -75,7 +75,7 @@ stopIf good r = cond good Reply.Ok (Reply.Refused (stopped r))
 module _ (r : Runner) (stores : Bool) where
   stop-by : (b : Bool) → isGood r stores ≡ b → stop r stores ≡ stopIf b r
   unfolding stop stopped stopIf
-  stop-by b e = by (in_range r) (isValid r.limits) stores e
+  stop-by b e = by (inRange r) (isValid r.limits) stores e
     where
       by : (i v s : Bool) → ((i && v) && s) ≡ b
           → cond (not i) (Reply.Refused StateOutOfRange) (cond (not v) (Reply.Refused NoLimits) (cond (not s) (Reply.Refused StoreShort) Reply.Ok))
@@ -85,7 +85,7 @@ module _ (r : Runner) (stores : Bool) where
       by true false s e = rw (← e)
       by false v s e = rw (← e)
 
-  pub unstopped : in_range r ≡ true → isValid r.limits ≡ true → stores ≡ true → stop r stores ≡ Reply.Ok
+  pub unstopped : inRange r ≡ true → isValid r.limits ≡ true → stores ≡ true → stop r stores ≡ Reply.Ok
   unfolding stop
   unstopped i v s = rw (i, v, s)
 
@@ -97,8 +97,8 @@ pub record Good (r : Runner) (stores : Bool) : Type 0 where
 pub is-good : (r : Runner) (stores : Bool) → stop r stores ≡ Reply.Ok → Good r stores
 unfolding stopIf
 is-good r stores h =
-    let p = Inbox.both (in_range r && isValid r.limits) stores (by (isGood r stores) refl) in
-    let q = Inbox.both (in_range r) (isValid r.limits) p.0 in
+    let p = Inbox.both (inRange r && isValid r.limits) stores (by (isGood r stores) refl) in
+    let q = Inbox.both (inRange r) (isValid r.limits) p.0 in
     record { range = in-range r q.0; valid = q.1; stores-do = p.1 }
   where
     by : (b : Bool) → isGood r stores ≡ b → isGood r stores ≡ true
@@ -153,7 +153,7 @@ none x false s true = refl
 none x false s false = refl
 
 good-halves : (r : Runner) (stores : Bool) → (agrees r stores && stands r) ≡ isGood r stores
-unfolding stands agrees in_range
+unfolding stands agrees inRange
 good-halves r stores = by (isValid r.limits) refl
   where
     chunk : ℕ
@@ -162,15 +162,15 @@ good-halves r stores = by (isValid r.limits) refl
     within : Bool
     within = inboxWithin r.limits.input.unit r.limits.input.size chunk r.input.window r.input.inbox
 
-    by : (v : Bool) → isValid r.limits ≡ v → (((within && v) && stores) && stands r) ≡ ((in_range r && v) && stores)
-    by false h = none (stands r) within stores (in_range r)
+    by : (v : Bool) → isValid r.limits ≡ v → (((within && v) && stores) && stands r) ≡ ((inRange r && v) && stores)
+    by false h = none (stands r) within stores (inRange r)
     by true h =
         let p = (Inbox.both (ltb 0 chunk && ltb 0 r.limits.input.size) (ltb 0 r.limits.output.size) h).0 in
         let q = Inbox.both (ltb 0 chunk) (ltb 0 r.limits.input.size) p in
         let hc = ltb-true 0 chunk q.0 in
         rw (
-          Queue.within-fits chunk (out_of Stdout r) hc,
-          Queue.within-fits chunk (out_of Stderr r) hc,
+          Queue.within-fits chunk (outOf Stdout r) hc,
+          Queue.within-fits chunk (outOf Stderr r) hc,
           Inbox.within-fits r.limits r.input.window r.input.inbox (ltb-true 0 r.limits.input.size q.1) hc,
         )
         (regroup (outputsFit chunk r.outputs) (creditsFit r.credits) (leb r.turn 1) (inboxFits r.limits r.input.window r.input.inbox) stores)

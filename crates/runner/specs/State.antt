@@ -36,8 +36,8 @@ withClocks c r = with c r.life r.flags r.input r.outputs r
 abbrev pub withLife : Life → Runner → Runner
 withLife l r = with r.clocks l r.flags r.input r.outputs r
 
-abbrev pub with_flags : Flags → Runner → Runner
-with_flags f r = with r.clocks r.life f r.input r.outputs r
+abbrev pub withFlags : Flags → Runner → Runner
+withFlags f r = with r.clocks r.life f r.input r.outputs r
 
 abbrev pub withInput : Input → Runner → Runner
 withInput i r = with r.clocks r.life r.flags i r.outputs r
@@ -62,8 +62,8 @@ withFlow cs turn flags high r = record {
 }
 
 -- the flags, in their order
-abbrev pub flags_of : (started settle gaveUp left detached credited finished : Bool) → Flags
-flags_of started settle gaveUp left detached credited finished = record {
+abbrev pub flagsOf : (started settle gaveUp left detached credited finished : Bool) → Flags
+flagsOf started settle gaveUp left detached credited finished = record {
   started_message = started;
   settle_request = settle;
   gave_up = gaveUp;
@@ -75,12 +75,12 @@ flags_of started settle gaveUp left detached credited finished = record {
 
 -- ---- the outputs
 
-abbrev pub out_of : Stream → Runner → Output
-out_of x r = outputIn x r.outputs
+abbrev pub outOf : Stream → Runner → Output
+outOf x r = outputIn x r.outputs
 
 -- one stream's output changed, every other kept
 abbrev pub at : Stream → (Output → Output) → Runner → Runner
-at x f r = withOutputs (putOutput x (f (out_of x r)) r.outputs) r
+at x f r = withOutputs (putOutput x (f (outOf x r)) r.outputs) r
 
 -- where a stream's ring begins in the byte store: stdout's comes first
 abbrev pub base : Stream → (chunk : ℕ) → ℕ
@@ -96,15 +96,15 @@ abbrev pub credit1 : List Credit → Credit
 credit1 cs = get_or cs 1 (newCredit 0)
 
 -- the account at a position, 0 or 1
-abbrev pub credit_at : ℕ → List Credit → Credit
-credit_at i cs = cond (eqb i 0) (credit0 cs) (credit1 cs)
+abbrev pub creditAt : ℕ → List Credit → Credit
+creditAt i cs = cond (eqb i 0) (credit0 cs) (credit1 cs)
 
 abbrev pub putCredit : ℕ → Credit → List Credit → List Credit
 putCredit i c cs = cond (eqb i 0) c (credit0 cs) ∷ cond (eqb i 0) (credit1 cs) c ∷ []
 
 -- no account has more than its window
 abbrev pub creditsFit : List Credit → Bool
-creditsFit cs = everyStream (λ (x : Stream). creditFits (credit_at (index x) cs))
+creditsFit cs = everyStream (λ (x : Stream). creditFits (creditAt (index x) cs))
 
 -- ---- the bytes held
 

@@ -18,27 +18,27 @@ use Rattle.runner.specs.declared.answer.Taken.TheVariants as Taken
 use Rattle.runner.specs.declared.answer.Taking.{Taking}
 use Rattle.runner.specs.declared.runner.Runner.{Runner}
 use Rattle.runner.specs.RangeLaws.{stopped}
-use Rattle.runner.specs.State.{withInput, withFlow, out_of, at, base, credit_at, putCredit, buffered}
+use Rattle.runner.specs.State.{withInput, withFlow, outOf, at, base, creditAt, putCredit, buffered}
 
 -- ---- output: closed or given up, it takes 0; while discarding it takes all and keeps none; else min(length, chunk - queued)
 
 -- closed or given up
 abbrev pub isShut : Stream → Runner → Bool
-isShut x r = (out_of x r).closed || r.flags.gave_up
+isShut x r = (outOf x r).closed || r.flags.gave_up
 
 abbrev pub room : Stream → Runner → ℕ
-room x r = r.limits.chunk - (out_of x r).queued
+room x r = r.limits.chunk - (outOf x r).queued
 
 unfoldable pub outputTaken : Runner → Stream → ℕ → ℕ
-outputTaken r x n = takes (isShut x r) (out_of x r).discarding (room x r) n
+outputTaken r x n = takes (isShut x r) (outOf x r).discarding (room x r) n
 
 -- the stream's output with n bytes more
 abbrev pub outputFilled : Runner → Stream → ℕ → Runner
-outputFilled r x n = at x (intake (isShut x r) (out_of x r).discarding (room x r) n) r
+outputFilled r x n = at x (intake (isShut x r) (outOf x r).discarding (room x r) n) r
 
 -- none are kept: closed, given up or discarding
 abbrev pub keepsNone : Stream → Runner → Bool
-keepsNone x r = isShut x r || (out_of x r).discarding
+keepsNone x r = isShut x r || (outOf x r).discarding
 
 -- the high water is noted where bytes are kept
 unfoldable pub outputNext : Runner → Stream → ℕ → Runner
@@ -49,8 +49,8 @@ outputNext r x n =
 
 unfoldable pub outputStore : Runner → Stream → (bytes store : List ℕ) → List ℕ
 outputStore r x bytes store =
-    ringWrite (base x r.limits.chunk) r.limits.chunk (out_of x r).start (out_of x r).queued bytes
-    (keeps (isShut x r) (out_of x r).discarding (room x r) (length bytes)) store
+    ringWrite (base x r.limits.chunk) r.limits.chunk (outOf x r).start (outOf x r).queued bytes
+    (keeps (isShut x r) (outOf x r).discarding (room x r) (length bytes)) store
 
 -- what output leaves: its answer with the state, and the byte store
 pub record OutputAfter : Type 0 where
@@ -67,7 +67,7 @@ outputTook r x bytes store =
     (outputStore r x bytes store)
 
 unfoldable pub readAllowanceOf : Runner → Stream → ℕ
-readAllowanceOf r x = allowance (out_of x r) r.flags.gave_up r.limits.chunk
+readAllowanceOf r x = allowance (outOf x r) r.flags.gave_up r.limits.chunk
 
 unfoldable pub discardedNext : Runner → Stream → ℕ → Runner
 discardedNext r x n = at x (lostOut (ltb 0 n)) r
@@ -87,7 +87,7 @@ unfoldable pub creditIn : PoolIndex → Runner → ℕ → Received
 creditIn (PoolIndex.Refused x) r units = Refused x
 creditIn (PoolIndex.At i) r units =
     cond r.flags.finished (Receipt Late)
-    (cond (grantable (credit_at i r.credits) units) (Receipt Applied) (Refused Refusal.Credit))
+    (cond (grantable (creditAt i r.credits) units) (Receipt Applied) (Refused Refusal.Credit))
 
 unfoldable pub creditAnswer : Admission → PoolIndex → Runner → ℕ → Received
 creditAnswer (Admission.Refused x) p r units = Refused x
@@ -98,7 +98,7 @@ creditAnswer Admission.Own p r units = creditIn p r units
 abbrev pub creditsIn : PoolIndex → Bool → ℕ → List Credit → List Credit
 creditsIn (PoolIndex.Refused x) finished units cs = cs
 creditsIn (PoolIndex.At i) finished units cs =
-    cond (not finished && grantable (credit_at i cs) units) (putCredit i (grant (credit_at i cs) units).credit cs) cs
+    cond (not finished && grantable (creditAt i cs) units) (putCredit i (grant (creditAt i cs) units).credit cs) cs
 
 abbrev pub creditsAfter : Admission → PoolIndex → Bool → ℕ → List Credit → List Credit
 creditsAfter (Admission.Refused x) p finished units cs = cs
@@ -112,10 +112,10 @@ creditNext a p r units =
 -- ---- input: key, finished (Late), Ended, Chunk, Window, then closed
 
 -- the message is for an execution that still takes it
-abbrev pub is_taken : Admission → Runner → Bool
-is_taken (Admission.Refused x) r = false
-is_taken Admission.Stale r = false
-is_taken Admission.Own r = not r.flags.finished
+abbrev pub isTaken : Admission → Runner → Bool
+isTaken (Admission.Refused x) r = false
+isTaken Admission.Stale r = false
+isTaken Admission.Own r = not r.flags.finished
 
 -- the answer to one that is not: of a call that meets none of refusals 12, 10 and 11, and of any
 abbrev pub metBy : Admission → Received
@@ -133,11 +133,11 @@ inputAnswer Admission.Own r n = cond r.flags.finished (Receipt Late) (Input.rece
 
 -- it is kept in the inbox
 abbrev pub isKept : Admission → Runner → ℕ → Bool
-isKept a r n = is_taken a r && Input.isKept r.limits r.input n
+isKept a r n = isTaken a r && Input.isKept r.limits r.input n
 
 abbrev pub inputReceived : Admission → Runner → ℕ → Runner
 inputReceived a r n =
-    withInput (cond (is_taken a r) (Input.receiveInput r.limits r.input n) r.input) r
+    withInput (cond (isTaken a r) (Input.receiveInput r.limits r.input n) r.input) r
 
 unfoldable pub inputNext : Admission → Runner → ℕ → Runner
 inputNext a r n =
@@ -146,10 +146,10 @@ inputNext a r n =
     (inputReceived a r n)
 
 unfoldable pub inputStore : Admission → Runner → (bytes store : List ℕ) → List ℕ
-inputStore a r bytes store = cond (is_taken a r) (Input.receiveBytes r.limits r.input bytes store) store
+inputStore a r bytes store = cond (isTaken a r) (Input.receiveBytes r.limits r.input bytes store) store
 
 unfoldable pub inputLengths : Admission → Runner → ℕ → List ℕ → List ℕ
-inputLengths a r n lengths = cond (is_taken a r) (Input.receiveLengths r.limits r.input n lengths) lengths
+inputLengths a r n lengths = cond (isTaken a r) (Input.receiveLengths r.limits r.input n lengths) lengths
 
 -- what input leaves: its answer with the state, and both stores
 pub record InputAfter : Type 0 where
@@ -179,7 +179,7 @@ endAnswer Admission.Stale r = Receipt Stale
 endAnswer Admission.Own r = cond r.flags.finished (Receipt Late) (Input.endAnswer r.input)
 
 unfoldable pub endNext : Admission → Runner → Runner
-endNext a r = withInput (cond (is_taken a r) (Input.endInput r.input) r.input) r
+endNext a r = withInput (cond (isTaken a r) (Input.endInput r.input) r.input) r
 
 -- ---- the workload's side of the input
 

@@ -15,7 +15,7 @@ use Rattle.runner.specs.declared.runner.Runner.{Runner}
 use Rattle.runner.specs.Life.{awaitsLaunch, isReady}
 use Rattle.runner.specs.Message.{sendableOf, choose}
 use Rattle.runner.specs.MessageLaws.{least}
-use Rattle.runner.specs.State.{out_of, credit_at}
+use Rattle.runner.specs.State.{outOf, creditAt}
 
 -- ---- Terminal is chosen only when ready
 
@@ -56,28 +56,28 @@ chosen-ready n r e = order-ready _ _ _ _ _ _ _ _ _ _ _ _ _ e
 
 -- ---- and then nothing is queued
 
-pub ready-delivered : (r : Runner) → isReady r ≡ true → (x : Stream) → isDelivered r.flags.detached (out_of x r) ≡ true
+pub ready-delivered : (r : Runner) → isReady r ≡ true → (x : Stream) → isDelivered r.flags.detached (outOf x r) ≡ true
 unfolding isReady
 ready-delivered r e =
     let known : Bool = not (awaitsLaunch r) && exitKnown r.life.exit in
     let all : Bool = allDelivered r.outputs r.flags.detached in
-    every-stream (λ (x : Stream). isDelivered r.flags.detached (out_of x r))
+    every-stream (λ (x : Stream). isDelivered r.flags.detached (outOf x r))
     (and_r known all (and_l (known && all) (isSettled r.life.settling || isFenced r.life.settling) e))
 
-pub ready-empty : (r : Runner) → isReady r ≡ true → (x : Stream) → ltb 0 (out_of x r).queued ≡ false
+pub ready-empty : (r : Runner) → isReady r ≡ true → (x : Stream) → ltb 0 (outOf x r).queued ≡ false
 ready-empty r e x =
-    let o = out_of x r in
+    let o = outOf x r in
     not-true (ltb 0 o.queued) (and_r o.closed (not (ltb 0 o.queued)) (and_l (isDone o) (o.ended || r.flags.detached) (ready-delivered r e x)))
 
 -- ---- so the choice does not ask how long the buffer is
 
-pub sendable-count : (r : Runner) (n : ℕ) (x : Stream) → sendableOf r n x ≤ (out_of x r).queued
+pub sendable-count : (r : Runner) (n : ℕ) (x : Stream) → sendableOf r n x ≤ (outOf x r).queued
 unfolding sendableOf
 sendable-count r n x =
-    let l = least r.limits.output.unit (credit_at (poolOf r.limits x) r.credits).available (min (min (out_of x r).queued r.limits.chunk) n) in omega arith
+    let l = least r.limits.output.unit (creditAt (poolOf r.limits x) r.credits).available (min (min (outOf x r).queued r.limits.chunk) n) in omega arith
 
 none-sendable : (r : Runner) (n : ℕ) (x : Stream) → isReady r ≡ true → sendableOf r n x ≡ 0
-none-sendable r n x e = let l = sendable-count r n x in omega (arith, ltb-false 0 (out_of x r).queued (ready-empty r e x))
+none-sendable r n x e = let l = sendable-count r n x in omega (arith, ltb-false 0 (outOf x r).queued (ready-empty r e x))
 
 same : (r : Runner) (n m : ℕ) → isReady r ≡ true → choose r m ≡ choose r n
 unfolding choose

@@ -27,7 +27,7 @@ ghost use Rattle.runner.specs.Life.{
   noteLaunch,
   launchedNext,
   noteExit,
-  is_over,
+  isOver,
   noteExitOnce,
   timeoutCleared,
   exitedNext,
@@ -396,7 +396,7 @@ impl Runner {
 
     // Whether the exit is known, or the runner gave up on it.
     fn is_over(self) -> bool
-        ensures { result ≡ is_over self }
+        ensures { result ≡ isOver self }
     {
         let life = self.life;
         let exit = life.exit;

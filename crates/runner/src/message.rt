@@ -10,8 +10,8 @@ ghost use Rattle.runner.specs.Message.{
   sentAfter,
   sentOutput,
   saidFor,
-  choice_of,
-  answer_of,
+  choiceOf,
+  answerOf,
   sayAfter,
   say,
   wishFor,
@@ -102,7 +102,7 @@ impl Runner {
     // The choice of a call, given whether it meets none of refusals 12, 10 and 11.
     pub(crate) fn choice(self, good: bool, buffer: usize) -> Choice
         requires { good ≡ true → InRange self }
-        ensures { result ≡ choice_of good self buffer }
+        ensures { result ≡ choiceOf good self buffer }
     {
         if good {
             return self.choose(buffer);
@@ -112,7 +112,7 @@ impl Runner {
 
     // Its answer.
     pub(crate) fn answer(self, good: bool, choice: Choice) -> Said
-        ensures { result ≡ answer_of good choice self }
+        ensures { result ≡ answerOf good choice self }
     {
         if good {
             return self.said(choice);

@@ -1,6 +1,6 @@
 // The rings of the streams and the credit accounts, which stand side by side, by stream and by pool.
 ghost use Rattle.std.specs.Prelude.{◌≡◌, cond, [], ◌∷◌};
-ghost use Rattle.runner.specs.State.{base, credit_at, putCredit, creditsFit};
+ghost use Rattle.runner.specs.State.{base, creditAt, putCredit, creditsFit};
 
 use credit::sender::Credit;
 use exec::Stream;
@@ -26,7 +26,7 @@ fn one_of(first: bool, a: Credit, b: Credit) -> Credit
 }
 
 pub(crate) fn credit_at(index: usize, credits: [Credit; 2]) -> Credit
-    ensures { result ≡ credit_at index credits }
+    ensures { result ≡ creditAt index credits }
 {
     let first = credits[0];
     let second = credits[1];

@@ -1,7 +1,7 @@
 // What is met before a call: refusals 12, 10 and 11.
 ghost use Rattle.std.specs.Prelude.{◌≡◌, leb, length};
 ghost use Rattle.inbox.specs.Need.{byteNeed, lengthNeed};
-ghost use Rattle.runner.specs.Range.{in_range};
+ghost use Rattle.runner.specs.Range.{inRange};
 ghost use Rattle.runner.specs.RangeLaws.{unopened, stopped, stopIf, stands, agrees};
 
 use crate::answer::{Count, Hearing, Noting, Truth, When};
@@ -35,9 +35,9 @@ pub(crate) fn unopened(limits: Limits) -> Refusal
 
 impl Runner {
     // Whether queues, starts, credit, units and turn are in their ranges.
-    #[tactic(auto, unfolding(crate::specs::Range::in_range))]
+    #[tactic(auto, unfolding(crate::specs::Range::inRange))]
     pub(crate) fn in_range(self) -> bool
-        ensures { result ≡ in_range self }
+        ensures { result ≡ inRange self }
     {
         let limits = self.limits;
         let outputs = self.outputs;

@@ -19,7 +19,7 @@ ghost use Rattle.runner.specs.Streams.{
   receiptOf,
   endAnswer,
   endNext,
-  is_taken,
+  isTaken,
   met,
 };
 
@@ -65,7 +65,7 @@ impl Runner {
     // Whether a message of the peer's does something, given whether it meets none of refusals 12, 10 and 11: its key is the
     // execution's own, and the outcome was not returned.
     pub(crate) fn hears(self, good: bool, key: Key) -> bool
-        ensures { result ≡ (good && is_taken (admits self.key key) self) }
+        ensures { result ≡ (good && isTaken (admits self.key key) self) }
     {
         let own = self.key;
         let admission = own.admits(key);

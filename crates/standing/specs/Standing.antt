@@ -4,14 +4,14 @@ use Rattle.std.proofs.Common.{ap, ◌∙◌}
 use Rattle.std.proofs.Math.Option.{Option}
 use Rattle.exec.specs.declared.Reply.{Reply}
 use Rattle.runner.specs.declared.runner.Runner.{Runner}
-use Rattle.calls.specs.Call.{Call, is_refused, timeOf}
+use Rattle.calls.specs.Call.{Call, isRefused, timeOf}
 use Rattle.account.specs.Step.{State, next, answer, replied}
 use Rattle.standing.specs.declared.Standing.{Standing}
 use Rattle.syntax.specs.Lines.{zeros}
-use Rattle.grammar.specs.Feed.{first, later, answered, tooLong, answer_of, remembered}
+use Rattle.grammar.specs.Feed.{first, later, answered, tooLong, answerOf, remembered}
 use Rattle.opening.specs.Meaning.{openingIs}
 use Rattle.answering.specs.Answering.{answerIs}
-use Rattle.making.specs.Making.{state_of}
+use Rattle.making.specs.Making.{stateOf}
 use Rattle.standing.specs.declared.Answered.{Answered}
 use Rattle.exec.specs.declared.Reply.TheVariants as Reply
 use Rattle.calls.specs.Call as Account
@@ -36,8 +36,8 @@ pub record Place : Type 0 where
   pub state : State
   pub last : ℕ
 
-abbrev pub place_of : Standing → Stores → Place
-place_of s x = record { stage = s.stage; state = state_of s.runner x.bytes x.lengths; last = s.last }
+abbrev pub placeOf : Standing → Stores → Place
+placeOf s x = record { stage = s.stage; state = stateOf s.runner x.bytes x.lengths; last = s.last }
 
 -- the stage of the session
 abbrev pub stageIs : Stages.Stage → State → (last : ℕ) → Feed.Stage
@@ -84,15 +84,15 @@ placed-is q x p h = ap stageAt h ∙ stage-placed x p
 
 -- the place after a line, with both stores, and the line's answer, of which bytes may stand in `work`
 abbrev pub Told : Feed.Answered → (was : Place) → Code.Answered → (after : Stores) → (work : List ℕ) → Type 0
-Told a was r after work = (place_of r.standing after ≡ placed a.stage was) × (answerIs r.answer work ≡ a.answer)
+Told a was r after work = (placeOf r.standing after ≡ placed a.stage was) × (answerIs r.answer work ≡ a.answer)
 
 -- A LINE IS ANSWERED AS f SAYS OF THE PLACE BEFORE IT
 abbrev pub Answers : (f : Place → Feed.Answered) → Standing → (before : Stores) → Code.Answered → (after : Stores) → (work : List ℕ) → Type 0
-Answers f s before r after work = Told (f (place_of s before)) (place_of s before) r after work
+Answers f s before r after work = Told (f (placeOf s before)) (placeOf s before) r after work
 
 -- (a first line: by its own words alone, and whatever stands in `work`)
 abbrev pub AnswersFirst : Feed.Answered → Standing → (before : Stores) → Code.Answered → (after : Stores) → Type 0
-AnswersFirst a s before r after = (work : List ℕ) → Told a (place_of s before) r after work
+AnswersFirst a s before r after = (work : List ℕ) → Told a (placeOf s before) r after work
 
 -- (whatever stands in the stores, which are not lent and stay, and in `work`)
 abbrev pub AnswersAny : (f : Place → Feed.Answered) → Standing → Code.Answered → Type 0
@@ -100,16 +100,16 @@ AnswersAny f s r = (x : Stores) (work : List ℕ) → Answers f s x r x work
 
 -- what open made, from its reply
 abbrev pub openedAs : Reply → Runner → (now : ℕ) → Feed.Answered
-openedAs Reply.Ok r now = record { stage = Feed.Running (state_of r (zeros 65536) (zeros 1024)) now; answer = Account.Ok }
+openedAs Reply.Ok r now = record { stage = Feed.Running (stateOf r (zeros 65536) (zeros 1024)) now; answer = Account.Ok }
 openedAs (Reply.Refused x) r now = record { stage = Feed.Over; answer = replied (Reply.Refused x) }
 
-abbrev pub first_of : Openings.Opening → Feed.Answered
-first_of o = first (openingIs (MaybeOpening.Some o))
+abbrev pub firstOf : Openings.Opening → Feed.Answered
+firstOf o = first (openingIs (MaybeOpening.Some o))
 
 -- a call that is not refused by 31
 abbrev pub madeAt : Call → Place → Feed.Answered
 madeAt c p = record {
-  stage = Feed.Running (next p.state c) (remembered (is_refused (answer p.state c)) (timeOf c) p.last);
+  stage = Feed.Running (next p.state c) (remembered (isRefused (answer p.state c)) (timeOf c) p.last);
   answer = answer p.state c;
 }
 
@@ -124,4 +124,4 @@ abbrev pub tooLongAt : Place → Feed.Answered
 tooLongAt p = tooLong (stageAt p)
 
 abbrev pub answerAt : (line : List ℕ) → Place → Feed.Answered
-answerAt line p = answer_of (stageAt p) line
+answerAt line p = answerOf (stageAt p) line

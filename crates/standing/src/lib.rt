@@ -9,7 +9,7 @@ ghost use Rattle.grammar.specs.Feed.{isBack, remembered, first};
 ghost use Rattle.syntax.specs.Meaning.{callIs};
 ghost use Rattle.making.specs.Making.{timeIs, TimeIs};
 ghost use Rattle.answering.specs.declared.Answer.TheVariants as Answer;
-ghost use Rattle.standing.specs.Standing.{stores, Answers, AnswersFirst, AnswersAny, openedAs, first_of, madeAt, laterAt, answeredAt, tooLongAt, answerAt};
+ghost use Rattle.standing.specs.Standing.{stores, Answers, AnswersFirst, AnswersAny, openedAs, firstOf, madeAt, laterAt, answeredAt, tooLongAt, answerAt};
 
 use answering::Answer;
 use exec::Reply;
@@ -144,7 +144,7 @@ impl Standing {
 
     fn open(self, opening: Opening, store: &mut [u8], lengths: &mut [u32]) -> Answered
         requires { (length store.old ≡ 65536) × (length lengths.old ≡ 1024) }
-        ensures { AnswersFirst (first_of opening) self (stores store.old lengths.old)
+        ensures { AnswersFirst (firstOf opening) self (stores store.old lengths.old)
             result (stores store.new lengths.new) }
     {
         let key = opening.key;
@@ -264,7 +264,7 @@ impl Standing {
         }
     }
 
-    #[tactic(auto, unfolding(grammar::specs::Feed::answer_of))]
+    #[tactic(auto, unfolding(grammar::specs::Feed::answerOf))]
     pub fn answer(
         self,
         line: &[u8],

@@ -7,7 +7,7 @@ use Rattle.exec.specs.declared.MaybeLaunchFailure.{MaybeLaunchFailure}
 use Rattle.exec.specs.declared.MaybeStatus.{MaybeStatus}
 use Rattle.exec.specs.declared.Outcome.{Outcome}
 use Rattle.exec.specs.declared.Status.TheVariants as Status
-use Rattle.decimal.specs.Decimal.{digitsOf, signed_of}
+use Rattle.decimal.specs.Decimal.{digitsOf, signedOf}
 use Rattle.hexadecimal.specs.Hexadecimal.{hexOf}
 use Rattle.calls.specs.Call as Call
 use Rattle.calls.specs.Call.{Answer, Message, Request}
@@ -24,8 +24,8 @@ flag false = bytes "0"
 
 abbrev pub statusText : MaybeStatus → List ℕ
 statusText MaybeStatus.None = dash
-statusText (MaybeStatus.Some (Status.Exited n)) = bytes "E" ++ signed_of n
-statusText (MaybeStatus.Some (Status.Signaled n)) = bytes "S" ++ signed_of n
+statusText (MaybeStatus.Some (Status.Exited n)) = bytes "E" ++ signedOf n
+statusText (MaybeStatus.Some (Status.Signaled n)) = bytes "S" ++ signedOf n
 
 abbrev pub causeText : MaybeCause → List ℕ
 causeText MaybeCause.None = dash
@@ -33,7 +33,7 @@ causeText (MaybeCause.Some x) = causeName x
 
 abbrev pub failureText : MaybeLaunchFailure → List ℕ
 failureText MaybeLaunchFailure.None = dash
-failureText (MaybeLaunchFailure.Some x) = digitsOf x.stage ++ bytes "/" ++ signed_of x.error
+failureText (MaybeLaunchFailure.Some x) = digitsOf x.stage ++ bytes "/" ++ signedOf x.error
 
 -- ---- an answer behind its line number
 

@@ -48,8 +48,8 @@ abbrev pub messageLength : List ℕ → Option ℕ
 messageLength field = number 16384 field
 
 -- a key is two fields
-abbrev pub key_of : (id generation : List ℕ) → Option Key
-key_of id generation = on (u64 id) λ i. on (u64 generation) λ g. some (newKey i g)
+abbrev pub keyOf : (id generation : List ℕ) → Option Key
+keyOf id generation = on (u64 id) λ i. on (u64 generation) λ g. some (newKey i g)
 
 -- Status is E or S with a number, or missing
 unfoldable pub status : List ℕ → Option MaybeStatus
@@ -118,8 +118,8 @@ outputHungUpOf a = map Call.outputHungUp (stream a)
 abbrev pub inputWrittenOf : List ℕ → Option Call
 inputWrittenOf a = map Call.inputWritten (u64 a)
 
-abbrev pub settled_of : List ℕ → Option Call
-settled_of a = map Call.settled (settlement a)
+abbrev pub settledOf : List ℕ → Option Call
+settledOf a = map Call.settled (settlement a)
 
 abbrev pub droppedOf : List ℕ → Option Call
 droppedOf a = map Call.dropped (u64 a)
@@ -143,7 +143,7 @@ calls1 =
     ∷ entry (bytes "output_failed") outputFailedOf
     ∷ entry (bytes "output_hung_up") outputHungUpOf
     ∷ entry (bytes "input_written") inputWrittenOf
-    ∷ entry (bytes "settled") settled_of
+    ∷ entry (bytes "settled") settledOf
     ∷ entry (bytes "dropped") droppedOf
     ∷ entry (bytes "reset") resetOf
     ∷ entry (bytes "disconnect") disconnectOf
@@ -153,7 +153,7 @@ calls1 =
 
 -- with two
 abbrev pub endInputOf : List ℕ → List ℕ → Option Call
-endInputOf a b = map Call.endInput (key_of a b)
+endInputOf a b = map Call.endInput (keyOf a b)
 
 abbrev pub outputOf : List ℕ → List ℕ → Option Call
 outputOf a b = on (stream a) λ x. on (unhex b) λ bs. some (Call.output x bs)
@@ -176,21 +176,21 @@ calls2 =
 abbrev pub launchedOf : List ℕ → List ℕ → List ℕ → Option Call
 launchedOf a b c = map Call.launched (launchResult a b c)
 
-abbrev pub input_of : List ℕ → List ℕ → List ℕ → Option Call
-input_of a b c = on (key_of a b) λ key. on (unhex c) λ bs. some (Call.input key bs)
+abbrev pub inputOf : List ℕ → List ℕ → List ℕ → Option Call
+inputOf a b c = on (keyOf a b) λ key. on (unhex c) λ bs. some (Call.input key bs)
 
 abbrev pub calls3 : List (Entry (List ℕ → List ℕ → List ℕ → Option Call))
 calls3 =
     entry (bytes "launched") launchedOf
-    ∷ entry (bytes "input") input_of
+    ∷ entry (bytes "input") inputOf
     ∷ []
 
 -- with four
 abbrev pub creditOf : List ℕ → List ℕ → List ℕ → List ℕ → Option Call
-creditOf a b c d = on (key_of a b) λ key. on (pool c) λ p. on (u32 d) λ n. some (Call.credit key p n)
+creditOf a b c d = on (keyOf a b) λ key. on (pool c) λ p. on (u32 d) λ n. some (Call.credit key p n)
 
 abbrev pub cancelOf : List ℕ → List ℕ → List ℕ → List ℕ → Option Call
-cancelOf a b c d = on (u64 a) λ now. on (key_of b c) λ key. on (cause d) λ x. some (Call.cancel now key x)
+cancelOf a b c d = on (u64 a) λ now. on (keyOf b c) λ key. on (cause d) λ x. some (Call.cancel now key x)
 
 abbrev pub calls4 : List (Entry (List ℕ → List ℕ → List ℕ → List ℕ → Option Call))
 calls4 =
@@ -198,17 +198,17 @@ calls4 =
     ∷ entry (bytes "cancel") cancelOf
     ∷ []
 
-unfoldable pub call_of : List (List ℕ) → Option Call
-call_of [] = none
-call_of (name ∷ []) = find name plainCalls
-call_of (name ∷ a ∷ []) = on (find name calls1) λ f. f a
-call_of (name ∷ a ∷ b ∷ []) = on (find name calls2) λ f. f a b
-call_of (name ∷ a ∷ b ∷ c ∷ []) = on (find name calls3) λ f. f a b c
-call_of (name ∷ a ∷ b ∷ c ∷ d ∷ []) = on (find name calls4) λ f. f a b c d
-call_of (name ∷ a ∷ b ∷ c ∷ d ∷ e ∷ rest) = none
+unfoldable pub callOf : List (List ℕ) → Option Call
+callOf [] = none
+callOf (name ∷ []) = find name plainCalls
+callOf (name ∷ a ∷ []) = on (find name calls1) λ f. f a
+callOf (name ∷ a ∷ b ∷ []) = on (find name calls2) λ f. f a b
+callOf (name ∷ a ∷ b ∷ c ∷ []) = on (find name calls3) λ f. f a b c
+callOf (name ∷ a ∷ b ∷ c ∷ d ∷ []) = on (find name calls4) λ f. f a b c d
+callOf (name ∷ a ∷ b ∷ c ∷ d ∷ e ∷ rest) = none
 
 -- the call of a line
 abbrev pub lineCall : (line : List ℕ) → Option Call
-lineCall line = call_of (fields line)
+lineCall line = callOf (fields line)
 
 -- ---- open

@@ -17,11 +17,11 @@ use Rattle.hexadecimal.specs.Hexadecimal.{unhex, arePairs, areHex, pairs, hexVal
 use Rattle.calls.specs.Call as Call
 use Rattle.calls.specs.Call.{Call, Answer}
 use Rattle.syntax.specs.Words.{bytes, same, named}
-use Rattle.syntax.specs.Lines.{fields, digit, status, launchResult, find, call_of, lineCall, zeros}
+use Rattle.syntax.specs.Lines.{fields, digit, status, launchResult, find, callOf, lineCall, zeros}
 use Rattle.syntax.specs.Answers.{answerText, lineText}
 
 unfoldable pub calls : String → Option Call
-unfolding bytes fields same call_of find named number numberFrom areDigits valueFrom signed unhex arePairs areHex pairs hexValue digit status launchResult
+unfolding bytes fields same callOf find named number numberFrom areDigits valueFrom signed unhex arePairs areHex pairs hexValue digit status launchResult
 calls line = lineCall (bytes line)
 
 prints : ℕ → Answer → List ℕ

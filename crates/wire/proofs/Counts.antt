@@ -15,7 +15,7 @@ use Rattle.account.specs.TurnClaim.{carriedBy}
 use Rattle.account.proofs.Flags.{either}
 use Rattle.wire.specs.Messages.{any, endsBy}
 use Rattle.wire.specs.Heard.{Heard, Eof, Close, bytesIn, unitsIn, isEof, isClose, isUnread, joined, count, toldBy}
-use Rattle.wire.specs.Channel.{exit_of, speaks}
+use Rattle.wire.specs.Channel.{exitOf, speaks}
 use Rattle.wire.specs.Claim.{creditIn, once}
 use Rattle.wire.proofs.Ends.{endsAll, OnceAt, Once}
 use Rattle.wire.proofs.Order.{Final}
@@ -30,7 +30,7 @@ bytes-told x e (Call.End y) = either (λ (hs : List Heard). joined (bytesIn x) h
 bytes-told x e Call.InputClosed = refl
 bytes-told x e (Call.Terminal o) = by o.status
   where
-    by : (s : MaybeStatus) → joined (bytesIn x) (exit_of s ++ (Close ∷ [])) ≡ []
+    by : (s : MaybeStatus) → joined (bytesIn x) (exitOf s ++ (Close ∷ [])) ≡ []
     by MaybeStatus.None = refl
     by (MaybeStatus.Some s) = refl
 
@@ -42,7 +42,7 @@ units-told e (Call.End y) = either (λ (hs : List Heard). joined unitsIn hs ≡ 
 units-told e Call.InputClosed = refl
 units-told e (Call.Terminal o) = by o.status
   where
-    by : (s : MaybeStatus) → joined unitsIn (exit_of s ++ (Close ∷ [])) ≡ []
+    by : (s : MaybeStatus) → joined unitsIn (exitOf s ++ (Close ∷ [])) ≡ []
     by MaybeStatus.None = refl
     by (MaybeStatus.Some s) = refl
 
@@ -60,7 +60,7 @@ pub unread-none : (e : Each Bool) (ms : List Message) → count isUnread (toldBy
 unread-none e [] = refl
 unread-none e (m ∷ ms) = count-append isUnread (speaks e m) (toldBy speaks (endsBy m e) ms) ∙ (let y = by m in let z = unread-none (endsBy m e) ms in omega arith)
   where
-    exit : (s : MaybeStatus) → count isUnread (exit_of s ++ (Close ∷ [])) ≡ 0
+    exit : (s : MaybeStatus) → count isUnread (exitOf s ++ (Close ∷ [])) ≡ 0
     exit MaybeStatus.None = refl
     exit (MaybeStatus.Some s) = refl
 
@@ -78,7 +78,7 @@ closes-told e [] f = refl
 closes-told e (m ∷ ms) f =
     count-append isClose (speaks e m) (toldBy speaks (endsBy m e) ms) ∙ (let y = by m in let z = closes-told (endsBy m e) ms f.1 in let w = all (terminalMessage m) f.0 in omega arith)
   where
-    exit : (s : MaybeStatus) → count isClose (exit_of s ++ (Close ∷ [])) ≡ 1
+    exit : (s : MaybeStatus) → count isClose (exitOf s ++ (Close ∷ [])) ≡ 1
     exit MaybeStatus.None = refl
     exit (MaybeStatus.Some s) = refl
 
@@ -106,7 +106,7 @@ pub eofs-told : (ms : List Message) (e : Each Bool) → Once e ms → count isEo
 eofs-told [] e f = omega arith
 eofs-told (m ∷ ms) e f = by m f.0 (eofs-told ms (endsBy m e) f.1)
   where
-    exit : (s : MaybeStatus) → count isEof (exit_of s ++ (Close ∷ [])) ≡ 0
+    exit : (s : MaybeStatus) → count isEof (exitOf s ++ (Close ∷ [])) ≡ 0
     exit MaybeStatus.None = refl
     exit (MaybeStatus.Some s) = refl
 
@@ -125,4 +125,4 @@ eofs-told (m ∷ ms) e f = by m f.0 (eofs-told ms (endsBy m e) f.1)
         let c : once (every e) ≡ 0 = ap once (not-every y e f) in
         omega arith
     by Call.InputClosed f h = h
-    by (Call.Terminal o) f h = (let a = count-append isEof (exit_of o.status ++ (Close ∷ [])) (toldBy speaks e ms) in let b = exit o.status in omega arith)
+    by (Call.Terminal o) f h = (let a = count-append isEof (exitOf o.status ++ (Close ∷ [])) (toldBy speaks e ms) in let b = exit o.status in omega arith)

@@ -20,7 +20,7 @@ use Rattle.runner.specs.declared.runner.Runner.{Runner}
 use Rattle.runner.specs.Life.{awaitsLaunch}
 use Rattle.runner.specs.Message.{sendableOf, untold, choose, outputPaid, outputSent, effect}
 use Rattle.runner.specs.MessageLaws.{least}
-use Rattle.runner.specs.State.{out_of, credit_at}
+use Rattle.runner.specs.State.{outOf, creditAt}
 use Rattle.calls.specs.Call as Call
 use Rattle.calls.specs.Call.{Call, Answer, Message}
 use Rattle.account.specs.Step.{State}
@@ -29,7 +29,7 @@ use Rattle.account.proofs.Plain.{said, next, answer}
 use Rattle.account.proofs.Finish.{Kind, quiet, speaks, kind}
 use Rattle.account.proofs.Flags.{and_l, and_r, or_left}
 use Rattle.account.proofs.Sides.{one-per, per-same, apart, on_out, per-put, one_on, on_same}
-use Rattle.wire.specs.Messages.{saidIn, isEnd, is_of, any, endsBy}
+use Rattle.wire.specs.Messages.{saidIn, isEnd, isOf, any, endsBy}
 use Rattle.wire.proofs.Outs.{All, Stands, quiet_keeps}
 
 -- ---- a stream whose End was told is closed, with nothing queued
@@ -42,7 +42,7 @@ Muted r = All Mute r
 
 -- the streams whose End a runner has told
 abbrev pub ends : Runner → Each Bool
-ends r = per (λ (x : Stream). (out_of x r).ended)
+ends r = per (λ (x : Stream). (outOf x r).ended)
 
 keeps-none : (c g d : Bool) (k n : ℕ) → c ≡ true → keeps (c || g) d k n ≡ 0
 keeps-none true g d k n e = refl
@@ -70,8 +70,8 @@ Fresh r Choice.None = Unit
 Fresh r Choice.Credit = Unit
 Fresh r Choice.Started = Unit
 Fresh r Choice.InputClosed = Unit
-Fresh r (Choice.End x) = ((out_of x r).ended ≡ false) × (isDone (out_of x r) ≡ true)
-Fresh r (Choice.Output x n) = (out_of x r).ended ≡ false
+Fresh r (Choice.End x) = ((outOf x r).ended ≡ false) × (isDone (outOf x r) ≡ true)
+Fresh r (Choice.Output x n) = (outOf x r).ended ≡ false
 Fresh r Choice.Terminal = Unit
 
 either : (P : Choice → Type 0) (b : Bool) (x y : Choice) → (b ≡ true → P x) → P y → P (ifElse b x y)
@@ -82,20 +82,20 @@ either P false x y p q = q
 untold-done : (x : Stream) (r : Runner) → (not (awaitsLaunch r) && untold r x) ≡ true → Fresh r (Choice.End x)
 unfolding Fresh
 untold-done x r h =
-    let o : Output = out_of x r in
+    let o : Output = outOf x r in
     let q = and_r (not (awaitsLaunch r)) (untold r x) h in
     (not-true o.ended (and_r (isDone o) (not o.ended) q), and_l (isDone o) (not o.ended) q)
 
-sends : (n : ℕ) (x : Stream) (r : Runner) → Muted r → (not (awaitsLaunch r) && ltb 0 (sendableOf r n x)) ≡ true → (out_of x r).ended ≡ false
+sends : (n : ℕ) (x : Stream) (r : Runner) → Muted r → (not (awaitsLaunch r) && ltb 0 (sendableOf r n x)) ≡ true → (outOf x r).ended ≡ false
 unfolding sendableOf
-sends n x r m h = by (out_of x r).ended refl
+sends n x r m h = by (outOf x r).ended refl
   where
-    by : (b : Bool) → (out_of x r).ended ≡ b → b ≡ false
+    by : (b : Bool) → (outOf x r).ended ≡ b → b ≡ false
     by false e = refl
     by true e =
         let z = ltb-true 0 (sendableOf r n x) (and_r (not (awaitsLaunch r)) (ltb 0 (sendableOf r n x)) h) in
         let q = (m x e).1 in
-        let l = least r.limits.output.unit (credit_at (poolOf r.limits x) r.credits).available (min (min (out_of x r).queued r.limits.chunk) n) in
+        let l = least r.limits.output.unit (creditAt (poolOf r.limits x) r.credits).available (min (min (outOf x r).queued r.limits.chunk) n) in
         absurd (omega arith)
 
 fresh : (n : ℕ) (r : Runner) → Muted r → Fresh r (choose r n)
@@ -109,7 +109,7 @@ fresh n r m =
     (either P _ _ _ (λ _. tt) (either P _ _ _ (λ _. tt) tt))))))))))
 
 -- an End is chosen of a stream whose End is not told
-pub end-untold : (n : ℕ) (r : Runner) (x : Stream) → Muted r → Choice.End x ≡ choose r n → (out_of x r).ended ≡ false
+pub end-untold : (n : ℕ) (r : Runner) (x : Stream) → Muted r → Choice.End x ≡ choose r n → (outOf x r).ended ≡ false
 unfolding Fresh
 end-untold n r x m e = (subst⁻¹ (Fresh r) e (fresh n r m)).0
 
@@ -137,18 +137,18 @@ pub record Tells (r t : Runner) (ms : List Message) : Type 0 where
   pub told : ends t ≡ endsAll ms (ends r)
   pub once : Once (ends r) ms
   pub muted : Muted t
-  pub silent : (x : Stream) → (out_of x r).ended ≡ true → any (is_of x) ms ≡ false
+  pub silent : (x : Stream) → (outOf x r).ended ≡ true → any (isOf x) ms ≡ false
 
 mute-ended : (x : Stream) (o : Output) → isDone o ≡ true → Mute x (endedOut o)
 mute-ended x o d e =
     let z = ltb-false 0 o.queued (not-true (ltb 0 o.queued) (and_r o.closed (not (ltb 0 o.queued)) d)) in
     (and_l o.closed (not (ltb 0 o.queued)) d, omega arith)
 
-abbrev pub at : (x : Stream) (r : Runner) → one x (ends r) ≡ (out_of x r).ended
-at x r = one-per (λ (y : Stream). (out_of y r).ended) x
+abbrev pub at : (x : Stream) (r : Runner) → one x (ends r) ≡ (outOf x r).ended
+at x r = one-per (λ (y : Stream). (outOf y r).ended) x
 
 -- a message of a stream whose End is not told is none of one whose End is
-other : (y x : Stream) (r : Runner) → (out_of y r).ended ≡ false → (out_of x r).ended ≡ true → (sameStream y x || false) ≡ false
+other : (y x : Stream) (r : Runner) → (outOf y r).ended ≡ false → (outOf x r).ended ≡ true → (sameStream y x || false) ≡ false
 other y x r f t = rw (apart y x (ends r) (at y r ∙ f) (at x r ∙ t)) refl
 
 effect-tells : (m : Choice) (r : Runner) (store : List ℕ) → Fresh r m → Muted r → Tells r (effect m r) (saidIn (said m r store))
@@ -158,16 +158,16 @@ effect-tells Choice.Credit r store f h = record { told = refl; once = (tt, tt); 
 effect-tells Choice.Started r store f h = record { told = refl; once = (tt, tt); muted = h; silent = λ x e. refl }
 effect-tells Choice.InputClosed r store f h = record { told = refl; once = (tt, tt); muted = h; silent = λ x e. refl }
 effect-tells (Choice.End y) r store f h = record {
-  told = per-put (λ (o : Output). o.ended) y (endedOut (out_of y r)) r.outputs;
+  told = per-put (λ (o : Output). o.ended) y (endedOut (outOf y r)) r.outputs;
   once = (at y r ∙ f.0, tt);
-  muted = on_out Mute y (endedOut (out_of y r)) r.outputs (mute-ended y (out_of y r) f.1) (λ x d. h x);
+  muted = on_out Mute y (endedOut (outOf y r)) r.outputs (mute-ended y (outOf y r) f.1) (λ x d. h x);
   silent = λ x e. other y x r f.0 e;
 }
 effect-tells (Choice.Output y n) r store f h = record {
-  told = per-put (λ (o : Output). o.ended) y (sentOut r.limits.chunk n (out_of y r)) r.outputs
+  told = per-put (λ (o : Output). o.ended) y (sentOut r.limits.chunk n (outOf y r)) r.outputs
       ∙ ap (λ (b : Bool). onOne y (λ (a : Bool). b) (ends r)) (sym (at y r)) ∙ on_same y (ends r);
   once = (tt, tt);
-  muted = on_out Mute y (sentOut r.limits.chunk n (out_of y r)) r.outputs (λ e. ((h y e).0, (let z = (h y e).1 in omega arith))) (λ x d. h x);
+  muted = on_out Mute y (sentOut r.limits.chunk n (outOf y r)) r.outputs (λ e. ((h y e).0, (let z = (h y e).1 in omega arith))) (λ x d. h x);
   silent = λ x e. other y x r f e;
 }
 effect-tells Choice.Terminal r store f h = record { told = refl; once = (tt, tt); muted = h; silent = λ x e. refl }
@@ -206,7 +206,7 @@ quiet-tells c s q h =
     let e : Each Bool = ends s.runner in
     let k = quiet_keeps _ (still e) c s q (λ x. (sym (at x s.runner), h x)) in
     rw (unsaid (answer s c) q) (record {
-      told = per-same (λ (x : Stream). (out_of x (next s c).runner).ended) (λ (x : Stream). (out_of x s.runner).ended) (λ x. (k x).0 ∙ at x s.runner);
+      told = per-same (λ (x : Stream). (outOf x (next s c).runner).ended) (λ (x : Stream). (outOf x s.runner).ended) (λ x. (k x).0 ∙ at x s.runner);
       once = tt;
       muted = λ x. (k x).1;
       silent = λ x t. refl;
@@ -261,8 +261,8 @@ tells-on {r} {s} {t} {ms} {ns} a b = record {
   told = b.told ∙ ap (endsAll ns) a.told ∙ sym (ends-append ms ns (ends r));
   once = once-append ms ns (ends r) a.once (subst (λ (e : Each Bool). Once e ns) a.told b.once);
   muted = b.muted;
-  silent = λ x e. any_append (is_of x) ms ns ∙ rw (a.silent x e) (b.silent x (stays x e));
+  silent = λ x e. any_append (isOf x) ms ns ∙ rw (a.silent x e) (b.silent x (stays x e));
 }
   where
-    stays : (x : Stream) → (out_of x r).ended ≡ true → (out_of x s).ended ≡ true
+    stays : (x : Stream) → (outOf x r).ended ≡ true → (outOf x s).ended ≡ true
     stays x e = sym (at x s) ∙ ap (one x) a.told ∙ ends_so ms (ends r) x ∙ or_left (one x (ends r)) (any (isEnd x) ms) (at x r ∙ e)

@@ -14,7 +14,7 @@ use Rattle.account.specs.TurnClaim.{carriedBy, carried, sentIn}
 use Rattle.account.proofs.Flags.{or-false-l, or-false-r}
 use Rattle.account.proofs.Records.{Good, good-entry}
 use Rattle.account.proofs.Tells.{quiet-carries}
-use Rattle.wire.specs.Messages.{saidIn, saidBy, saidFrom, is_of, any, endsBy}
+use Rattle.wire.specs.Messages.{saidIn, saidBy, saidFrom, isOf, any, endsBy}
 use Rattle.wire.specs.Heard.{Heard, AllOf, joined, wire, toldBy}
 use Rattle.wire.proofs.Ends.{Muted, ends, endsAll, Speech, none, some, speech}
 use Rattle.wire.proofs.Order.{entry-tells}
@@ -85,12 +85,12 @@ sent-said x (d ∷ ds) =
     ∙ sym (joined-append (carriedBy x) (saidIn d.answer) (saidBy ds))
 
 -- of a stream of which no message is, none carries bytes
-pub none-carried : (x : Stream) (ms : List Message) → any (is_of x) ms ≡ false → joined (carriedBy x) ms ≡ []
+pub none-carried : (x : Stream) (ms : List Message) → any (isOf x) ms ≡ false → joined (carriedBy x) ms ≡ []
 none-carried x [] e = refl
 none-carried x (m ∷ ms) e =
-    ap (λ (b : List ℕ). b ++ joined (carriedBy x) ms) (by m (or-false-l (is_of x m) (any (is_of x) ms) e)) ∙ none-carried x ms (or-false-r (is_of x m) (any (is_of x) ms) e)
+    ap (λ (b : List ℕ). b ++ joined (carriedBy x) ms) (by m (or-false-l (isOf x m) (any (isOf x) ms) e)) ∙ none-carried x ms (or-false-r (isOf x m) (any (isOf x) ms) e)
   where
-    by : (m : Message) → is_of x m ≡ false → carriedBy x m ≡ []
+    by : (m : Message) → isOf x m ≡ false → carriedBy x m ≡ []
     by (Call.Credit n) e = refl
     by Call.Started e = refl
     by (Call.Output y b) e = rw e refl

@@ -8,7 +8,7 @@ use Rattle.exec.specs.declared.Stream.{Stream}
 use Rattle.exec.specs.Each.{one}
 use Rattle.runner.specs.declared.runner.Runner.{Runner}
 use Rattle.runner.specs.Range.{fresh}
-use Rattle.runner.specs.State.{out_of}
+use Rattle.runner.specs.State.{outOf}
 use Rattle.calls.specs.Call.{Conf, Call, Answer, Message}
 use Rattle.account.specs.Step as Step
 use Rattle.account.specs.Step.{State}
@@ -135,7 +135,7 @@ module _ (conf : Conf) (now : ℕ) (bytes lengths : List ℕ) (op : Opens conf n
   behind : (es ds : List Entry) → Tells (afterEntries opened es).runner (afterEntries (afterEntries opened es) ds).runner (saidFrom (afterEntries opened es) ds) × Finishes (afterEntries opened es).runner (afterEntries (afterEntries opened es) ds).runner (saidFrom (afterEntries opened es) ds)
   behind es ds = list_tells conf ds (afterEntries opened es) (good-at conf now bytes lengths op es) (from-open es).0.muted
 
-  pub ended_at : (es : List Entry) (x : Stream) → (out_of x (afterEntries opened es).runner).ended ≡ (one x noEnds || any (isEnd x) (saidFrom opened es))
+  pub ended_at : (es : List Entry) (x : Stream) → (outOf x (afterEntries opened es).runner).ended ≡ (one x noEnds || any (isEnd x) (saidFrom opened es))
   ended_at es x =
       let ms : List Message = saidFrom opened es in
       sym (at x (afterEntries opened es).runner) ∙ ap (one x) ((from-open es).0.told ∙ ap (endsAll ms) fresh-ends) ∙ ends_so ms noEnds x

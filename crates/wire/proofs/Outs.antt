@@ -20,9 +20,9 @@ use Rattle.output.specs.Output.{graceEnded, givenUp, abandoned, askedOut, closed
 use Rattle.runner.specs.declared.answer.Request.TheVariants as Request
 use Rattle.runner.specs.declared.message.Wish.{Wish}
 use Rattle.runner.specs.declared.runner.Runner.{Runner}
-use Rattle.runner.specs.Life.{awaitsLaunch, isCleanedUp, isLate, is_over, timeoutCleared, closeRunnerInput, endGrace, giveUp, abandonLaunch, abandonOpenStreams, beginTermination, passGrace, terminate, passTimeout, passSettlement, giveUpUnlessClean, passGiveUp, dropLaunch, dropStreams, passAbandonment, fire, ticked, cancelNext, noteStarted, noteLaunch, launchedNext, noteExit, noteExitOnce, exitedNext, settledNext, silenced, giveUpSoon, cutOff, cutOffOnce, detachNext}
+use Rattle.runner.specs.Life.{awaitsLaunch, isCleanedUp, isLate, isOver, timeoutCleared, closeRunnerInput, endGrace, giveUp, abandonLaunch, abandonOpenStreams, beginTermination, passGrace, terminate, passTimeout, passSettlement, giveUpUnlessClean, passGiveUp, dropLaunch, dropStreams, passAbandonment, fire, ticked, cancelNext, noteStarted, noteLaunch, launchedNext, noteExit, noteExitOnce, exitedNext, settledNext, silenced, giveUpSoon, cutOff, cutOffOnce, detachNext}
 use Rattle.runner.specs.Message.{choose, effect, wish, wishEffect}
-use Rattle.runner.specs.State.{out_of, at}
+use Rattle.runner.specs.State.{outOf, at}
 use Rattle.runner.specs.Streams.{isShut, room, outputNext, discardedNext, closedNext, failedNext, hungUpNext, creditNext, inputNext, endNext, writtenNext}
 use Rattle.calls.specs.Call.{Call}
 use Rattle.account.specs.Step.{State}
@@ -32,7 +32,7 @@ use Rattle.account.proofs.Sides.{out-each, on_out}
 use Rattle.account.proofs.Flags.{either}
 
 abbrev pub All : (Stream → Output → Type 0) → Runner → Type 0
-All P r = (x : Stream) → P x (out_of x r)
+All P r = (x : Stream) → P x (outOf x r)
 
 pub record Stands (P : Stream → Output → Type 0) : Type 0 where
   pub grace : (x : Stream) (o : Output) → P x o → P x (graceEnded o)
@@ -58,14 +58,14 @@ unsaid-still Choice.Terminal r store e = absurd (true≢false e)
 
 module _ (P : Stream → Output → Type 0) (h : Stands P) where
   -- one stream's output changed
-  on : (x : Stream) (f : Output → Output) (r : Runner) → (P x (out_of x r) → P x (f (out_of x r))) → All P r → All P (at x f r)
-  on x f r k p = on_out P x (f (out_of x r)) r.outputs (k (p x)) (λ y d. p y)
+  on : (x : Stream) (f : Output → Output) (r : Runner) → (P x (outOf x r) → P x (f (outOf x r))) → All P r → All P (at x f r)
+  on x f r k p = on_out P x (f (outOf x r)) r.outputs (k (p x)) (λ y d. p y)
 
   -- ---- the timers
 
   grace-keeps : (r : Runner) → All P r → All P (endGrace r)
   unfolding endGrace
-  grace-keeps r p = λ x. rw (out-each graceEnded r.outputs x) (h.grace x (out_of x r) (p x))
+  grace-keeps r p = λ x. rw (out-each graceEnded r.outputs x) (h.grace x (outOf x r) (p x))
 
   pass-grace : (now : ℕ) (r : Runner) → All P r → All P (passGrace r now)
   unfolding passGrace
@@ -81,7 +81,7 @@ module _ (P : Stream → Output → Type 0) (h : Stands P) where
 
   given-keeps : (r : Runner) → All P r → All P (giveUp r)
   unfolding giveUp
-  given-keeps r p = λ x. rw (out-each givenUp r.outputs x) (h.given x (out_of x r) (p x))
+  given-keeps r p = λ x. rw (out-each givenUp r.outputs x) (h.given x (outOf x r) (p x))
 
   give-up-keeps : (now : ℕ) (r : Runner) → All P r → All P (passGiveUp r now)
   unfolding passGiveUp giveUpUnlessClean
@@ -94,7 +94,7 @@ module _ (P : Stream → Output → Type 0) (h : Stands P) where
   streams-keeps : (r : Runner) → All P r → All P (dropStreams r)
   unfolding dropStreams abandonOpenStreams
   streams-keeps r p =
-      either (All P) (isFenced r.life.settling) (abandonOpenStreams r) r (λ x. rw (out-each abandoned r.outputs x) (h.abandons x (out_of x r) (p x))) p
+      either (All P) (isFenced r.life.settling) (abandonOpenStreams r) r (λ x. rw (out-each abandoned r.outputs x) (h.abandons x (outOf x r) (p x))) p
 
   abandon-keeps : (now : ℕ) (r : Runner) → All P r → All P (passAbandonment r now)
   unfolding passAbandonment
@@ -128,7 +128,7 @@ module _ (P : Stream → Output → Type 0) (h : Stands P) where
   unfolding exitedNext noteExitOnce noteExit closeRunnerInput
   exited-keeps now x r p =
       let t : Runner = ticked (timeoutCleared r) now in
-      let q : All P t = tick-keeps now (timeoutCleared r) p in either (All P) (is_over t) t (noteExit t now x) q q
+      let q : All P t = tick-keeps now (timeoutCleared r) p in either (All P) (isOver t) t (noteExit t now x) q q
 
   -- ---- the others
 
@@ -141,7 +141,7 @@ module _ (P : Stream → Output → Type 0) (h : Stands P) where
   unfolding wishEffect
   wished-keeps Wish.None r p = p
   wished-keeps (Wish.Request (Request.Terminate c)) r p = p
-  wished-keeps (Wish.Request (Request.Discard x)) r p = on x askedOut r (h.asked x (out_of x r)) p
+  wished-keeps (Wish.Request (Request.Discard x)) r p = on x askedOut r (h.asked x (outOf x r)) p
   wished-keeps (Wish.Request Request.CloseInput) r p = p
   wished-keeps (Wish.Request Request.Settle) r p = p
 
@@ -158,11 +158,11 @@ module _ (P : Stream → Output → Type 0) (h : Stands P) where
   quiet_keeps Call.nextRequest s e p = wished-keeps (wish s.runner) s.runner p
   quiet_keeps (Call.output x b) s e p =
       let r : Runner = s.runner in
-      on x (intake (isShut x r) (out_of x r).discarding (room x r) (length b)) r (h.takes x r.flags.gave_up (out_of x r).discarding (room x r) (length b) (out_of x r)) p
-  quiet_keeps (Call.discarded x n) s e p = on x (lostOut (ltb 0 n)) s.runner (h.loses x (ltb 0 n) (out_of x s.runner)) p
-  quiet_keeps (Call.outputClosed x) s e p = on x closedOut s.runner (h.closes x (out_of x s.runner)) p
-  quiet_keeps (Call.outputFailed x) s e p = on x failedOut s.runner (h.fails x (out_of x s.runner)) p
-  quiet_keeps (Call.outputHungUp x) s e p = on x hungUp s.runner (h.hangs x (out_of x s.runner)) p
+      on x (intake (isShut x r) (outOf x r).discarding (room x r) (length b)) r (h.takes x r.flags.gave_up (outOf x r).discarding (room x r) (length b) (outOf x r)) p
+  quiet_keeps (Call.discarded x n) s e p = on x (lostOut (ltb 0 n)) s.runner (h.loses x (ltb 0 n) (outOf x s.runner)) p
+  quiet_keeps (Call.outputClosed x) s e p = on x closedOut s.runner (h.closes x (outOf x s.runner)) p
+  quiet_keeps (Call.outputFailed x) s e p = on x failedOut s.runner (h.fails x (outOf x s.runner)) p
+  quiet_keeps (Call.outputHungUp x) s e p = on x hungUp s.runner (h.hangs x (outOf x s.runner)) p
   quiet_keeps (Call.credit k y u) s e p = p
   quiet_keeps (Call.input k b) s e p = p
   quiet_keeps (Call.endInput k) s e p = p

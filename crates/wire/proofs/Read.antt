@@ -19,7 +19,7 @@ use Rattle.exec.specs.declared.Stream.TheVariants.{Stdout, Stderr}
 use Rattle.exec.specs.declared.Unit as Units
 use Rattle.exec.specs.declared.Unit.TheVariants as Unit
 use Rattle.exec.specs.Each.{Each, onOne, every}
-use Rattle.octets.specs.Bytes.{number_at}
+use Rattle.octets.specs.Bytes.{numberAt}
 use Rattle.inbox.specs.Need.{byteNeed}
 use Rattle.choice.specs.declared.Choice.{Choice}
 use Rattle.input.specs.declared.Input.{Input}
@@ -56,7 +56,7 @@ use Rattle.account.proofs.InputRange.{HeldIn}
 use Rattle.account.proofs.EachRecord.{Does, answers, told-does, part_in, part-long}
 use Rattle.wire.specs.Messages.{saidIn}
 use Rattle.wire.specs.Heard.{Heard, Window, Bytes, Eof, Exit, Close, toldBy}
-use Rattle.wire.specs.Channel.{packet, written, onWire, hear, heard, exit_of, speaks}
+use Rattle.wire.specs.Channel.{packet, written, onWire, hear, heard, exitOf, speaks}
 use Rattle.wire.specs.Claim.{OfChannel}
 use Rattle.wire.proofs.Follows.{map-append}
 use Rattle.wire.proofs.Ends.{Muted, ends, at, end-untold}
@@ -75,14 +75,14 @@ asHeard Record.Eof b = Eof
 asHeard Record.Close b = Close
 
 module _ (channel : ℕ) where
-  mine : {rec : Record} (b : List ℕ) → Holds channel b rec → eqb (number_at b 1) channel ≡ true
-  mine b h = eq-eqb (number_at b 1) channel h.mine
+  mine : {rec : Record} (b : List ℕ) → Holds channel b rec → eqb (numberAt b 1) channel ≡ true
+  mine b h = eq-eqb (numberAt b 1) channel h.mine
 
   by_kind : (rec : Record) (b : List ℕ) → Codec.read channel b ≡ Parsed.Read rec → Holds channel b rec → hear channel b ≡ asHeard rec b
   by_kind (Record.Adjust units) b e h = rw (h.kind.0, e, h.kind.0, mine b h, h.kind.1) refl
-  by_kind (Record.Data n) b e h = rw (h.kind.0, e, h.kind.0, mine b h, eq-eqb (number_at b 5) (length b - 9) (omega (arith, h.whole, h.kind.1))) refl
+  by_kind (Record.Data n) b e h = rw (h.kind.0, e, h.kind.0, mine b h, eq-eqb (numberAt b 5) (length b - 9) (omega (arith, h.whole, h.kind.1))) refl
   by_kind (Record.Extended n) b e h =
-      rw (h.kind.0, e, h.kind.0, mine b h, h.typed, eq-eqb (number_at b 9) (length b - 13) (omega (arith, h.whole, h.kind.1))) refl
+      rw (h.kind.0, e, h.kind.0, mine b h, h.typed, eq-eqb (numberAt b 9) (length b - 13) (omega (arith, h.whole, h.kind.1))) refl
   by_kind Record.Eof b e h = rw (h.kind, e, h.kind, mine b h) refl
   by_kind Record.Close b e h = rw (h.kind, e, h.kind, mine b h) refl
 
@@ -106,20 +106,20 @@ module _ (channel : ℕ) where
       ∙ rw (ap (λ (s : List ℕ). get_or s 0 0) (sym q.0) ∙ f.0, e) refl
 
   -- what stands before CLOSE, and CLOSE
-  exit-heard : (x : MaybeStatus) (b : List ℕ) → Tells channel x b → heard channel (packet b) ≡ exit_of x
+  exit-heard : (x : MaybeStatus) (b : List ℕ) → Tells channel x b → heard channel (packet b) ≡ exitOf x
   exit-heard MaybeStatus.None b e = rw e refl
   exit-heard (MaybeStatus.Some s) b e = request-heard s b e
 
   module _ (known : channel < 2 ^ 32) where
     ending-heard : (x : MaybeStatus) (rest : List ℕ) → isUntold x ≡ false
         → heard channel (packet (take (length (ending channel x) - 5) (ending channel x ++ rest)) ++ packet (take 5 (drop (length (ending channel x) - 5) (ending channel x ++ rest))))
-        ≡ (exit_of x ++ (Close ∷ [])) ++ []
+        ≡ (exitOf x ++ (Close ∷ [])) ++ []
     ending-heard x rest u =
         let q = ended-reads channel x rest known u in
         map-append (hear channel) (packet (take (length (ending channel x) - 5) (ending channel x ++ rest))) _
         ∙ ap (λ (hs : List Heard). hs ++ heard channel (packet (take 5 (drop (length (ending channel x) - 5) (ending channel x ++ rest))))) (exit-heard x _ q.0)
-        ∙ ap (λ (hs : List Heard). exit_of x ++ hs) (record-heard Record.Close _ q.1)
-        ∙ sym (append-nil (exit_of x ++ (Close ∷ [])))
+        ∙ ap (λ (hs : List Heard). exitOf x ++ hs) (record-heard Record.Close _ q.1)
+        ∙ sym (append-nil (exitOf x ++ (Close ∷ [])))
 
     laid-heard : (rec : Record) (b : List ℕ) → 13 + size rec ≤ length b → Fits rec
         → heard channel (packet (take (start rec + size rec) (laidRecord channel rec b))) ≡ asHeard rec (take (start rec + size rec) (laidRecord channel rec b)) ∷ []

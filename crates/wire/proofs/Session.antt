@@ -16,7 +16,7 @@ use Rattle.exec.specs.Key.{admits}
 use Rattle.exec.specs.Limits.{cost, bytesWith}
 use Rattle.ring.specs.Ring.{wrap, ringRead, ringFrom, ringWrite}
 use Rattle.ring.specs.Runs.{copied}
-use Rattle.octets.specs.Bytes.{number_at, be32At}
+use Rattle.octets.specs.Bytes.{numberAt, be32At}
 use Rattle.octets.specs.Text as Text
 use Rattle.choice.specs.Order.{ifElse, order}
 use Rattle.output.specs.Output.{outputFits}
@@ -70,7 +70,7 @@ cut = record {
 computed : (wire onWire (Step.opened channel 0 (zeros 16) []) entries ≡ packets)
     × (wire onWire (Step.opened channel 0 (zeros 16) []) (lossy ++ (written ∷ [])) ≡ packets)
     × (answerEntry (afterEntries (Step.opened channel 0 (zeros 16) []) lossy) written ≡ Call.Says (Call.Terminal cut))
-unfolding nextEntry onWire Step.next Calls.«open» Calls.launched Calls.output Calls.outputClosed Calls.exited Calls.settled Calls.nextMessage Calls.credit Range.fresh Range.stop Range.in_range outputFits bytesWith admits cost wrap ringRead ringFrom ringWrite copied ifElse order Life.closeRunnerInput Life.passGrace Life.passTimeout Life.passSettlement Life.passGiveUp Life.passAbandonment Life.fire Life.ticked Life.noteStarted Life.noteLaunch Life.launchedNext Life.noteExit Life.noteExitOnce Life.exitedNext Life.settledNext Life.isReady Life.outcomeOf Message.sendableOf Message.choose Message.outputPaid Message.outputSent Message.effect Message.payload Message.bufferAfter Message.saidFor Streams.outputTaken Streams.outputNext Streams.outputStore Streams.outputTook Streams.closedNext Streams.creditIn Streams.creditAnswer Streams.creditNext number_at be32At Channel.admitted Channel.made Channel.parsedRead Channel.admittedRead Channel.readRecord Channel.sentAs Channel.sentBuffer Channel.wrote Channel.wroteBuffer Channel.told Channel.asked Channel.isLeft Channel.sent Channel.roomyWrite Channel.admittedWrite Channel.writeRecord Codec.header Codec.bytes_of Codec.laidRecord Codec.kinded Codec.fitting Codec.checked Codec.read Exits.ending Exits.request Exits.isUntold Exits.isTold Text.bytes answerEntry Calls.discarded Streams.discardedNext
+unfolding nextEntry onWire Step.next Calls.«open» Calls.launched Calls.output Calls.outputClosed Calls.exited Calls.settled Calls.nextMessage Calls.credit Range.fresh Range.stop Range.inRange outputFits bytesWith admits cost wrap ringRead ringFrom ringWrite copied ifElse order Life.closeRunnerInput Life.passGrace Life.passTimeout Life.passSettlement Life.passGiveUp Life.passAbandonment Life.fire Life.ticked Life.noteStarted Life.noteLaunch Life.launchedNext Life.noteExit Life.noteExitOnce Life.exitedNext Life.settledNext Life.isReady Life.outcomeOf Message.sendableOf Message.choose Message.outputPaid Message.outputSent Message.effect Message.payload Message.bufferAfter Message.saidFor Streams.outputTaken Streams.outputNext Streams.outputStore Streams.outputTook Streams.closedNext Streams.creditIn Streams.creditAnswer Streams.creditNext numberAt be32At Channel.admitted Channel.made Channel.parsedRead Channel.admittedRead Channel.readRecord Channel.sentAs Channel.sentBuffer Channel.wrote Channel.wroteBuffer Channel.told Channel.asked Channel.isLeft Channel.sent Channel.roomyWrite Channel.admittedWrite Channel.writeRecord Codec.header Codec.bytesOf Codec.laidRecord Codec.kinded Codec.fitting Codec.checked Codec.read Exits.ending Exits.request Exits.isUntold Exits.isTold Text.bytes answerEntry Calls.discarded Streams.discardedNext
 computed = (refl, refl, refl)
 
 pub session : wire onWire (Step.opened channel 0 (zeros 16) []) entries ≡ packets
@@ -83,7 +83,7 @@ blind = (computed.1, computed.2)
 
 -- what its peer hears
 pub session-heard : heard 1 packets ≡ Window 8 ∷ Bytes Stdout (97 ∷ 98 ∷ 99 ∷ []) ∷ Bytes Stderr (120 ∷ 121 ∷ []) ∷ Bytes Stdout (100 ∷ 101 ∷ []) ∷ Eof ∷ Exit (Status.Exited (pos 0)) ∷ Close ∷ []
-unfolding Codec.kinded Codec.fitting Codec.checked Codec.read Exits.read Exits.matching Exits.guess Exits.request Exits.isTold Text.bytes Text.same number_at be32At
+unfolding Codec.kinded Codec.fitting Codec.checked Codec.read Exits.read Exits.matching Exits.guess Exits.request Exits.isTold Text.bytes Text.same numberAt be32At
 session-heard = refl
 
 -- and what the claim says of it: with stores of any content the peer has all that the program handed over

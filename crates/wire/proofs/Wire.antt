@@ -34,7 +34,7 @@ use Rattle.account.proofs.Told.{taken-told, sent-told}
 use Rattle.account.proofs.Turn.{turn}
 use Rattle.wire.specs.Messages.{saidIn, saidFrom, isEnd, any, noEnds}
 use Rattle.wire.specs.Heard.{Close, AllOf, bytesIn, unitsIn, isEof, isClose, isUnread, joined, count, wire, toldBy}
-use Rattle.wire.specs.Channel.{written, onWire, hear, heard, exit_of, speaks}
+use Rattle.wire.specs.Channel.{written, onWire, hear, heard, exitOf, speaks}
 use Rattle.wire.specs.Claim.{OfChannel, Lone, creditIn, once, heardOf, said, Wire}
 use Rattle.wire.proofs.Ends.{Muted, ends, endsAll, Once, unsaid, ends_so}
 use Rattle.wire.proofs.Order.{from-open, fresh-ends, fresh-muted, ordered}
@@ -149,13 +149,13 @@ module _ (conf : Conf) (now : ℕ) (bytes lengths : List ℕ) (channel : ℕ) (o
       ∙ sym (has es x k)
 
   exits-at : (es : List Entry) (buffer : List ℕ) (t : Outcome) → answerEntry (afterEntries begins es) (writeRecord channel buffer) ≡ Call.Says (Call.Terminal t)
-      → heard channel (onWire (afterEntries begins es) (writeRecord channel buffer)) ≡ exit_of t.status ++ (Close ∷ [])
+      → heard channel (onWire (afterEntries begins es) (writeRecord channel buffer)) ≡ exitOf t.status ++ (Close ∷ [])
   exits-at es buffer t e =
       let s : State = afterEntries begins es in
       let g : Good conf s = good-at conf now bytes lengths op es in
       record-told s g.fine (from-open conf now bytes lengths op es).0.muted channel (subst⁻¹ (λ (k : Conf). OfChannel k channel) g.same o) buffer
       ∙ ap (λ (a : Answer). toldBy speaks (ends s.runner) (saidIn a)) e
-      ∙ append-nil (exit_of t.status ++ (Close ∷ []))
+      ∙ append-nil (exitOf t.status ++ (Close ∷ []))
 
   asks_at : (es : List Entry) (buffer : List ℕ) → conf.limits.chunk + 13 ≤ length buffer → 43 ≤ length buffer
       → isUntaken (answerEntry (afterEntries begins es) (writeRecord channel buffer)) ≡ false

@@ -6,7 +6,7 @@ use Rattle.exec.specs.declared.Stream.TheVariants.{Stdout, Stderr}
 use Rattle.exec.specs.Each.{Each, every}
 use Rattle.runner.specs.declared.answer.Message as Messages
 use Rattle.runner.specs.declared.answer.Message.TheVariants as Message
-use Rattle.octets.specs.Bytes.{number_at}
+use Rattle.octets.specs.Bytes.{numberAt}
 use Rattle.codec.specs.declared.Parsed.{Parsed}
 use Rattle.codec.specs.Codec as Codec
 use Rattle.exits.specs.declared.Told.{Told}
@@ -53,17 +53,17 @@ readIf b h = cond b h Unread
 
 -- a record that the codec's reader accepts, by its first byte and by RFC 4254's places: the channel stands at 1; of a 93 the units at
 -- 5; of a 94 the payload's length at 5 and the payload at 9; of a 95 the type, 1, at 5, the length at 9 and the payload at 13
-abbrev pub by_kind : (channel kind : ℕ) → List ℕ → Heard
-by_kind channel kind b =
-    readIf (eqb (number_at b 1) channel)
-    (cond (eqb kind 93) (Window (number_at b 5))
-    (cond (eqb kind 94) (readIf (eqb (number_at b 5) (length b - 9)) (Bytes Stdout (drop 9 b)))
-    (cond (eqb kind 95) (readIf (eqb (number_at b 5) 1 && eqb (number_at b 9) (length b - 13)) (Bytes Stderr (drop 13 b)))
+abbrev pub byKind : (channel kind : ℕ) → List ℕ → Heard
+byKind channel kind b =
+    readIf (eqb (numberAt b 1) channel)
+    (cond (eqb kind 93) (Window (numberAt b 5))
+    (cond (eqb kind 94) (readIf (eqb (numberAt b 5) (length b - 9)) (Bytes Stdout (drop 9 b)))
+    (cond (eqb kind 95) (readIf (eqb (numberAt b 5) 1 && eqb (numberAt b 9) (length b - 13)) (Bytes Stderr (drop 13 b)))
     (cond (eqb kind 96) Eof
     (cond (eqb kind 97) Close Unread)))))
 
 abbrev pub asRecord : (channel : ℕ) → Parsed → List ℕ → Heard
-asRecord channel (Parsed.Read rec) b = by_kind channel (get_or b 0 0) b
+asRecord channel (Parsed.Read rec) b = byKind channel (get_or b 0 0) b
 asRecord channel (Parsed.Refused x) b = Unread
 
 -- 98, by the reader of the exit requests
@@ -79,9 +79,9 @@ heard channel bs = map (hear channel) bs
 
 -- ---- what is to be heard of a message
 
-abbrev pub exit_of : MaybeStatus → List Heard
-exit_of MaybeStatus.None = []
-exit_of (MaybeStatus.Some s) = Exit s ∷ []
+abbrev pub exitOf : MaybeStatus → List Heard
+exitOf MaybeStatus.None = []
+exitOf (MaybeStatus.Some s) = Exit s ∷ []
 
 -- Credit its units, Output its bytes, the End with which every stream has ended an EOF, Terminal the status, if there is one, and
 -- then CLOSE; Started, InputClosed and any other End nothing
@@ -91,4 +91,4 @@ speaks e Call.Started = []
 speaks e (Call.Output x b) = Bytes x b ∷ []
 speaks e (Call.End x) = cond (every (endsBy (Call.End x) e)) (Eof ∷ []) []
 speaks e Call.InputClosed = []
-speaks e (Call.Terminal o) = exit_of o.status ++ (Close ∷ [])
+speaks e (Call.Terminal o) = exitOf o.status ++ (Close ∷ [])

@@ -14,7 +14,7 @@ use Rattle.account.specs.Records.{Entry, call, readRecord, writeRecord, nextEntr
 use Rattle.account.specs.TurnClaim.{takenIn, sentIn}
 use Rattle.wire.specs.Messages.{saidFrom, isEnd, any, noEnds}
 use Rattle.wire.specs.Heard.{Heard, Close, AllOf, bytesIn, unitsIn, isEof, isClose, isUnread, joined, count, wire, toldBy}
-use Rattle.wire.specs.Channel.{onWire, heard, exit_of, speaks}
+use Rattle.wire.specs.Channel.{onWire, heard, exitOf, speaks}
 
 -- limits of a channel, in u32 as open takes them, and a channel's number
 pub record OfChannel (conf : Conf) (channel : ℕ) : Type 0 where
@@ -81,7 +81,7 @@ pub record Wire (conf : Conf) (now : ℕ) (bytes lengths : List ℕ) (channel : 
   -- right before it the status, exactly where the outcome has one: after any list
   pub exits : (es : List Entry) (buffer : List ℕ) (o : Outcome)
       → answerEntry (afterEntries (opened conf now bytes lengths) es) (writeRecord channel buffer) ≡ Call.Says (Call.Terminal o)
-      → heard channel (onWire (afterEntries (opened conf now bytes lengths) es) (writeRecord channel buffer)) ≡ exit_of o.status ++ (Close ∷ [])
+      → heard channel (onWire (afterEntries (opened conf now bytes lengths) es) (writeRecord channel buffer)) ≡ exitOf o.status ++ (Close ∷ [])
   -- and nothing behind it, whatever is called
   pub last : (es : List Entry) (e : Entry) (ds : List Entry) → isTerminal (answerEntry (afterEntries (opened conf now bytes lengths) es) e) ≡ true
       → wire onWire (nextEntry (afterEntries (opened conf now bytes lengths) es) e) ds ≡ []

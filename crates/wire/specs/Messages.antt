@@ -48,13 +48,13 @@ isEnd x Call.InputClosed = false
 isEnd x (Call.Terminal o) = false
 
 -- its End, or bytes of it
-abbrev pub is_of : Stream → Message → Bool
-is_of x (Call.Credit n) = false
-is_of x Call.Started = false
-is_of x (Call.Output y b) = sameStream y x
-is_of x (Call.End y) = sameStream y x
-is_of x Call.InputClosed = false
-is_of x (Call.Terminal o) = false
+abbrev pub isOf : Stream → Message → Bool
+isOf x (Call.Credit n) = false
+isOf x Call.Started = false
+isOf x (Call.Output y b) = sameStream y x
+isOf x (Call.End y) = sameStream y x
+isOf x Call.InputClosed = false
+isOf x (Call.Terminal o) = false
 
 -- one of them is so
 abbrev pub any : (Message → Bool) → List Message → Bool
@@ -79,7 +79,7 @@ noEnds = alike false
 pub record Ordered (conf : Conf) (now : ℕ) (bytes lengths : List ℕ) : Type 0 where
   -- once the End of a stream was told, no message is of it any more: no bytes, and no second End
   pub ended : (es ds : List Entry) (x : Stream) → any (isEnd x) (saidFrom (opened conf now bytes lengths) es) ≡ true
-      → any (is_of x) (saidFrom (afterEntries (opened conf now bytes lengths) es) ds) ≡ false
+      → any (isOf x) (saidFrom (afterEntries (opened conf now bytes lengths) es) ds) ≡ false
   -- and once Terminal was, there is none
   pub over : (es ds : List Entry) → any terminalMessage (saidFrom (opened conf now bytes lengths) es) ≡ true
       → saidFrom (afterEntries (opened conf now bytes lengths) es) ds ≡ []

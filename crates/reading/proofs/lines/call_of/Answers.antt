@@ -1,16 +1,16 @@
 -- The last field, or one that is cut off.
 use Rattle.std.proofs.Common.{refl, sym, ap, ◌∙◌}
-use Rattle.syntax.specs.Lines.{call_of}
+use Rattle.syntax.specs.Lines.{callOf}
 use Rattle.reading.specs.FieldLaws.{fields-last, fields_at}
-use Rattle.reading.proofs.lines.call_of.Goals as goal
+use Rattle.reading.proofs.lines.callOf.Goals as goal
 
 pub returns-then-at-n : goal.returns-then-at-n
-unfolding call_of
+unfolding callOf
 returns-then-at-n c =
     c.plain.ensures c.args.work.now
-    ∙ ap call_of (sym (fields-last c.args.line.now (sym c.comma-at.ensures.0 ∙ c.if-at-n.true)))
+    ∙ ap callOf (sym (fields-last c.args.line.now (sym c.comma-at.ensures.0 ∙ c.if-at-n.true)))
 
 pub returns : goal.returns
 returns c =
     c.after1.ensures
-    ∙ ap call_of (sym (fields_at c.args.line.now _ _ c.comma-at.ensures.0 c.comma-at.ensures.1 refl c.if-at-n.false))
+    ∙ ap callOf (sym (fields_at c.args.line.now _ _ c.comma-at.ensures.0 c.comma-at.ensures.1 refl c.if-at-n.false))
