@@ -2,7 +2,7 @@
 use Rattle.std.proofs.Common.{refl, sym, ap, ◌∙◌}
 use Rattle.syntax.specs.Lines.{callOf}
 use Rattle.reading.specs.FieldLaws.{fields-last, fields_at}
-use Rattle.reading.proofs.lines.callOf.Goals as goal
+use Rattle.reading.proofs.lines.call_of.Goals as goal
 
 pub returns-then-at-n : goal.returns-then-at-n
 unfolding callOf
