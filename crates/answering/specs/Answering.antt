@@ -4,11 +4,8 @@ use Rattle.calls.specs.Call as Call
 use Rattle.calls.specs.Call.{isRefused}
 use Rattle.account.specs.Step.{messageOf, requestOf}
 use Rattle.runner.specs.declared.answer.Message.{Message}
-use Rattle.runner.specs.declared.answer.Message.TheVariants as Message
 use Rattle.runner.specs.declared.answer.Request.{Request}
-use Rattle.runner.specs.declared.answer.Request.TheVariants as Request
 use Rattle.answering.specs.declared.Answer.{Answer}
-use Rattle.answering.specs.declared.Answer.TheVariants as Answer
 
 -- the bytes of a pending and of an Output are the first of `work`
 abbrev pub answerIs : Answer → (work : List ℕ) → Call.Answer

@@ -5,10 +5,9 @@ use mathlib.Core.List.{List, [], ◌∷◌}
 use mathlib.Core.Option.{Option, none, some}
 use lib.Dec.{eqb, leb}
 use lib.ListN.{length}
-use Prim.Native.Nat.{ℕ, ◌-◌}
+use Prim.Native.Nat.{ℕ}
 use Rattle.calls.specs.Call.{Call, timeOf}
 use Rattle.account.specs.Step.{State}
-use Rattle.standing.specs.declared.Answered.{Answered}
 use Rattle.syntax.specs.Lines.{lineCall}
 use Rattle.grammar.specs.Feed.{Session, isBack, later, answered, tooLong, answerOf, lineEnds, hold, eat, feeds}
 use Rattle.grammar.specs.Feed as Feed

@@ -94,7 +94,6 @@ fn put_head(buffer: &mut [u8], channel: u32, name: &[u8])
     octets::put_byte(buffer, 20, 0);
 }
 
-#[tactic(auto, unfolding(octets::specs::Text::bytes))]
 fn put_code(buffer: &mut [u8], channel: u32, code: u32)
     requires { 25 ≤ length buffer.old }
     ensures { buffer.new ≡ (head channel (bytes "exit-status") ++ be32 code) ++ drop 25 buffer.old }
@@ -104,7 +103,6 @@ fn put_code(buffer: &mut [u8], channel: u32, code: u32)
 }
 
 // The head, the length of the signal's name, and the name.
-#[tactic(auto, unfolding(octets::specs::Text::bytes))]
 fn put_name(buffer: &mut [u8], channel: u32, signal: Signal)
     requires { Fit signal × (29 ≤ length buffer.old) }
     ensures { buffer.new ≡ (head channel (bytes "exit-signal") ++ string (nameOf signal)) ++ drop (25 + signal.length) buffer.old }

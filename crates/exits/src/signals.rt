@@ -90,7 +90,6 @@ fn nobody() -> Signal
     }
 }
 
-#[tactic(auto, unfolding(octets::specs::Text::bytes))]
 fn signal_at(i: usize) -> Signal
     requires { i < 13 }
     ensures { (result ≡ get_or signals i nobody) × Fit result }

@@ -7,11 +7,8 @@ use Rattle.syntax.specs.Zeros.{zeros-length}
 use Rattle.exec.specs.declared.Stream.{Stream}
 use Rattle.runner.specs.declared.answer.Message.TheVariants as Message
 use Rattle.exec.specs.declared.Reply.{Reply}
-use Rattle.exec.specs.declared.Reply.TheVariants as Reply
 use Rattle.runner.specs.declared.answer.Said.{Said}
-use Rattle.runner.specs.declared.answer.Said.TheVariants as Said
 use Rattle.choice.specs.declared.Choice.{Choice}
-use Rattle.choice.specs.declared.Choice.TheVariants as Choice
 use Rattle.runner.specs.declared.runner.Runner.{Runner}
 use Rattle.runner.specs.Calls.{messageBy, nextMessage, pendingBy, pendingInput}
 use Rattle.runner.specs.Range.{bytesDo, stop}
@@ -32,12 +29,9 @@ use Rattle.ring.specs.Runs.{copied}
 use Rattle.ring.specs.Lent.{copied-back}
 use Rattle.making.specs.declared.Making.{Making}
 use Rattle.making.specs.declared.MaybeTime.{MaybeTime}
-use Rattle.making.specs.declared.MaybeTime.TheVariants as MaybeTime
 use Rattle.syntax.specs.declared.Call as Calls
 use Rattle.syntax.specs.declared.Question.{Question}
-use Rattle.syntax.specs.declared.Question.TheVariants as Question
 use Rattle.syntax.specs.declared.Timed.{Timed}
-use Rattle.syntax.specs.declared.Timed.TheVariants as Timed
 use Rattle.calls.specs.Call.{timeOf}
 use Rattle.syntax.specs.Meaning.{timedIs, questionIs, callIs}
 use Rattle.answering.specs.Answering.{answerIs, AnswerIs}

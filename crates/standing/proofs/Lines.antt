@@ -3,7 +3,7 @@ use mathlib.Core.Bool.{Bool}
 use mathlib.Core.Path.{◌≡◌, refl, ap, ◌∙◌}
 use mathlib.Core.List.{List}
 use lib.ListN.{length}
-use Prim.Native.Nat.{ℕ, ◌-◌}
+use Prim.Native.Nat.{ℕ}
 use Rattle.exec.specs.declared.Reply.{Reply}
 use Rattle.runner.specs.declared.answer.Noting.{Noting}
 use Rattle.runner.specs.declared.runner.Runner.{Runner}
@@ -19,7 +19,6 @@ use Rattle.grammar.specs.Feed.{remembered, openedBy, first}
 use Rattle.answering.specs.Answering.{answerIs}
 use Rattle.making.specs.Making.{timeIs, stateOf, Made}
 use Rattle.syntax.specs.Zeros.{zeros-length}
-use Rattle.exec.specs.declared.Reply.TheVariants as Reply
 use Rattle.runner.specs.Calls as Calls
 use Rattle.calls.specs.Call as Account
 use Rattle.standing.specs.declared.Stage as Stages

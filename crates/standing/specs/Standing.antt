@@ -1,5 +1,5 @@
 -- Where a session of the code stands, with the stores that are lent to it, and how a line is answered there.
-use Rattle.std.specs.Prelude.{◌≡◌, refl, List, ℕ, ◌-◌}
+use Rattle.std.specs.Prelude.{◌≡◌, refl, List, ℕ}
 use Rattle.std.proofs.Common.{ap, ◌∙◌}
 use Rattle.std.proofs.Math.Option.{Option}
 use Rattle.exec.specs.declared.Reply.{Reply}
@@ -13,7 +13,6 @@ use Rattle.opening.specs.Meaning.{openingIs}
 use Rattle.answering.specs.Answering.{answerIs}
 use Rattle.making.specs.Making.{stateOf}
 use Rattle.standing.specs.declared.Answered.{Answered}
-use Rattle.exec.specs.declared.Reply.TheVariants as Reply
 use Rattle.calls.specs.Call as Account
 use Rattle.standing.specs.declared.Answered as Code
 use Rattle.standing.specs.declared.Stage as Stages

@@ -156,7 +156,6 @@ impl Standing {
         self.opened_by(runner, reply, opening.now, store, lengths)
     }
 
-    #[tactic(auto, unfolding(grammar::specs::Feed::first))]
     fn first(self, line: &[u8], store: &mut [u8], lengths: &mut [u32]) -> Answered
         requires { (length line.now ≤ 65535) × (length store.old ≡ 65536) × (length lengths.old ≡ 1024) }
         ensures { AnswersFirst (first (lineOpen line.now)) self (stores store.old lengths.old)
@@ -217,7 +216,6 @@ impl Standing {
         self.make(call, time, store, lengths, work)
     }
 
-    #[tactic(auto, unfolding(grammar::specs::Feed::later))]
     fn later(self, line: &[u8], store: &mut [u8], lengths: &mut [u32], work: &mut [u8]) -> Answered
         requires { (length line.now ≤ 65535) × (length store.old ≡ 65536) × (length work.old ≡ 65536) }
         ensures { Answers (laterAt (lineCall line.now)) self (stores store.old lengths.old)
@@ -252,7 +250,6 @@ impl Standing {
     }
 
     // A line of more than 65,535 bytes is refused whole; it is the first line where it stands first.
-    #[tactic(auto, unfolding(grammar::specs::Feed::tooLong))]
     fn too_long(self) -> Answered
         ensures { AnswersAny tooLongAt self result }
     {

@@ -1,5 +1,5 @@
 -- The bytes that are handed on are the first n of `work`.
-use Rattle.std.proofs.Common.{◌≤◌, ◌-◌, ◌∙◌, List, ℕ, arith, ap}
+use Rattle.std.proofs.Common.{◌-◌, ◌∙◌, List, ℕ, arith, ap}
 use Rattle.account.specs.Step.{receivedAs}
 use Rattle.runner.specs.Calls as Runs
 use Rattle.runner.specs.Streams.{InputAfter}
