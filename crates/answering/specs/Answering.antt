@@ -1,10 +1,8 @@
 -- What an answer of the code stands for.
-use Rattle.std.specs.Prelude.{Bool, false, List, ◌≡◌, refl, ℕ, take}
+use Rattle.std.specs.Prelude.{Bool, List, ◌≡◌, ℕ, take}
 use Rattle.calls.specs.Call as Call
 use Rattle.calls.specs.Call.{isRefused}
 use Rattle.account.specs.Step.{messageOf, requestOf}
-use Rattle.runner.specs.declared.answer.Message.{Message}
-use Rattle.runner.specs.declared.answer.Request.{Request}
 use Rattle.answering.specs.declared.Answer.{Answer}
 
 -- the bytes of a pending and of an Output are the first of `work`
@@ -29,18 +27,3 @@ AnswerIs a f = (work : List ℕ) → answerIs a work ≡ f work
 
 abbrev pub RefusedIs : Bool → Answer → Type 0
 RefusedIs b a = (work : List ℕ) → b ≡ isRefused (answerIs a work)
-
--- neither a request nor a message is a refusal
-pub request-stands : (q : Request) → false ≡ isRefused (requestOf q)
-request-stands (Request.Terminate c) = refl
-request-stands (Request.Discard x) = refl
-request-stands Request.CloseInput = refl
-request-stands Request.Settle = refl
-
-pub message-stands : (m : Message) (work : List ℕ) → false ≡ isRefused (messageOf m work)
-message-stands (Message.Credit n) work = refl
-message-stands Message.Started work = refl
-message-stands (Message.Output x n) work = refl
-message-stands (Message.End x) work = refl
-message-stands Message.InputClosed work = refl
-message-stands (Message.Terminal o) work = refl

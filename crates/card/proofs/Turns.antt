@@ -203,10 +203,6 @@ so-next piece c before t r x y h m g =
       eats = first ∙ ap (λ (n : ℕ). t.used + n) g.eats ∙ (let u = g.used in omega arith);
     }
 
-pub so-last : (piece : List ℕ) (c : Card) (before : Lent) (t : Turn) (x : Lent) → So piece c before t x → t.more ≡ false
-    → Fed piece c before (record { card = t.card; used = t.used; printed = t.at }) x
-so-last piece c before t x h m = let e = rw m at h.eats in record { used = omega (arith, e); fed = h.fed }
-
 -- the turns come to an end
 pub fewer : (b : Bool) (used used' n k : ℕ) → used' ≡ used + k → used' ≤ n → (b ≡ true → 0 < k) → used ≤ n → cond b (n + 1 - used') 0 < n + 1 - used
 fewer true used used' n k e l f m = let p = f refl in omega arith

@@ -1,7 +1,6 @@
 -- Laws of numbers with a minus or none: each way of reading and of writing one.
-use Rattle.std.specs.Prelude.{◌≡◌, refl, Bool, true, false, cond, ◌&&◌, List, [], ◌∷◌, ℕ, suc, ◌+◌, ◌-◌, ◌≤◌, ◌<◌, eqb, leb, ℤ, pos, negsuc, neg_ℤ, nat_abs, length, take, drop, get_or}
+use Rattle.std.specs.Prelude.{◌≡◌, refl, Bool, true, false, cond, ◌&&◌, List, [], ◌∷◌, ℕ, suc, ◌+◌, ◌-◌, ◌≤◌, ◌<◌, leb, ℤ, pos, negsuc, neg_ℤ, nat_abs, length, take, drop}
 use Rattle.std.proofs.Common.{sym, ap, ◌∙◌, arith, leb-true, length-drop, take_all}
-use Rattle.std.proofs.lemmas.Bool.{false≢true}
 use Rattle.std.proofs.Math.Option.{Option, none, some, map}
 use Rattle.ring.specs.Runs.{copied}
 use Rattle.ring.specs.Lent.{copied-join}
@@ -11,18 +10,6 @@ use Rattle.decimal.specs.DecimalLaws.{count_most}
 use Rattle.decimal.specs.Answers.{maybeNumber, maybeSigned, AtMost, positive, negative}
 
 -- ---- read
-
-pub starts-empty : (s : List ℕ) → length s ≡ 0 → startsMinus s ≡ false
-starts-empty [] h = refl
-starts-empty (b ∷ s) h = absurd (omega arith)
-
-pub starts_first : (s : List ℕ) → 0 < length s → startsMinus s ≡ eqb (get_or s 0 0) 45
-starts_first [] h = absurd (omega arith)
-starts_first (b ∷ s) h = refl
-
-pub starts-some : (s : List ℕ) → startsMinus s ≡ true → 1 ≤ length s
-starts-some [] h = absurd (false≢true h)
-starts-some (b ∷ s) h = omega arith
 
 if-most : (t : Bool) (v most : ℕ) → (t ≡ true → v ≤ most) → AtMost most (maybeNumber (cond t (some v) none))
 if-most true v most h = h refl

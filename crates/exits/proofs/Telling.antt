@@ -1,13 +1,13 @@
 -- What is told of a status, over plain variables.
-use mathlib.Core.Bool.{Bool, true, false, false≢true}
+use mathlib.Core.Bool.{true, false, false≢true}
 use mathlib.Core.List.{List, [], ◌++◌}
 use mathlib.Core.Path.{◌≡◌, refl, sym, ap, subst⁻¹, ◌∙◌}
 use Prim.Native.Nat.{ℕ, ◌+◌, ◌-◌, ◌^◌, ◌≤◌, ◌<◌}
 use native.Mathlib.Omega.{arith}
 use lib.Dec.{ltb}
 use lib.IntN.{ℤ, pos, negsuc}
-use lib.ListN.{length, take, drop, length-append}
-use lib.Seq.{take_at, length-take-le}
+use lib.ListN.{length, drop, length-append}
+use lib.Seq.{length-take-le}
 use borrow.Author.Tests.{ltb-true, lt-ltb, le-ltb, not-false}
 use mir.Syntax.{w32}
 use mir.Val.{to_z}
@@ -61,11 +61,6 @@ signal-put channel status z x d b e f fit h =
 pub told-some : (m : MaybeStatus) (status : Status) → m ≡ MaybeStatus.Some status → isUntold m ≡ false → isTold status ≡ true
 unfolding isUntold
 told-some m status e h = not-false (isTold status) (sym (ap isUntold e) ∙ h)
-
--- what was put at the front of a buffer, compared
-pub put_same : (request own rest s : List ℕ) (n : ℕ) (b : Bool) → own ≡ request ++ rest → n ≡ length request → b ≡ same (take n own) s
-    → b ≡ same request s
-put_same request own rest s n b e l h = h ∙ ap (λ (x : List ℕ). same x s) (ap (take n) e ∙ take_at request rest n (sym l))
 
 -- ---- what bytes tell at most
 

@@ -1,6 +1,6 @@
 -- Laws of the requests for those who write them: where an ending is written, and how long it is.
-use Rattle.std.specs.Prelude.{false, List, [], ◌≡◌, ℕ, ◌+◌, ◌≤◌, pos, negsuc, length}
-use Rattle.std.proofs.Common.{sym, arith, length-append, length-take-le, le-leb}
+use Rattle.std.specs.Prelude.{[], ◌≡◌, ℕ, ◌+◌, ◌≤◌, pos, negsuc, length}
+use Rattle.std.proofs.Common.{sym, arith, length-append, length-take-le}
 use Rattle.exec.specs.declared.MaybeStatus.{MaybeStatus}
 use Rattle.exec.specs.declared.Status.{Status}
 use Rattle.exec.specs.declared.Status.TheVariants.{Exited, Signaled}
@@ -9,7 +9,7 @@ use Rattle.codec.specs.declared.Record.TheVariants.{Close}
 use Rattle.codec.specs.Codec.{bytesOf, header}
 use Rattle.exits.specs.Signals.{signalFor}
 use Rattle.exits.specs.SignalLaws.{signal-fit}
-use Rattle.exits.specs.Exit.{request, isUntold, requestOf, ending, closed, close}
+use Rattle.exits.specs.Exit.{request, requestOf, ending}
 
 -- an ending has 5 bytes more than its request
 pub ending-length : (channel : ℕ) (status : MaybeStatus) → length (requestOf channel status) + 5 ≡ length (ending channel status)
@@ -28,9 +28,3 @@ request-bound channel (Signaled n) =
 pub ending-bound : (channel : ℕ) (status : MaybeStatus) → length (ending channel status) ≤ 43
 ending-bound channel MaybeStatus.None = omega (arith, ending-length channel MaybeStatus.None)
 ending-bound channel (MaybeStatus.Some status) = omega (arith, ending-length channel (MaybeStatus.Some status), request-bound channel status)
-
--- a status that is told is written where there is room
-pub close-roomy : (channel : ℕ) (status : MaybeStatus) (b : List ℕ) → 43 ≤ length b → isUntold status ≡ false
-    → close channel status b ≡ closed channel status b
-unfolding close
-close-roomy channel status b room told = simp (le-leb 43 (length b) room, told)

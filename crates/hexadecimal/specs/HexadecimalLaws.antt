@@ -40,15 +40,6 @@ way c =
           ]
     ]
 
--- what the code computes with
-pub hex-low : (c : ℕ) → isHex c ≡ true → 48 ≤ c
-hex-low c h =
-    elim (way c) [
-      | decimal l m t e ↦ l
-      | letter l m t e ↦ omega arith
-      | other e ↦ absurd (true≢false cc)
-    ]
-
 pub hex-letter : (c : ℕ) → isHex c ≡ true → 58 ≤ c → (97 ≤ c) × (c < 103)
 hex-letter c h past =
     elim (way c) [

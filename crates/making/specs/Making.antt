@@ -24,16 +24,14 @@ use Rattle.runner.specs.State.{outOf, creditAt}
 use Rattle.runner.specs.MessageLaws.{chosen, least}
 use Rattle.calls.specs.Call as Account
 use Rattle.calls.specs.Call.{Call}
-use Rattle.account.specs.Step.{State, next, answer, says, took, receivedAs, waits}
+use Rattle.account.specs.Step.{State, next, answer, says, took, receivedAs}
 use Rattle.ring.specs.Runs.{copied}
 use Rattle.ring.specs.Lent.{copied-back}
 use Rattle.making.specs.declared.Making.{Making}
 use Rattle.making.specs.declared.MaybeTime.{MaybeTime}
 use Rattle.syntax.specs.declared.Call as Calls
-use Rattle.syntax.specs.declared.Question.{Question}
-use Rattle.syntax.specs.declared.Timed.{Timed}
 use Rattle.calls.specs.Call.{timeOf}
-use Rattle.syntax.specs.Meaning.{timedIs, questionIs, callIs}
+use Rattle.syntax.specs.Meaning.{callIs}
 use Rattle.answering.specs.Answering.{answerIs, AnswerIs}
 use Rattle.answering.specs.declared.Answer.{Answer}
 
@@ -69,39 +67,6 @@ InputMade r a bytes lengths x = (r ≡ x.hearing.runner) × (bytes ≡ x.bytes) 
 
 abbrev pub MessageMade : Runner → Answer → (work : List ℕ) → MessageAfter → Type 0
 MessageMade r a work x = (r ≡ x.saying.runner) × (answerIs a work ≡ says x.saying.said x.buffer)
-
--- each of the timed calls has its time, and no question has one
-pub timed-time : (now : ℕ) (t : Timed) → timeOf (timedIs now t) ≡ some now
-timed-time now (Timed.Cancel k x) = refl
-timed-time now (Timed.Exited x) = refl
-timed-time now Timed.Dropped = refl
-timed-time now Timed.Reset = refl
-timed-time now Timed.Disconnect = refl
-timed-time now Timed.Tick = refl
-
-pub question-time : (q : Question) → timeOf (questionIs q) ≡ none
-question-time (Question.ReadAllowance x) = refl
-question-time Question.PendingInput = refl
-question-time Question.Deadline = refl
-question-time Question.IsFinished = refl
-question-time Question.IsDetached = refl
-question-time Question.AwaitsSettlement = refl
-question-time Question.MemoryBound = refl
-question-time Question.Buffered = refl
-question-time Question.HighWater = refl
-
--- a question leaves all as it is
-pub question-leaves : (q : Question) (s : State) → next s (questionIs q) ≡ s
-unfolding next
-question-leaves (Question.ReadAllowance x) s = refl
-question-leaves Question.PendingInput s = refl
-question-leaves Question.Deadline s = refl
-question-leaves Question.IsFinished s = refl
-question-leaves Question.IsDetached s = refl
-question-leaves Question.AwaitsSettlement s = refl
-question-leaves Question.MemoryBound s = refl
-question-leaves Question.Buffered s = refl
-question-leaves Question.HighWater s = refl
 
 -- ---- a message stands at the start of its buffer
 
@@ -174,10 +139,6 @@ said-made r store n x buffer rest a e size h =
 
 pub copied-first : (w p : List ℕ) (n : ℕ) → n ≡ length p → n ≤ length w → take n (copied w 0 p 0 n) ≡ p
 copied-first w p n e h = copied-back w 0 p n (sym e) (omega arith)
-
-pub waits-some : (n : ℕ) (b : List ℕ) → (n ≡ 0 → ⊥) → Account.Refused n ≡ waits n b
-waits-some zero b h = absurd (h refl)
-waits-some (suc n) b h = refl
 
 part-most : (n i : ℕ) (s : List ℕ) → length (take n (drop i s)) ≤ length s
 part-most n i s = omega (arith, length-take n (drop i s), length-drop i s)

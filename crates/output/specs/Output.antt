@@ -95,17 +95,6 @@ keeps true d room n = 0
 keeps false true room n = 0
 keeps false false room n = min n room
 
--- as many are kept as the allowance lets in, and all are taken where they are dropped
-pub keeps-allowed : (shut d : Bool) (room n : ℕ) → min n (cond (shut || d) 0 room) ≡ keeps shut d room n
-keeps-allowed true d room n = omega arith
-keeps-allowed false true room n = omega arith
-keeps-allowed false false room n = refl
-
-pub takes-dropped : (shut d : Bool) (room n : ℕ) → cond (not shut && d) n (keeps shut d room n) ≡ takes shut d room n
-takes-dropped true d room n = refl
-takes-dropped false true room n = refl
-takes-dropped false false room n = refl
-
 -- none are kept for which there is no room
 pub keeps-fit : (shut d : Bool) (room n : ℕ) → keeps shut d room n ≤ room
 keeps-fit true d room n = omega arith

@@ -10,7 +10,7 @@ use Rattle.exec.specs.declared.Stream.TheVariants.{Stdout, Stderr}
 use Rattle.exec.specs.declared.Unit as Units
 use Rattle.exec.specs.declared.Unit.TheVariants.{Bytes, Frames}
 use Rattle.exec.specs.Limits.{cost, poolOf}
-use Rattle.exec.specs.Stream.{streamAt, pick, picked, following}
+use Rattle.exec.specs.Stream.{streamAt, following}
 use Rattle.ring.specs.RingLaws.{read_length}
 use Rattle.inbox.specs.Need.{byteNeed}
 use Rattle.inbox.specs.RangeLaws.{both}
@@ -102,11 +102,6 @@ chosen r buffer x n e =
     rw (← e) at all
 
 -- ---- what a stream can send
-
--- picked from what each can send
-pub picked-by : (r : Runner) (buffer : ℕ) (x : Stream) (stdout stderr n : ℕ) → stdout ≡ sendableOf r buffer Stdout → stderr ≡ sendableOf r buffer Stderr
-    → n ≡ pick x stdout stderr → n ≡ sendableOf r buffer x
-picked-by r buffer x stdout stderr n h0 h1 hn = rw (hn, h0, h1) (picked (sendableOf r buffer) x)
 
 -- no more than is asked of it
 pub least : (u : Units.Unit) (available m : ℕ) → sendable u available m ≤ m

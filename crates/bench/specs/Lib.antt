@@ -1,2 +1,0 @@
--- What the loops' proofs share; nothing here is cited by a contract.
-pub mod Turns
