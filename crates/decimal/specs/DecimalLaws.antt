@@ -11,8 +11,6 @@ use Rattle.ring.specs.Runs.{copied}
 use Rattle.ring.specs.Lent.{copied_all}
 use Rattle.decimal.specs.Decimal.{isDigit, areDigits, valueFrom, numberFrom, number, takes, digitsBefore, digitsOf}
 
--- ---- tests
-
 -- ---- read
 
 -- the ways of a byte b behind a number v

@@ -88,5 +88,3 @@ pub status-none : (s : List ℕ) → length s ≡ 0 → status s ≡ none
 unfolding status
 status-none [] e = refl
 status-none (b ∷ s) e = absurd (omega arith)
-
--- ---- fields by their places

@@ -210,5 +210,3 @@ callOf (name ∷ a ∷ b ∷ c ∷ d ∷ e ∷ rest) = none
 -- the call of a line
 abbrev pub lineCall : (line : List ℕ) → Option Call
 lineCall line = callOf (fields line)
-
--- ---- open
