@@ -163,7 +163,7 @@ impl Input {
         bytes: &[u8],
     ) -> Receiving
         requires lent { Lent limits self store.old lengths.old }
-        requires peer_ended_value { (self.peer_ended ≡ false) × (checked ≡ checkChunk limits (length bytes.now)) }
+        requires checked_length { (self.peer_ended ≡ false) × (checked ≡ checkChunk limits (length bytes.now)) }
         ensures { receiveAfter result store.new lengths.new ≡ receive limits self bytes.now store.old lengths.old }
     {
         match checked {
@@ -190,7 +190,7 @@ impl Input {
         bytes: &[u8],
     ) -> Receiving
         requires lent { Lent limits self store.old lengths.old }
-        requires peer_ended_value { (self.peer_ended ≡ false) × (offChunk limits (length bytes.now) ≡ false) × (charging ≡ charge self.window (cost limits.input.unit (length bytes.now))) }
+        requires charged { (self.peer_ended ≡ false) × (offChunk limits (length bytes.now) ≡ false) × (charging ≡ charge self.window (cost limits.input.unit (length bytes.now))) }
         ensures { receiveAfter result store.new lengths.new ≡ receive limits self bytes.now store.old lengths.old }
     {
         let reply = charging.reply;

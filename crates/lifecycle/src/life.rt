@@ -38,10 +38,10 @@ pub enum Launch {
 }
 
 impl Launch {
-    pub fn of(res: LaunchResult) -> Launch
-        ensures { result ≡ launchOf res }
+    pub fn of(report: LaunchResult) -> Launch
+        ensures { result ≡ launchOf report }
     {
-        match res {
+        match report {
             LaunchResult::Started => Launch::Started,
             LaunchResult::Failed(failure) => Launch::Failed(failure),
         }
@@ -191,12 +191,12 @@ impl Settling {
     }
 
     // The settlement's result, which changes nothing unless it is awaited.
-    pub fn settle(self, res: Settlement) -> Settling
-        ensures { result ≡ settleWith self res }
+    pub fn settle(self, report: Settlement) -> Settling
+        ensures { result ≡ settleWith self report }
     {
         match self {
             Settling::Idle => Settling::Idle,
-            Settling::Requested(_) => match res {
+            Settling::Requested(_) => match report {
                 Settlement::Settled => Settling::Settled,
                 Settlement::Failed => Settling::Fenced,
             },
@@ -360,11 +360,11 @@ impl Life {
         self.set_settling(settling.expire(now))
     }
 
-    pub fn settle(self, res: Settlement) -> Life
-        ensures { result ≡ lifeSettled self res }
+    pub fn settle(self, report: Settlement) -> Life
+        ensures { result ≡ lifeSettled self report }
     {
         let settling = self.settling;
-        self.set_settling(settling.settle(res))
+        self.set_settling(settling.settle(report))
     }
 
     // The outcome, given which streams lost bytes.

@@ -42,7 +42,7 @@ pub fn narrow(field: &[u8]) -> MaybeU32
 }
 
 pub(crate) fn message_length(field: &[u8]) -> MaybeNumber
-    ensures result_value { numberIs result ≡ messageLength field.now }
+    ensures value { numberIs result ≡ messageLength field.now }
     ensures at_most { AtMost 16384 result }
 {
     decimal::read(field, 16384)

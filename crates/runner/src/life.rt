@@ -338,20 +338,20 @@ impl Runner {
 
     // The launch result.
     #[tactic(auto, unfolding(crate::specs::Life::launchedNext))]
-    pub(crate) fn launch(self, res: LaunchResult) -> Runner
-        ensures { result ≡ launchedNext self res }
+    pub(crate) fn launch(self, report: LaunchResult) -> Runner
+        ensures { result ≡ launchedNext self report }
     {
         if self.awaits_launch() {
-            return self.note_launch(res);
+            return self.note_launch(report);
         }
         self
     }
 
     #[tactic(auto, unfolding(crate::specs::Life::noteLaunch))]
-    fn note_launch(mut self, res: LaunchResult) -> Runner
-        ensures { result ≡ noteLaunch self res }
+    fn note_launch(mut self, report: LaunchResult) -> Runner
+        ensures { result ≡ noteLaunch self report }
     {
-        match res {
+        match report {
             LaunchResult::Started => self.note_started(),
             LaunchResult::Failed(failure) => {
                 let lived = self.life;
@@ -430,11 +430,11 @@ impl Runner {
 
     // The result of the settlement, if one is awaited.
     #[tactic(auto, unfolding(crate::specs::Life::settledNext))]
-    pub(crate) fn settle(mut self, res: Settlement) -> Runner
-        ensures { result ≡ settledNext self res }
+    pub(crate) fn settle(mut self, report: Settlement) -> Runner
+        ensures { result ≡ settledNext self report }
     {
         let lived = self.life;
-        let life = lived.settle(res);
+        let life = lived.settle(report);
         self.life = life;
         self
     }

@@ -283,11 +283,11 @@ impl Runner {
 
     // The workload's launch result. Only the first counts, and none once the runner gave up on it.
     #[tactic(auto, unfolding(crate::specs::Calls::launched), using(crate::proofs::Guards::tested_stop))]
-    pub fn launched(self, res: LaunchResult) -> Noting
-        ensures { result ≡ launched self res }
+    pub fn launched(self, report: LaunchResult) -> Noting
+        ensures { result ≡ launched self report }
     {
         if self.agrees(true) & self.stands() {
-            let runner = self.launch(res);
+            let runner = self.launch(report);
             return Noting {
                 runner,
                 reply: Reply::Ok,
@@ -465,11 +465,11 @@ impl Runner {
 
     // The result of the settlement that was requested.
     #[tactic(auto, unfolding(crate::specs::Calls::settled), using(crate::proofs::Guards::tested_stop))]
-    pub fn settled(self, res: Settlement) -> Noting
-        ensures { result ≡ settled self res }
+    pub fn settled(self, report: Settlement) -> Noting
+        ensures { result ≡ settled self report }
     {
         if self.agrees(true) & self.stands() {
-            let runner = self.settle(res);
+            let runner = self.settle(report);
             return Noting {
                 runner,
                 reply: Reply::Ok,
