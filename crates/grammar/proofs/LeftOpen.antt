@@ -6,7 +6,7 @@ use mathlib.Core.Option.{Option, none, some, map, some-injective}
 use Prim.Native.Nat.{ℕ, ◌≤◌}
 use native.Mathlib.Omega.{arith}
 use borrow.Author.Tests.{le-leb}
-use lib.ListN.{length}
+use lib.ListN.{length, get_or}
 use Rattle.exec.specs.declared.Cause.TheVariants as Cause
 use Rattle.exec.specs.declared.Deadline.{Deadline}
 use Rattle.exec.specs.declared.Deadline.TheVariants.{At, Never}
@@ -14,7 +14,7 @@ use Rattle.exec.specs.declared.MaybeDuration.{MaybeDuration}
 use Rattle.exec.specs.declared.Reply.{Reply}
 use Rattle.exec.specs.Key.{newKey}
 use Rattle.exec.specs.Refusal.{number}
-use Rattle.exec.specs.Time.{earliest, timeoutAt}
+use Rattle.exec.specs.Time.{after, earliest, timeoutAt}
 use Rattle.exec.specs.Limits.{bytesWith, bytesWindow, limitsFor}
 use Rattle.output.specs.Output.{outputFits}
 use Rattle.runner.specs.Calls as Calls
@@ -31,10 +31,11 @@ use Rattle.account.proofs.Plain.{begun}
 use Rattle.account.proofs.Demand.{open-same, same_answer}
 use Rattle.syntax.specs.Table.{calls}
 use Rattle.syntax.specs.Words.{bytes}
-use Rattle.syntax.specs.Lines.{fields, zeros}
+use Rattle.syntax.specs.Lines.{fields, u64, zeros}
 use Rattle.syntax.specs.Zeros.{zeros-length}
-use Rattle.opening.specs.Open.{Opening, at, lineOpen, timeout, openOf, isOpen, openingOf, limitsOf, timersOf}
-use Rattle.opening.specs.Timeout.{number-else, number-itself, line-now, line-timeout, line-bad}
+use Rattle.opening.specs.Open.{Opening, lineOpen, timeout, openOf, isOpen, openingOf, limitsOf, timersOf}
+use Rattle.opening.specs.Timeout.{number-else, number-itself, line-bad, line-opens}
+use Rattle.opening.specs.Only.{line-says}
 use Rattle.grammar.specs.Feed.{First, Running, Over, Answered, bad, prints, isShort, answerOf, answered, openedBy, first, later, tooLong}
 use Rattle.grammar.specs.LeftOpen.{asked, Starts, EveryCard}
 use Rattle.grammar.specs.ByLine.{cardOf, isLine, areLines, answersFrom, textFrom}
@@ -95,11 +96,11 @@ asked_is line x =
     ∙ fresh-deadline conf now (zeros 65536) (zeros 1024))
 
 -- by what its TIMEOUT says, and its NOW
-asked_by : (line : List ℕ) (now : ℕ) (t : MaybeDuration) → Starts line now → timeout (at (fields line) 10) ≡ some t → asked line ≡ Call.Ok ∷ Call.Time (timeoutAt t now) ∷ []
+asked_by : (line : List ℕ) (now : ℕ) (t : MaybeDuration) → Starts line now → timeout (get_or (fields line) 10 []) ≡ some t → asked line ≡ Call.Ok ∷ Call.Time (timeoutAt t now) ∷ []
 asked_by line now t h e =
     let x : Opened line = opened-so line h.0 in
-    let m : x.given.now ≡ now = some-injective _ _ (sym (line-now line x.given x.reads) ∙ h.1) in
-    let u : x.given.conf.timers.timeout ≡ t = some-injective _ _ (sym (line-timeout line x.given x.reads) ∙ e) in
+    let m : x.given.now ≡ now = some-injective _ _ (sym (line-says line x.given x.reads).now ∙ h.1) in
+    let u : x.given.conf.timers.timeout ≡ t = some-injective _ _ (sym (line-says line x.given x.reads).limit ∙ e) in
     asked_is line x ∙ rw (m, u) refl
 
 texts : (timeout (bytes "-") ≡ some (MaybeDuration.Some 3600000000000)) × (timeout (bytes "never") ≡ some MaybeDuration.None)
@@ -118,11 +119,12 @@ unopened line e = rw e (by (isShort line))
 -- EVERY CARD
 pub everyCard : EveryCard
 everyCard = record {
-  opens = λ line o h e x. first-line line (record { given = o; short = h; reads = e; opens = x });
+  opens = λ line o h e x. first-line line (record { given = o; short = h; reads = line-opens line o e; opens = x });
+  only = λ line h. let x = opened-so line h in (x.given, line-says line x.given x.reads);
   missing = λ line now h e. asked_by line now (MaybeDuration.Some 3600000000000) h (ap timeout e ∙ texts.0);
   never = λ line now h e. asked_by line now MaybeDuration.None h (ap timeout e ∙ texts.1);
-  number = λ line now n h e. asked_by line now (MaybeDuration.Some n) h (number-itself (at (fields line) 10) n e);
-  other = λ line m n e. unopened line (line-bad line (number-else (at (fields line) 10) m n ∙ ap (map MaybeDuration.Some) e));
+  number = λ line now n h e. asked_by line now (MaybeDuration.Some n) h (number-itself (get_or (fields line) 10 []) n e);
+  other = λ line m n e. unopened line (line-bad line (number-else (get_or (fields line) 10 []) m n ∙ ap (map MaybeDuration.Some) e));
 }
 
 -- ---- cards
@@ -150,6 +152,37 @@ opens x now =
     let b : 16 ≤ length (zeros 65536) = rw (zeros-length 65536) (omega arith) in
     let l : 0 ≤ length (zeros 1024) = omega arith in
     rw (le-leb 16 (length (zeros 65536)) b, le-leb 0 (length (zeros 1024)) l) refl
+
+-- ---- each of the claims of every card is met, on both sides of every number
+
+met : (line : List ℕ) (x : MaybeDuration) (now : ℕ) → isShort line ≡ true → lineOpen line ≡ some (record { conf = timed x; now = now }) → (answerOf First line).answer ≡ Call.Ok
+met line x now h e =
+    let o : Opening = record { conf = timed x; now = now } in
+    ap (λ (a : Answered). a.answer) (everyCard.opens line o h (line-says line o e) (opens x now))
+
+numbered : (line : List ℕ) (now n : ℕ) → isShort line ≡ true → lineOpen line ≡ some (record { conf = timed (MaybeDuration.Some n); now = now })
+    → u64 (get_or (fields line) 1 []) ≡ some now → u64 (get_or (fields line) 10 []) ≡ some n → asked line ≡ Call.Ok ∷ Call.Time (after now n) ∷ []
+numbered line now n h e i k = everyCard.number line now n (met line (MaybeDuration.Some n) now h e, i) k
+
+cards-met : (asked (bytes "open,5,7,2,4,B,8,B,8,0,-,10,5") ≡ Call.Ok ∷ Call.Time (At 3600000000005) ∷ [])
+    × (asked (bytes "open,5,7,2,4,B,8,B,8,0,never,10,5") ≡ Call.Ok ∷ Call.Time Never ∷ [])
+    × (asked (bytes "open,5,7,2,4,B,8,B,8,0,0,10,5") ≡ Call.Ok ∷ Call.Time (At 5) ∷ [])
+    × (asked (bytes "open,5,7,2,4,B,8,B,8,0,3600000000000,10,5") ≡ Call.Ok ∷ Call.Time (At 3600000000005) ∷ [])
+    × (asked (bytes "open,5,7,2,4,B,8,B,8,0,3600000000001,10,5") ≡ Call.Ok ∷ Call.Time (At 3600000000006) ∷ [])
+    × (asked (bytes "open,0,7,2,4,B,8,B,8,0,18446744073709551615,10,5") ≡ Call.Ok ∷ Call.Time (At 18446744073709551615) ∷ [])
+    × (asked (bytes "open,1,7,2,4,B,8,B,8,0,18446744073709551615,10,5") ≡ Call.Ok ∷ Call.Time Never ∷ [])
+    × (answerOf First (bytes "open,5,7,2,4,B,8,B,8,0,18446744073709551616,10,5") ≡ bad Over)
+unfolding calls timeout openOf isOpen openingOf limitsOf timersOf answerOf answered first
+cards-met = (
+  everyCard.missing (bytes "open,5,7,2,4,B,8,B,8,0,-,10,5") 5 (met (bytes "open,5,7,2,4,B,8,B,8,0,-,10,5") hour 5 refl refl, refl) refl,
+  everyCard.never (bytes "open,5,7,2,4,B,8,B,8,0,never,10,5") 5 (met (bytes "open,5,7,2,4,B,8,B,8,0,never,10,5") MaybeDuration.None 5 refl refl, refl) refl,
+  numbered (bytes "open,5,7,2,4,B,8,B,8,0,0,10,5") 5 0 refl refl refl refl,
+  numbered (bytes "open,5,7,2,4,B,8,B,8,0,3600000000000,10,5") 5 3600000000000 refl refl refl refl,
+  numbered (bytes "open,5,7,2,4,B,8,B,8,0,3600000000001,10,5") 5 3600000000001 refl refl refl refl,
+  numbered (bytes "open,0,7,2,4,B,8,B,8,0,18446744073709551615,10,5") 0 18446744073709551615 refl refl refl refl,
+  numbered (bytes "open,1,7,2,4,B,8,B,8,0,18446744073709551615,10,5") 1 18446744073709551615 refl refl refl refl,
+  refl,
+)
 
 -- ---- missing: an hour from open, and then the termination
 

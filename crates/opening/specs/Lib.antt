@@ -2,5 +2,7 @@
 pub mod Open
 pub mod Meaning
 pub mod PlaceLaws
+pub mod Says
 pub mod Timeout
+pub mod Only
 pub mod Table

@@ -34,10 +34,48 @@ timeouts : (timeout (bytes "-") ≡ some (MaybeDuration.Some 3600000000000))
     × (timeout (bytes "never") ≡ some MaybeDuration.None)
     × (timeout (bytes "0") ≡ some (MaybeDuration.Some 0))
     × (timeout (bytes "3599999999999") ≡ some (MaybeDuration.Some 3599999999999))
+    × (timeout (bytes "3600000000000") ≡ some (MaybeDuration.Some 3600000000000))
+    × (timeout (bytes "3600000000001") ≡ some (MaybeDuration.Some 3600000000001))
     × (timeout (bytes "18446744073709551615") ≡ some (MaybeDuration.Some 18446744073709551615))
     × (timeout (bytes "18446744073709551616") ≡ none)
     × (timeout (bytes "Never") ≡ none) × (timeout (bytes "NEVER") ≡ none) × (timeout (bytes "never ") ≡ none)
     × (timeout (bytes " never") ≡ none) × (timeout (bytes "neve") ≡ none) × (timeout (bytes "nevers") ≡ none)
     × (timeout (bytes "--") ≡ none) × (timeout (bytes "-0") ≡ none) × (timeout (bytes "- ") ≡ none) × (timeout (bytes "") ≡ none)
 unfolding calls timeout
-timeouts = (refl, refl, refl, refl, refl, refl, refl, refl, refl, refl, refl, refl, refl, refl, refl, refl)
+timeouts = (refl, refl, refl, refl, refl, refl, refl, refl, refl, refl, refl, refl, refl, refl, refl, refl, refl, refl)
+
+-- only TIMEOUT may be missing: `-` in any other field opens nothing
+only-timeout : (lineOpen (bytes "open,-,2,3,4,F,5,B,6,1,7,8,9") ≡ none)
+    × (lineOpen (bytes "open,1,-,3,4,F,5,B,6,1,7,8,9") ≡ none)
+    × (lineOpen (bytes "open,1,2,-,4,F,5,B,6,1,7,8,9") ≡ none)
+    × (lineOpen (bytes "open,1,2,3,-,F,5,B,6,1,7,8,9") ≡ none)
+    × (lineOpen (bytes "open,1,2,3,4,-,5,B,6,1,7,8,9") ≡ none)
+    × (lineOpen (bytes "open,1,2,3,4,F,-,B,6,1,7,8,9") ≡ none)
+    × (lineOpen (bytes "open,1,2,3,4,F,5,-,6,1,7,8,9") ≡ none)
+    × (lineOpen (bytes "open,1,2,3,4,F,5,B,-,1,7,8,9") ≡ none)
+    × (lineOpen (bytes "open,1,2,3,4,F,5,B,6,-,7,8,9") ≡ none)
+    × (lineOpen (bytes "open,1,2,3,4,F,5,B,6,1,7,-,9") ≡ none)
+    × (lineOpen (bytes "open,1,2,3,4,F,5,B,6,1,7,8,-") ≡ none)
+unfolding calls openOf isOpen openingOf limitsOf timersOf timeout
+only-timeout = (refl, refl, refl, refl, refl, refl, refl, refl, refl, refl, refl)
+
+-- nor does `never` in another field of time
+only-there : (lineOpen (bytes "open,never,2,3,4,F,5,B,6,1,7,8,9") ≡ none)
+    × (lineOpen (bytes "open,1,2,3,4,F,5,B,6,1,7,never,9") ≡ none)
+    × (lineOpen (bytes "open,1,2,3,4,F,5,B,6,1,7,8,never") ≡ none)
+unfolding calls openOf isOpen openingOf limitsOf timersOf timeout
+only-there = (refl, refl, refl)
+
+-- nor a line that is nearly one: another name, a blank, an empty TIMEOUT, a carriage return
+near-lines : (lineOpen (bytes "OPEN,1,2,3,4,F,5,B,6,1,7,8,9") ≡ none)
+    × (lineOpen (bytes "ope,1,2,3,4,F,5,B,6,1,7,8,9") ≡ none)
+    × (lineOpen (bytes "open ,1,2,3,4,F,5,B,6,1,7,8,9") ≡ none)
+    × (lineOpen (bytes "open,1,2,3,4,F,5,B,6,1, -,8,9") ≡ none)
+    × (lineOpen (bytes "open,1,2,3,4,F,5,B,6,1, never,8,9") ≡ none)
+    × (lineOpen (bytes "open,1,2,3,4,F,5,B,6,1,- ,8,9") ≡ none)
+    × (lineOpen (bytes "open,1,2,3,4,F,5,B,6,1,,8,9") ≡ none)
+    × (lineOpen (bytes "open,1,2,3,4,F,5,B,6,1, 7,8,9") ≡ none)
+    × (lineOpen (bytes "open, 1,2,3,4,F,5,B,6,1,7,8,9") ≡ none)
+    × (lineOpen (bytes "open,1,2,3,4,F,5,B,6,1,7,8,9\r") ≡ none)
+unfolding calls openOf isOpen openingOf limitsOf timersOf timeout
+near-lines = (refl, refl, refl, refl, refl, refl, refl, refl, refl, refl)

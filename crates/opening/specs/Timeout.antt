@@ -1,7 +1,7 @@
--- 02's A3, of every field and of every line: TIMEOUT is `-`, `never`, a number or none, and what it says is what open is given.
-use Rattle.std.specs.Prelude.{Bool, true, false, cond, ◌≡◌, refl, List, ℕ}
+-- 02's A3, of every field: TIMEOUT is `-`, `never`, a number, or is not read; and of every line: what it says is what open is given.
+use Rattle.std.specs.Prelude.{Bool, true, false, cond, ◌≡◌, refl, List, [], ℕ, get_or}
 use Rattle.std.proofs.Common.{sym, ap, ◌∙◌}
-use Rattle.std.proofs.Math.Option.{Option, none, some, map, some-injective, none-ne-some}
+use Rattle.std.proofs.Math.Option.{Option, none, some, map, none-ne-some}
 use Rattle.exec.specs.declared.Limits.{Limits}
 use Rattle.exec.specs.declared.MaybeDuration.{MaybeDuration}
 use Rattle.exec.specs.declared.Timers.{Timers}
@@ -11,6 +11,7 @@ use Rattle.syntax.specs.Lines.{on, fields, u64}
 use Rattle.syntax.specs.Table.{calls}
 use Rattle.syntax.specs.Words.{bytes, same}
 use Rattle.opening.specs.Open.{Opening, at, timeout, isOpen, openOf, openingOf, limitsOf, timersOf, lineOpen}
+use Rattle.opening.specs.Says.{Says}
 
 -- ---- the field
 
@@ -42,56 +43,29 @@ number-itself field n e =
 
 -- ---- the line
 
-timers-found : (x : Option MaybeDuration) (y z : Option ℕ) (t : Timers)
-    → (on x λ a. on y λ b. on z λ c. some (record { timeout = a; grace = b; settlement = c })) ≡ some t → x ≡ some t.timeout
-timers-found none y z t e = absurd (none-ne-some t e)
-timers-found (some a) none z t e = absurd (none-ne-some t e)
-timers-found (some a) (some b) none t e = absurd (none-ne-some t e)
-timers-found (some a) (some b) (some c) t e = ap (λ (t : Timers). some t.timeout) (some-injective _ t e)
+-- a line whose TIMEOUT is not read opens nothing
+unread : (now id generation : Option ℕ) (l : Option Limits)
+    → ◌≡◌ {A = Option Opening} (on now λ n. on id λ i. on generation λ g. on l λ k. on {A = Timers} none λ x. some (record { conf = record { key = newKey i g; limits = k; timers = x }; now = n })) none
+unread none id generation l = refl
+unread (some n) none generation l = refl
+unread (some n) (some i) none l = refl
+unread (some n) (some i) (some g) none = refl
+unread (some n) (some i) (some g) (some k) = refl
 
-opening-found : (now id generation : Option ℕ) (l : Option Limits) (t : Option Timers) (o : Opening)
-    → (on now λ n. on id λ i. on generation λ g. on l λ k. on t λ x. some (record { conf = record { key = newKey i g; limits = k; timers = x }; now = n })) ≡ some o
-    → (now ≡ some o.now) × (t ≡ some o.conf.timers)
-opening-found none id generation l t o e = absurd (none-ne-some o e)
-opening-found (some n) none generation l t o e = absurd (none-ne-some o e)
-opening-found (some n) (some i) none l t o e = absurd (none-ne-some o e)
-opening-found (some n) (some i) (some g) none t o e = absurd (none-ne-some o e)
-opening-found (some n) (some i) (some g) (some k) none o e = absurd (none-ne-some o e)
-opening-found (some n) (some i) (some g) (some k) (some x) o e =
-    let h = some-injective _ o e in (ap (λ (o : Opening). some o.now) h, ap (λ (o : Opening). some o.conf.timers) h)
-
-line-found : (line : List ℕ) (o : Opening) → lineOpen line ≡ some o → (u64 (at (fields line) 1) ≡ some o.now) × (timersOf (fields line) ≡ some o.conf.timers)
+no-timers : (fs : List (List ℕ)) → timersOf fs ≡ none → openOf fs ≡ none
 unfolding openOf openingOf
-line-found line o e =
-    let fs : List (List ℕ) = fields line in
-    opening-found (u64 (at fs 1)) (u64 (at fs 2)) (u64 (at fs 3)) (limitsOf fs) (timersOf fs) o (by (isOpen fs) e)
+no-timers fs h = rw h (by (isOpen fs))
   where
-    by : (b : Bool) → cond b (openingOf (fields line)) none ≡ some o → openingOf (fields line) ≡ some o
-    by true e = e
-    by false e = absurd (none-ne-some o e)
+    by : (b : Bool) → cond b (on (u64 (at fs 1)) λ n. on (u64 (at fs 2)) λ i. on (u64 (at fs 3)) λ g. on (limitsOf fs) λ k. on {A = Timers} {B = Opening} none λ x. some (record { conf = record { key = newKey i g; limits = k; timers = x }; now = n })) none ≡ none
+    by true = unread (u64 (at fs 1)) (u64 (at fs 2)) (u64 (at fs 3)) (limitsOf fs)
+    by false = refl
 
--- the time that open is given is the line's NOW
-pub line-now : (line : List ℕ) (o : Opening) → lineOpen line ≡ some o → u64 (at (fields line) 1) ≡ some o.now
-line-now line o e = (line-found line o e).0
-
--- what it is given as its timeout is what the line's TIMEOUT says, whatever its other fields are
-pub line-timeout : (line : List ℕ) (o : Opening) → lineOpen line ≡ some o → timeout (at (fields line) 10) ≡ some o.conf.timers.timeout
+pub line-bad : (line : List ℕ) → timeout (get_or (fields line) 10 []) ≡ none → lineOpen line ≡ none
 unfolding timersOf
-line-timeout line o e =
-    let fs : List (List ℕ) = fields line in timers-found (timeout (at fs 10)) (u64 (at fs 11)) (u64 (at fs 12)) o.conf.timers (line-found line o e).1
+line-bad line h = no-timers (fields line) (rw h refl)
 
--- and a line whose TIMEOUT is none of these opens nothing
-pub line-bad : (line : List ℕ) → timeout (at (fields line) 10) ≡ none → lineOpen line ≡ none
-line-bad line h = by (lineOpen line) refl
-  where
-    by : (x : Option Opening) → lineOpen line ≡ x → x ≡ none
-    by none e = refl
-    by (some o) e = absurd (none-ne-some _ (sym h ∙ line-timeout line o e))
-
--- and a line whose fields are all good opens with what they say
-pub line-opens : (line : List ℕ) (now id generation grace settlement : ℕ) (l : Limits) (x : MaybeDuration)
-    → isOpen (fields line) ≡ true → u64 (at (fields line) 1) ≡ some now → u64 (at (fields line) 2) ≡ some id → u64 (at (fields line) 3) ≡ some generation
-    → limitsOf (fields line) ≡ some l → timeout (at (fields line) 10) ≡ some x → u64 (at (fields line) 11) ≡ some grace → u64 (at (fields line) 12) ≡ some settlement
-    → lineOpen line ≡ some (record { conf = record { key = newKey id generation; limits = l; timers = record { timeout = x; grace = grace; settlement = settlement } }; now = now })
-unfolding openOf openingOf timersOf
-line-opens line now id generation grace settlement l x o n i g k t y z = rw (o, n, i, g, k, t, y, z) refl
+-- A LINE THAT SAYS AN OPENING OPENS WITH IT
+pub line-opens : (line : List ℕ) (o : Opening) → Says line o → lineOpen line ≡ some o
+unfolding isOpen openOf openingOf limitsOf timersOf same bytes
+line-opens line o h =
+    rw (h.count, h.name, h.now, h.id, h.generation, h.chunk, h.input-unit, h.input-size, h.output-unit, h.output-size, h.shared, h.limit, h.grace, h.settlement) refl

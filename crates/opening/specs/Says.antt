@@ -1,0 +1,23 @@
+-- What a first line says, field by field, as the reader of a card counts them: the line's NAME is field 0.
+use Rattle.std.specs.Prelude.{◌≡◌, List, [], ℕ, length, get_or}
+use Rattle.std.proofs.Math.Option.{some}
+use Rattle.syntax.specs.Lines.{fields, u64, u32, digit}
+use Rattle.syntax.specs.Words.{bytes, unit}
+use Rattle.opening.specs.Open.{Opening, timeout}
+
+-- A LINE SAYS AN OPENING: thirteen fields, each of which says its part
+pub record Says (line : List ℕ) (o : Opening) : Type 0 where
+  pub count : length (fields line) ≡ 13
+  pub name : get_or (fields line) 0 [] ≡ bytes "open"
+  pub now : u64 (get_or (fields line) 1 []) ≡ some o.now
+  pub id : u64 (get_or (fields line) 2 []) ≡ some o.conf.key.id
+  pub generation : u64 (get_or (fields line) 3 []) ≡ some o.conf.key.generation
+  pub chunk : u32 (get_or (fields line) 4 []) ≡ some o.conf.limits.chunk
+  pub input-unit : unit (get_or (fields line) 5 []) ≡ some o.conf.limits.input.unit
+  pub input-size : u32 (get_or (fields line) 6 []) ≡ some o.conf.limits.input.size
+  pub output-unit : unit (get_or (fields line) 7 []) ≡ some o.conf.limits.output.unit
+  pub output-size : u32 (get_or (fields line) 8 []) ≡ some o.conf.limits.output.size
+  pub shared : digit (get_or (fields line) 9 []) ≡ some o.conf.limits.shared
+  pub limit : timeout (get_or (fields line) 10 []) ≡ some o.conf.timers.timeout
+  pub grace : u64 (get_or (fields line) 11 []) ≡ some o.conf.timers.grace
+  pub settlement : u64 (get_or (fields line) 12 []) ≡ some o.conf.timers.settlement
