@@ -1,4 +1,5 @@
--- A program that hangs, computed from the definitions: so the claim is not of lists that cannot be, and none of its conditions can be spared.
+-- A program that hangs, computed from the definitions: so the claim is not of lists that cannot be; and a list for each of its conditions, but that there
+-- is a timeout and that open is answered ok, on which Terminal does not come without it.
 use mathlib.Core.Bool.{true, false, true≢false}
 use mathlib.Core.Path.{◌≡◌, refl, subst}
 use mathlib.Core.List.{List, [], ◌∷◌, ◌++◌, map}

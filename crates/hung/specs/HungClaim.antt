@@ -1,5 +1,6 @@
--- A program that hangs: no exit is reported of it, and its timeout passes. After a tick at t, at or past the timeout's instant, Terminal has come by the
--- fifth message asked for after a tick at or past t + grace + settlement, whatever was called before, between and after.
+-- A program that hangs: its timeout passes. Where up to a tick at t, at or past the timeout's instant, no exit was reported of it and no call had a time
+-- above t, Terminal has come by the fifth message asked for after a tick at or past t + grace + settlement, whatever else was called before, and
+-- whatever between the two ticks and after them.
 use Rattle.std.specs.Prelude.{true, ◌≡◌, List, [], ◌∷◌, ◌++◌, ℕ, ◌+◌, ◌^◌, ◌≤◌, ◌<◌}
 use Rattle.std.proofs.Math.Option.{some}
 use Rattle.exec.specs.declared.Deadline.TheVariants.{At}
