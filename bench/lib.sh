@@ -9,7 +9,7 @@ cp -r "$exec_rs" target/exec
 chmod -R u+w target/exec
 cp ../oracle/nvx/peer.rs target/exec/peer.rs
 build() {
-    rustc --edition 2024 -C opt-level=3 -C codegen-units=1 -C panic=abort --cap-lints warn -L target "$@"
+    rustc --edition 2024 -C opt-level=3 -C target-cpu=x86-64-v2 -C codegen-units=1 -C panic=abort --cap-lints warn -L target "$@"
 }
 build --crate-type rlib --crate-name room --out-dir target src/room.rs
 linked="--extern room"

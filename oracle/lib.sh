@@ -20,7 +20,7 @@ lay_out() {
 }
 
 rust() {
-    rustc --edition 2024 -O -C codegen-units=1 -C strip=symbols "$@"
+    rustc --edition 2024 -O -C target-cpu=x86-64-v2 -C codegen-units=1 -C strip=symbols "$@"
 }
 
 # Compiles the library in target/$1, and over it the program target/$2.

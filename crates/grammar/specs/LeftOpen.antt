@@ -34,5 +34,5 @@ pub record EveryCard : Type 0 where
   pub never : (line : List ℕ) (now : ℕ) → Starts line now → get_or (fields line) 10 [] ≡ bytes "never" → asked line ≡ Call.Ok ∷ Call.Time Never ∷ []
   -- a number is itself
   pub number : (line : List ℕ) (now n : ℕ) → Starts line now → u64 (get_or (fields line) 10 []) ≡ some n → asked line ≡ Call.Ok ∷ Call.Time (after now n) ∷ []
-  -- any other text, none too where the line has fewer fields, is 30, and no runner is opened
+  -- any other text is 30, and no runner is opened; so it is where the line has no such field
   pub other : (line : List ℕ) → (get_or (fields line) 10 [] ≡ bytes "-" → ⊥) → (get_or (fields line) 10 [] ≡ bytes "never" → ⊥) → u64 (get_or (fields line) 10 []) ≡ none → answerOf First line ≡ bad Over

@@ -1,4 +1,4 @@
--- What a first line says, field by field, as the reader of a card counts them: the line's NAME is field 0.
+-- What a first line says, field by field, as the reader of a card counts them: `open` is field 0, and TIMEOUT, the runner's limit of time, field 10.
 use Rattle.std.specs.Prelude.{◌≡◌, List, [], ℕ, length, get_or}
 use Rattle.std.proofs.Math.Option.{some}
 use Rattle.syntax.specs.Lines.{fields, u64, u32, digit}
