@@ -27,7 +27,6 @@ use Rattle.calls.specs.Call.{Call}
 use Rattle.account.specs.Step.{State, next, answer, says, took, receivedAs}
 use Rattle.ring.specs.Runs.{copied}
 use Rattle.ring.specs.Lent.{copied-back}
-use Rattle.making.specs.declared.Making.{Making}
 use Rattle.making.specs.declared.MaybeTime.{MaybeTime}
 use Rattle.syntax.specs.declared.Call as Calls
 use Rattle.calls.specs.Call.{timeOf}
@@ -47,12 +46,12 @@ abbrev pub stateOf : Runner → (bytes lengths : List ℕ) → State
 stateOf r bytes lengths = record { runner = r; bytes = bytes; lengths = lengths }
 
 -- the runner, its stores and the answer after a call
-abbrev pub Made : State → Call → Making → (bytes lengths work : List ℕ) → Type 0
-Made s c r bytes lengths work = (stateOf r.runner bytes lengths ≡ next s c) × (answerIs r.answer work ≡ answer s c)
+abbrev pub Made : State → Call → Runner → Answer → (bytes lengths work : List ℕ) → Type 0
+Made s c r a bytes lengths work = (stateOf r bytes lengths ≡ next s c) × (answerIs a work ≡ answer s c)
 
 -- the same for a call that is lent no store, whatever the stores are
-abbrev pub Moves : Runner → Call → Making → Type 0
-Moves x c r = (bytes lengths work : List ℕ) → Made (stateOf x bytes lengths) c r bytes lengths work
+abbrev pub Moves : Runner → Call → Runner → Answer → Type 0
+Moves x c r a = (bytes lengths work : List ℕ) → Made (stateOf x bytes lengths) c r a bytes lengths work
 
 -- the answer to a question, whatever the lengths are
 abbrev pub Tells : Runner → (bytes : List ℕ) → Call → Answer → (work : List ℕ) → Type 0

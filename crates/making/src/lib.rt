@@ -1,7 +1,7 @@
-// A call made of a runner, through the runner's own calls, and its answer.
+// A call made of a runner, which it changes in place, through the runner's own calls; and its answer.
 #![tactic(auto)]
 
-ghost use Rattle.std.specs.Prelude.{◌≡◌, [], ◌++◌, ◌≤◌, ◌<◌, length, take, drop};
+ghost use Rattle.std.specs.Prelude.{◌≡◌, ℕ, List, [], ◌++◌, ◌≤◌, ◌<◌, length, take, drop};
 ghost use Rattle.calls.specs.Call as Calls;
 ghost use Rattle.account.specs.Step.{replied, receivedAs, asks, waits, answer};
 ghost use Rattle.runner.specs.Calls as Runs;
@@ -11,18 +11,11 @@ ghost use Rattle.answering.specs.Answering.{answerIs, AnswerIs};
 ghost use Rattle.making.specs.Making.{TimeIs, stateOf, OutputMade, InputMade, MessageMade, Made, Moves, Tells};
 
 use answering::Answer;
-use exec::{Key, Stream};
+use exec::{Cause, Key, LaunchResult, MaybeStatus, Pool, Settlement, Stream};
 use ring::{copy_in, smaller};
 use runner::answer::{Hearing, Noting};
 use runner::runner::Runner;
 use syntax::{Call, Question, Timed};
-
-// The runner after a call, and the answer.
-#[derive(Clone, Copy)]
-pub struct Making {
-    pub runner: Runner,
-    pub answer: Answer,
-}
 
 // A call's own time, if it has one.
 #[derive(Clone, Copy)]
@@ -54,72 +47,182 @@ pub fn time_of(call: Call) -> MaybeTime
     }
 }
 
-fn noted(noting: Noting) -> Making
-    ensures { (result.runner ≡ noting.runner) × AnswerIs result.answer (λ w. replied noting.reply) }
+fn noted(runner: &mut Runner, noting: Noting) -> Answer
+    ensures { (runner.new ≡ noting.runner) × AnswerIs result (λ w. replied noting.reply) }
 {
-    let runner = noting.runner;
-    let reply = noting.reply;
-    Making {
-        runner,
-        answer: answering::replied(reply),
-    }
+    *runner = noting.runner;
+    answering::replied(noting.reply)
 }
 
-fn heard(hearing: Hearing) -> Making
-    ensures { (result.runner ≡ hearing.runner) × AnswerIs result.answer (λ w. receivedAs hearing.received) }
+fn heard(runner: &mut Runner, hearing: Hearing) -> Answer
+    ensures { (runner.new ≡ hearing.runner) × AnswerIs result (λ w. receivedAs hearing.received) }
 {
-    let runner = hearing.runner;
-    let received = hearing.received;
-    Making {
-        runner,
-        answer: answering::received(received),
-    }
+    *runner = hearing.runner;
+    answering::received(hearing.received)
 }
 
-// A call that answers and changes nothing.
-fn asked(runner: Runner, answer: Answer) -> Making
-    ensures { (result.runner ≡ runner) × (result.answer ≡ answer) }
-{
-    Making { runner, answer }
-}
+// ---- the calls that change the runner, each in a function of its own
 
-fn output(runner: Runner, stream: Stream, n: usize, store: &mut [u8], work: &[u8]) -> Making
-    ensures { OutputMade result.runner result.answer store.new (Runs.output runner stream (take n work.now) store.old) }
+#[tactic(auto, unfolding(account::specs::Step::next, account::specs::Step::answer))]
+fn credit(runner: &mut Runner, key: Key, pool: Pool, units: u32) -> Answer
+    ensures { Moves runner.old (Calls.credit key pool units) runner.new result }
 {
-    let k = smaller(n, work.len());
-    let taking = runner.output(stream, store, &work[0..k]);
-    let next = taking.runner;
-    let taken = taking.taken;
-    Making {
-        runner: next,
-        answer: answering::took(taken),
-    }
+    let hearing = runner.credit(key, pool, units);
+    heard(runner, hearing)
 }
 
 fn input(
-    runner: Runner,
+    runner: &mut Runner,
     key: Key,
     n: usize,
     store: &mut [u8],
     lengths: &mut [u32],
     work: &[u8],
-) -> Making
-    ensures { InputMade result.runner result.answer store.new lengths.new (Runs.input runner key (take n work.now) store.old lengths.old) }
+) -> Answer
+    ensures { InputMade runner.new result store.new lengths.new (Runs.input runner.old key (take n work.now) store.old lengths.old) }
 {
     let k = smaller(n, work.len());
-    heard(runner.input(key, store, lengths, &work[0..k]))
+    let hearing = runner.input(key, store, lengths, &work[0..k]);
+    heard(runner, hearing)
 }
 
-fn next_request(runner: Runner) -> Making
-    ensures { (result.runner ≡ (Runs.nextRequest runner).runner) × AnswerIs result.answer (λ w. asks (Runs.nextRequest runner).asked) }
+#[tactic(auto, unfolding(account::specs::Step::next, account::specs::Step::answer))]
+fn end_input(runner: &mut Runner, key: Key) -> Answer
+    ensures { Moves runner.old (Calls.endInput key) runner.new result }
+{
+    let hearing = runner.end_input(key);
+    heard(runner, hearing)
+}
+
+#[tactic(auto, unfolding(account::specs::Step::next, account::specs::Step::answer))]
+fn cancel(runner: &mut Runner, now: u64, key: Key, cause: Cause) -> Answer
+    ensures { Moves runner.old (Calls.cancel now key cause) runner.new result }
+{
+    let hearing = runner.cancel(now, key, cause);
+    heard(runner, hearing)
+}
+
+#[tactic(auto, unfolding(account::specs::Step::next, account::specs::Step::answer))]
+fn launched(runner: &mut Runner, launch: LaunchResult) -> Answer
+    ensures { Moves runner.old (Calls.launched launch) runner.new result }
+{
+    let noting = runner.launched(launch);
+    noted(runner, noting)
+}
+
+fn output(runner: &mut Runner, stream: Stream, n: usize, store: &mut [u8], work: &[u8]) -> Answer
+    ensures { OutputMade runner.new result store.new (Runs.output runner.old stream (take n work.now) store.old) }
+{
+    let k = smaller(n, work.len());
+    let taking = runner.output(stream, store, &work[0..k]);
+    *runner = taking.runner;
+    answering::took(taking.taken)
+}
+
+#[tactic(auto, unfolding(account::specs::Step::next, account::specs::Step::answer))]
+fn discarded(runner: &mut Runner, stream: Stream, bytes: usize) -> Answer
+    ensures { Moves runner.old (Calls.discarded stream bytes) runner.new result }
+{
+    let noting = runner.discarded(stream, bytes);
+    noted(runner, noting)
+}
+
+#[tactic(auto, unfolding(account::specs::Step::next, account::specs::Step::answer))]
+fn output_closed(runner: &mut Runner, stream: Stream) -> Answer
+    ensures { Moves runner.old (Calls.outputClosed stream) runner.new result }
+{
+    let noting = runner.output_closed(stream);
+    noted(runner, noting)
+}
+
+#[tactic(auto, unfolding(account::specs::Step::next, account::specs::Step::answer))]
+fn output_failed(runner: &mut Runner, stream: Stream) -> Answer
+    ensures { Moves runner.old (Calls.outputFailed stream) runner.new result }
+{
+    let noting = runner.output_failed(stream);
+    noted(runner, noting)
+}
+
+#[tactic(auto, unfolding(account::specs::Step::next, account::specs::Step::answer))]
+fn output_hung_up(runner: &mut Runner, stream: Stream) -> Answer
+    ensures { Moves runner.old (Calls.outputHungUp stream) runner.new result }
+{
+    let noting = runner.output_hung_up(stream);
+    noted(runner, noting)
+}
+
+// (The store of bytes is not lent.)
+#[tactic(auto, unfolding(account::specs::Step::next, account::specs::Step::answer))]
+fn input_written(runner: &mut Runner, lengths: &mut [u32], n: usize) -> Answer
+    ensures { (bytes work : List ℕ) → Made (stateOf runner.old bytes lengths.old) (Calls.inputWritten n) runner.new result bytes lengths.new work }
+{
+    let noting = runner.input_written(lengths, n);
+    noted(runner, noting)
+}
+
+#[tactic(auto, unfolding(account::specs::Step::next, account::specs::Step::answer))]
+fn input_closed(runner: &mut Runner) -> Answer
+    ensures { Moves runner.old Calls.inputClosed runner.new result }
+{
+    let noting = runner.input_closed();
+    noted(runner, noting)
+}
+
+#[tactic(auto, unfolding(account::specs::Step::next, account::specs::Step::answer))]
+fn exited(runner: &mut Runner, now: u64, status: MaybeStatus) -> Answer
+    ensures { Moves runner.old (Calls.exited now status) runner.new result }
+{
+    let noting = runner.exited(now, status);
+    noted(runner, noting)
+}
+
+#[tactic(auto, unfolding(account::specs::Step::next, account::specs::Step::answer))]
+fn settled(runner: &mut Runner, settlement: Settlement) -> Answer
+    ensures { Moves runner.old (Calls.settled settlement) runner.new result }
+{
+    let noting = runner.settled(settlement);
+    noted(runner, noting)
+}
+
+#[tactic(auto, unfolding(account::specs::Step::next, account::specs::Step::answer))]
+fn dropped(runner: &mut Runner, now: u64) -> Answer
+    ensures { Moves runner.old (Calls.dropped now) runner.new result }
+{
+    let noting = runner.dropped(now);
+    noted(runner, noting)
+}
+
+#[tactic(auto, unfolding(account::specs::Step::next, account::specs::Step::answer))]
+fn reset(runner: &mut Runner, now: u64) -> Answer
+    ensures { Moves runner.old (Calls.reset now) runner.new result }
+{
+    let noting = runner.reset(now);
+    noted(runner, noting)
+}
+
+#[tactic(auto, unfolding(account::specs::Step::next, account::specs::Step::answer))]
+fn disconnect(runner: &mut Runner, now: u64) -> Answer
+    ensures { Moves runner.old (Calls.disconnect now) runner.new result }
+{
+    let noting = runner.disconnect(now);
+    noted(runner, noting)
+}
+
+#[tactic(auto, unfolding(account::specs::Step::next, account::specs::Step::answer))]
+fn tick(runner: &mut Runner, now: u64) -> Answer
+    ensures { Moves runner.old (Calls.tick now) runner.new result }
+{
+    let noting = runner.tick(now);
+    noted(runner, noting)
+}
+
+#[tactic(auto, unfolding(account::specs::Step::next, account::specs::Step::answer))]
+fn next_request(runner: &mut Runner) -> Answer
+    ensures { Moves runner.old Calls.nextRequest runner.new result }
 {
     let asking = runner.next_request();
-    let next = asking.runner;
-    let asked = asking.asked;
-    Making {
-        runner: next,
-        answer: answering::asked(asked),
-    }
+    *runner = asking.runner;
+    answering::asked(asking.asked)
 }
 
 // n zeros at the start of work.
@@ -135,18 +238,14 @@ pub fn clear(work: &mut [u8], n: usize)
 }
 
 // The message's bytes are left at the start of work.
-fn next_message(runner: Runner, n: usize, store: &[u8], work: &mut [u8]) -> Making
+fn next_message(runner: &mut Runner, n: usize, store: &[u8], work: &mut [u8]) -> Answer
     requires { n ≤ length work.old }
-    ensures { MessageMade result.runner result.answer work.new (Runs.nextMessage runner store.now (zeros n)) }
+    ensures { MessageMade runner.new result work.new (Runs.nextMessage runner.old store.now (zeros n)) }
 {
     clear(work, n);
     let saying = runner.next_message(store, &mut work[0..n]);
-    let next = saying.runner;
-    let said = saying.said;
-    Making {
-        runner: next,
-        answer: answering::said(said),
-    }
+    *runner = saying.runner;
+    answering::said(saying.said)
 }
 
 fn wide(n: u16) -> usize
@@ -199,47 +298,47 @@ fn ask(runner: Runner, question: Question, store: &[u8], work: &mut [u8]) -> Ans
 }
 
 #[tactic(auto, unfolding(account::specs::Step::next, account::specs::Step::answer))]
-fn timed(runner: Runner, now: u64, call: Timed) -> Making
-    ensures { Moves runner (timedIs now call) result }
+fn timed(runner: &mut Runner, now: u64, call: Timed) -> Answer
+    ensures { Moves runner.old (timedIs now call) runner.new result }
 {
     match call {
-        Timed::Cancel(key, cause) => heard(runner.cancel(now, key, cause)),
-        Timed::Exited(status) => noted(runner.exited(now, status)),
-        Timed::Dropped => noted(runner.dropped(now)),
-        Timed::Reset => noted(runner.reset(now)),
-        Timed::Disconnect => noted(runner.disconnect(now)),
-        Timed::Tick => noted(runner.tick(now)),
+        Timed::Cancel(key, cause) => cancel(runner, now, key, cause),
+        Timed::Exited(status) => exited(runner, now, status),
+        Timed::Dropped => dropped(runner, now),
+        Timed::Reset => reset(runner, now),
+        Timed::Disconnect => disconnect(runner, now),
+        Timed::Tick => tick(runner, now),
     }
 }
 
 // (The stores are those that the runner was opened with.)
 #[tactic(auto, unfolding(account::specs::Step::next, account::specs::Step::answer))]
 pub fn make(
-    runner: Runner,
+    runner: &mut Runner,
     call: Call,
     store: &mut [u8],
     lengths: &mut [u32],
     work: &mut [u8],
-) -> Making
+) -> Answer
     requires { (length store.old ≤ 65536) × (length work.old ≡ 65536) }
-    ensures { Made (stateOf runner store.old lengths.old) (callIs call work.old) result store.new lengths.new work.new }
+    ensures { Made (stateOf runner.old store.old lengths.old) (callIs call work.old) runner.new result store.new lengths.new work.new }
 {
     match call {
-        Call::Credit(key, pool, units) => heard(runner.credit(key, pool, units)),
+        Call::Credit(key, pool, units) => credit(runner, key, pool, units),
         Call::Input(key, n) => input(runner, key, n, store, lengths, work),
-        Call::EndInput(key) => heard(runner.end_input(key)),
-        Call::Launched(result) => noted(runner.launched(result)),
+        Call::EndInput(key) => end_input(runner, key),
+        Call::Launched(launch) => launched(runner, launch),
         Call::Output(stream, n) => output(runner, stream, n, store, work),
-        Call::Discarded(stream, n) => noted(runner.discarded(stream, n)),
-        Call::OutputClosed(stream) => noted(runner.output_closed(stream)),
-        Call::OutputFailed(stream) => noted(runner.output_failed(stream)),
-        Call::OutputHungUp(stream) => noted(runner.output_hung_up(stream)),
-        Call::InputWritten(n) => noted(runner.input_written(lengths, n)),
-        Call::InputClosed => noted(runner.input_closed()),
-        Call::Settled(result) => noted(runner.settled(result)),
+        Call::Discarded(stream, n) => discarded(runner, stream, n),
+        Call::OutputClosed(stream) => output_closed(runner, stream),
+        Call::OutputFailed(stream) => output_failed(runner, stream),
+        Call::OutputHungUp(stream) => output_hung_up(runner, stream),
+        Call::InputWritten(n) => input_written(runner, lengths, n),
+        Call::InputClosed => input_closed(runner),
+        Call::Settled(settlement) => settled(runner, settlement),
         Call::NextRequest => next_request(runner),
         Call::NextMessage(n) => next_message(runner, wide(n), store, work),
         Call::At(now, call) => timed(runner, now, call),
-        Call::Ask(question) => asked(runner, ask(runner, question, store, work)),
+        Call::Ask(question) => ask(*runner, question, store, work),
     }
 }

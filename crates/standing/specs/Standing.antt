@@ -12,9 +12,8 @@ use Rattle.grammar.specs.Feed.{first, later, answered, tooLong, answerOf, rememb
 use Rattle.opening.specs.Meaning.{openingIs}
 use Rattle.answering.specs.Answering.{answerIs}
 use Rattle.making.specs.Making.{stateOf}
-use Rattle.standing.specs.declared.Answered.{Answered}
+use Rattle.answering.specs.declared.Answer.{Answer}
 use Rattle.calls.specs.Call as Account
-use Rattle.standing.specs.declared.Answered as Code
 use Rattle.standing.specs.declared.Stage as Stages
 use Rattle.standing.specs.declared.Stage.TheVariants as Stage
 use Rattle.opening.specs.declared.Opening as Openings
@@ -82,20 +81,20 @@ placed-is q x p h = ap stageAt h ∙ stage-placed x p
 -- ---- a line
 
 -- the place after a line, with both stores, and the line's answer, of which bytes may stand in `work`
-abbrev pub Told : Feed.Answered → (was : Place) → Code.Answered → (after : Stores) → (work : List ℕ) → Type 0
-Told a was r after work = (placeOf r.standing after ≡ placed a.stage was) × (answerIs r.answer work ≡ a.answer)
+abbrev pub Told : Feed.Answered → (was : Place) → Standing → Answer → (after : Stores) → (work : List ℕ) → Type 0
+Told f was s a after work = (placeOf s after ≡ placed f.stage was) × (answerIs a work ≡ f.answer)
 
 -- A LINE IS ANSWERED AS f SAYS OF THE PLACE BEFORE IT
-abbrev pub Answers : (f : Place → Feed.Answered) → Standing → (before : Stores) → Code.Answered → (after : Stores) → (work : List ℕ) → Type 0
-Answers f s before r after work = Told (f (placeOf s before)) (placeOf s before) r after work
+abbrev pub Answers : (f : Place → Feed.Answered) → Standing → (before : Stores) → Standing → Answer → (after : Stores) → (work : List ℕ) → Type 0
+Answers f s before s' a after work = Told (f (placeOf s before)) (placeOf s before) s' a after work
 
 -- (a first line: by its own words alone, and whatever stands in `work`)
-abbrev pub AnswersFirst : Feed.Answered → Standing → (before : Stores) → Code.Answered → (after : Stores) → Type 0
-AnswersFirst a s before r after = (work : List ℕ) → Told a (placeOf s before) r after work
+abbrev pub AnswersFirst : Feed.Answered → Standing → (before : Stores) → Standing → Answer → (after : Stores) → Type 0
+AnswersFirst f s before s' a after = (work : List ℕ) → Told f (placeOf s before) s' a after work
 
 -- (whatever stands in the stores, which are not lent and stay, and in `work`)
-abbrev pub AnswersAny : (f : Place → Feed.Answered) → Standing → Code.Answered → Type 0
-AnswersAny f s r = (x : Stores) (work : List ℕ) → Answers f s x r x work
+abbrev pub AnswersAny : (f : Place → Feed.Answered) → Standing → Standing → Answer → Type 0
+AnswersAny f s s' a = (x : Stores) (work : List ℕ) → Answers f s x s' a x work
 
 -- what open made, from its reply
 abbrev pub openedAs : Reply → Runner → (now : ℕ) → Feed.Answered

@@ -35,13 +35,6 @@ pub struct Standing {
     pub last: u64,
 }
 
-// Where the session stands after a line, and the line's answer.
-#[derive(Clone, Copy)]
-pub struct Answered {
-    pub standing: Standing,
-    pub answer: Answer,
-}
-
 // ---- times
 
 fn is_back(time: MaybeTime, last: u64) -> bool
@@ -85,24 +78,11 @@ fn clear_lengths(lengths: &mut [u32])
 
 impl Standing {
     // Nothing changes but the stage.
-    fn refused(self, stage: Stage, answer: Answer) -> Answered
-        ensures { (result.standing ≡ record { stage = stage; runner = self.runner; last = self.last }) × (result.answer ≡ answer) }
+    fn bad(&mut self, stage: Stage) -> Answer
+        ensures { (self.new ≡ record { stage = stage; runner = self.old.runner; last = self.old.last }) × (result ≡ Answer.Refused 30) }
     {
-        let runner = self.runner;
-        Answered {
-            standing: Standing {
-                stage,
-                runner,
-                last: self.last,
-            },
-            answer,
-        }
-    }
-
-    fn bad(self, stage: Stage) -> Answered
-        ensures { (result.standing ≡ record { stage = stage; runner = self.runner; last = self.last }) × (result.answer ≡ Answer.Refused 30) }
-    {
-        self.refused(stage, Answer::Refused(30))
+        self.stage = stage;
+        Answer::Refused(30)
     }
 
     // ---- the first line
@@ -110,42 +90,37 @@ impl Standing {
     // The stores are cleared for a runner that opened.
     #[tactic(auto, unfolding(crate::specs::Standing::placed))]
     fn opened_by(
-        self,
+        &mut self,
         runner: Runner,
         reply: Reply,
         time: u64,
         store: &mut [u8],
         lengths: &mut [u32],
-    ) -> Answered
+    ) -> Answer
         requires { (length store.old ≡ 65536) × (length lengths.old ≡ 1024) }
-        ensures { AnswersFirst (openedAs reply runner time) self (stores store.old lengths.old)
-            result (stores store.new lengths.new) }
+        ensures { AnswersFirst (openedAs reply runner time) self.old (stores store.old lengths.old)
+            self.new result (stores store.new lengths.new) }
     {
         match reply {
             Reply::Ok => {
                 clear(store, 65536);
                 clear_lengths(lengths);
-                let standing = Standing {
-                    stage: Stage::Running,
-                    runner,
-                    last: time,
-                };
-                Answered {
-                    standing,
-                    answer: Answer::Ok,
-                }
+                self.stage = Stage::Running;
+                self.runner = runner;
+                self.last = time;
+                Answer::Ok
             }
-            Reply::Refused(refusal) => self.refused(
-                Stage::Over,
-                answering::replied(Reply::Refused(refusal)),
-            ),
+            Reply::Refused(refusal) => {
+                self.stage = Stage::Over;
+                answering::replied(Reply::Refused(refusal))
+            }
         }
     }
 
-    fn open(self, opening: Opening, store: &mut [u8], lengths: &mut [u32]) -> Answered
+    fn open(&mut self, opening: Opening, store: &mut [u8], lengths: &mut [u32]) -> Answer
         requires { (length store.old ≡ 65536) × (length lengths.old ≡ 1024) }
-        ensures { AnswersFirst (firstOf opening) self (stores store.old lengths.old)
-            result (stores store.new lengths.new) }
+        ensures { AnswersFirst (firstOf opening) self.old (stores store.old lengths.old)
+            self.new result (stores store.new lengths.new) }
     {
         let key = opening.key;
         let limits = opening.limits;
@@ -156,10 +131,10 @@ impl Standing {
         self.opened_by(runner, reply, opening.now, store, lengths)
     }
 
-    fn first(self, line: &[u8], store: &mut [u8], lengths: &mut [u32]) -> Answered
+    fn first(&mut self, line: &[u8], store: &mut [u8], lengths: &mut [u32]) -> Answer
         requires { (length line.now ≤ 65535) × (length store.old ≡ 65536) × (length lengths.old ≡ 1024) }
-        ensures { AnswersFirst (first (lineOpen line.now)) self (stores store.old lengths.old)
-            result (stores store.new lengths.new) }
+        ensures { AnswersFirst (first (lineOpen line.now)) self.old (stores store.old lengths.old)
+            self.new result (stores store.new lengths.new) }
     {
         let MaybeOpening::Some(opening) = open_of(line) else {
             return self.bad(Stage::Over);
@@ -170,56 +145,47 @@ impl Standing {
     // ---- a later line
 
     fn make(
-        self,
+        &mut self,
         call: Call,
         time: MaybeTime,
         store: &mut [u8],
         lengths: &mut [u32],
         work: &mut [u8],
-    ) -> Answered
+    ) -> Answer
         requires { (length store.old ≡ 65536) × (length work.old ≡ 65536) × TimeIs time call }
-        ensures { Answers (madeAt (callIs call work.old)) self (stores store.old lengths.old)
-            result (stores store.new lengths.new) work.new }
+        ensures { Answers (madeAt (callIs call work.old)) self.old (stores store.old lengths.old)
+            self.new result (stores store.new lengths.new) work.new }
     {
-        let runner = self.runner;
-        let making = make(runner, call, store, lengths, work);
-        let next = making.runner;
-        let answer = making.answer;
-        let last = remember(answering::is_refused(answer), time, self.last);
-        let standing = Standing {
-            stage: Stage::Running,
-            runner: next,
-            last,
-        };
-        Answered { standing, answer }
+        let answer = make(&mut self.runner, call, store, lengths, work);
+        self.stage = Stage::Running;
+        self.last = remember(answering::is_refused(answer), time, self.last);
+        answer
     }
 
     #[tactic(auto, unfolding(grammar::specs::Feed::later, crate::specs::Standing::placed))]
-    fn call(self, call: Call, store: &mut [u8], lengths: &mut [u32], work: &mut [u8]) -> Answered
+    fn call(&mut self, call: Call, store: &mut [u8], lengths: &mut [u32], work: &mut [u8]) -> Answer
         requires { (length store.old ≡ 65536) × (length work.old ≡ 65536) }
-        ensures { Answers (laterAt (some (callIs call work.old))) self (stores store.old lengths.old)
-            result (stores store.new lengths.new) work.new }
+        ensures { Answers (laterAt (some (callIs call work.old))) self.old (stores store.old lengths.old)
+            self.new result (stores store.new lengths.new) work.new }
     {
         let time = time_of(call);
         if is_back(time, self.last) {
-            let runner = self.runner;
-            let standing = Standing {
-                stage: Stage::Running,
-                runner,
-                last: self.last,
-            };
-            return Answered {
-                standing,
-                answer: Answer::Refused(31),
-            };
+            self.stage = Stage::Running;
+            return Answer::Refused(31);
         }
         self.make(call, time, store, lengths, work)
     }
 
-    fn later(self, line: &[u8], store: &mut [u8], lengths: &mut [u32], work: &mut [u8]) -> Answered
+    fn later(
+        &mut self,
+        line: &[u8],
+        store: &mut [u8],
+        lengths: &mut [u32],
+        work: &mut [u8],
+    ) -> Answer
         requires { (length line.now ≤ 65535) × (length store.old ≡ 65536) × (length work.old ≡ 65536) }
-        ensures { Answers (laterAt (lineCall line.now)) self (stores store.old lengths.old)
-            result (stores store.new lengths.new) work.new }
+        ensures { Answers (laterAt (lineCall line.now)) self.old (stores store.old lengths.old)
+            self.new result (stores store.new lengths.new) work.new }
     {
         let Line::Call(call) = call_of(line, work) else {
             return self.bad(Stage::Running);
@@ -231,15 +197,15 @@ impl Standing {
 
     #[tactic(auto, unfolding(grammar::specs::Feed::answered))]
     fn answered(
-        self,
+        &mut self,
         line: &[u8],
         store: &mut [u8],
         lengths: &mut [u32],
         work: &mut [u8],
-    ) -> Answered
+    ) -> Answer
         requires { (length line.now ≤ 65535) × (length store.old ≡ 65536) × (length lengths.old ≡ 1024) × (length work.old ≡ 65536) }
-        ensures { Answers (answeredAt line.now) self (stores store.old lengths.old)
-            result (stores store.new lengths.new) work.new }
+        ensures { Answers (answeredAt line.now) self.old (stores store.old lengths.old)
+            self.new result (stores store.new lengths.new) work.new }
     {
         let stage = self.stage;
         match stage {
@@ -250,8 +216,8 @@ impl Standing {
     }
 
     // A line of more than 65,535 bytes is refused whole; it is the first line where it stands first.
-    fn too_long(self) -> Answered
-        ensures { AnswersAny tooLongAt self result }
+    fn too_long(&mut self) -> Answer
+        ensures { AnswersAny tooLongAt self.old self.new result }
     {
         let stage = self.stage;
         match stage {
@@ -263,15 +229,15 @@ impl Standing {
 
     #[tactic(auto, unfolding(grammar::specs::Feed::answerOf))]
     pub fn answer(
-        self,
+        &mut self,
         line: &[u8],
         store: &mut [u8],
         lengths: &mut [u32],
         work: &mut [u8],
-    ) -> Answered
+    ) -> Answer
         requires { (length store.old ≡ 65536) × (length lengths.old ≡ 1024) × (length work.old ≡ 65536) }
-        ensures { Answers (answerAt line.now) self (stores store.old lengths.old)
-            result (stores store.new lengths.new) work.new }
+        ensures { Answers (answerAt line.now) self.old (stores store.old lengths.old)
+            self.new result (stores store.new lengths.new) work.new }
     {
         if line.len() <= 65535 {
             return self.answered(line, store, lengths, work);

@@ -10,7 +10,7 @@ pub returns : goal.returns
 returns c =
     let a = c.args in
     let t = take-fewer (c.smaller-k.result - 0) a.n a.work.now (omega (arith, c.smaller-k.ensures)) in
-    let e = c.input.ensures ∙ ap (λ (b : List ℕ). Runs.input a.runner a.key b a.store.now a.lengths.now) t in (
+    let e = c.input-hearing.ensures ∙ ap (λ (b : List ℕ). Runs.input a.runner.now a.key b a.store.now a.lengths.now) t in (
       c.heard.ensures.0 ∙ ap (λ (x : InputAfter). x.hearing.runner) e,
       ap (λ (x : InputAfter). x.bytes) e,
       ap (λ (x : InputAfter). x.lengths) e,

@@ -10,4 +10,4 @@ returns-in-First c = let e = c.in-First.is in rw e (rw e at (c.first.ensures c.a
 
 pub returns-in-Over : goal.returns-in-Over
 unfolding answered
-returns-in-Over c = rw c.in-Over.is (refused-made c.bad.result _ _ _ _ c.bad.ensures refl)
+returns-in-Over c = rw c.in-Over.is (refused-made _ c.bad.result _ _ _ _ c.bad.ensures refl)

@@ -9,7 +9,7 @@ pub returns-in_default : goal.returns-in_default
 unfolding first
 returns-in_default c w =
     let e = sym c.open_of.ensures ∙ ap openingIs c.in_default.is in
-    rw e (refused-made c.bad.result _ _ _ _ c.bad.ensures refl)
+    rw e (refused-made _ c.bad.result _ _ _ _ c.bad.ensures refl)
 
 pub returns : goal.returns
 returns c w = rw (← c.in-Some.ensures) (c.open.ensures w)

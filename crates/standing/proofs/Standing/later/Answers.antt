@@ -10,4 +10,4 @@ pub returns-in_default : goal.returns-in_default
 unfolding later
 returns-in_default c =
     let e = sym c.call_of.ensures ∙ ap (λ (x : Line). lineIs x c.call_of.new.work) c.in_default.is in
-    rw e (refused-made c.bad.result _ _ _ _ c.bad.ensures refl)
+    rw e (refused-made _ c.bad.result _ _ _ _ c.bad.ensures refl)

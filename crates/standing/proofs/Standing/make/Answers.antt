@@ -6,4 +6,4 @@ use Rattle.standing.proofs.Standing.make.Goals as goal
 pub returns : goal.returns
 returns c =
     let a = c.args in
-    made_at c.make-making.result (placeOf a.self (stores a.store.now a.lengths.now)) _ _ _ _ _ _ a.time c.make-making.ensures (c.is_refused.ensures _) (c.requires.2 _) c.remember-last.ensures
+    made_at _ c.make-answer.result (placeOf a.self.now (stores a.store.now a.lengths.now)) _ _ _ _ _ _ a.time c.make-answer.ensures (c.is_refused.ensures _) (c.requires.2 _) c.remember-self.ensures

@@ -6,4 +6,4 @@ use Rattle.standing.proofs.Standing.open.Goals as goal
 pub returns : goal.returns
 returns c =
     let a = c.args in
-    opened-first a.opening a.self (stores a.store.now a.lengths.now) c.opened_by.result _ c.open-noting.result c.open-noting.ensures c.requires.0 c.requires.1 c.opened_by.ensures
+    opened-first a.opening a.self.now (stores a.store.now a.lengths.now) _ c.opened_by.result _ c.open-noting.result c.open-noting.ensures c.requires.0 c.requires.1 c.opened_by.ensures

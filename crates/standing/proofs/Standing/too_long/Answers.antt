@@ -6,12 +6,12 @@ use Rattle.standing.proofs.Standing.too_long.Goals as goal
 
 pub returns-in-First : goal.returns-in-First
 unfolding tooLong
-returns-in-First c x w = rw c.in-First.is (refused-made c.bad.result _ _ _ _ c.bad.ensures refl)
+returns-in-First c x w = rw c.in-First.is (refused-made _ c.bad.result _ _ _ _ c.bad.ensures refl)
 
 pub returns-in-Running : goal.returns-in-Running
 unfolding tooLong
-returns-in-Running c x w = rw c.in-Running.is (refused-made c.bad-in-Running.result _ _ _ _ c.bad-in-Running.ensures refl)
+returns-in-Running c x w = rw c.in-Running.is (refused-made _ c.bad-in-Running.result _ _ _ _ c.bad-in-Running.ensures refl)
 
 pub returns-in-Over : goal.returns-in-Over
 unfolding tooLong
-returns-in-Over c x w = rw c.in-Over.is (refused-made c.bad-in-Over.result _ _ _ _ c.bad-in-Over.ensures refl)
+returns-in-Over c x w = rw c.in-Over.is (refused-made _ c.bad-in-Over.result _ _ _ _ c.bad-in-Over.ensures refl)
