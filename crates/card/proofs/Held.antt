@@ -8,7 +8,8 @@ use lib.ListN.{length, take, drop, length-take, length-drop}
 use lib.Seq.{take_all, take_at, take-append-add, length-take-le, length_paste_head}
 use Rattle.ring.specs.Runs.{copied}
 use Rattle.ring.specs.Lent.{copied_all}
-use Rattle.standing.specs.declared.Answered.{Answered}
+use Rattle.standing.specs.declared.Standing.{Standing}
+use Rattle.answering.specs.declared.Answer.{Answer}
 use Rattle.card.specs.declared.feed.Card.{Card}
 use Rattle.syntax.specs.Answers.{lineText}
 use Rattle.grammar.specs.Feed as Feed
@@ -59,15 +60,15 @@ holds c line piece from to n h l f t e =
     }
 
 -- the line that is held is answered
-pub ends-line : (c : Card) (before : Lent) (r : Answered) (after : Lent) (work : List ℕ) (at to : ℕ)
-    → Answers (answerAt (take (c.held - 0) before.line)) c.standing before.stores r after.stores work
-    → Wrote 131200 before.out after.out at to (lineText (c.lines + 1) (answerIs r.answer work))
-    → EndsLine at c before (record { card = record { standing = r.standing; lines = c.lines + 1; held = 0 }; at = to }) after
+pub ends-line : (c : Card) (before : Lent) (s : Standing) (a : Answer) (after : Lent) (work : List ℕ) (at to : ℕ)
+    → Answers (answerAt (take (c.held - 0) before.line)) c.standing before.stores s a after.stores work
+    → Wrote 131200 before.out after.out at to (lineText (c.lines + 1) (answerIs a work))
+    → EndsLine at c before (record { standing = s; lines = c.lines + 1; held = 0 }) to after
 unfolding lineEnds
-ends-line c before r after work at to h w =
+ends-line c before s a after work at to h w =
     let z : c.held - 0 ≡ c.held = omega arith in
     let k = rw z at h in
-    let stage = placed-is (placeOf r.standing after.stores) _ _ k.0 in
+    let stage = placed-is (placeOf s after.stores) _ _ k.0 in
     record {
       stands = record {
         session = ap (λ (s : Feed.Stage). record { stage = s; lines = c.lines + 1; held = [] }) stage;

@@ -12,7 +12,6 @@ use native.Mathlib.Nat.{zero-add, sub-zero}
 use lib.Seq.{length-take-le, take-add, drop-drop}
 use Rattle.ring.specs.Runs.{copied-zero}
 use Rattle.card.specs.declared.feed.Card.{Card}
-use Rattle.card.specs.declared.feed.Printed.{Printed}
 use Rattle.standing.specs.declared.Standing.{Standing}
 use Rattle.card.specs.declared.feed.Turn.{Turn}
 use Rattle.grammar.specs.Feed.{Session, lineEnds, feeds, pieces, ends}
@@ -20,7 +19,7 @@ use Rattle.card.specs.Feeding.{eaten, goesOn, lineLength, holdAll, line-most, li
 use Rattle.card.specs.Laying.{laid, laid-pieces, laid_end, line-lays}
 use Rattle.card.specs.Holding.{Lent, placeIn, sessionOf, Stands, Holds, EndsLine}
 use Rattle.standing.specs.Standing.{Place, placeOf, placed}
-use Rattle.card.specs.Turning.{If, Answered, Stopped, Passes, Feeds, toEat, Goes, canEat, Fed, ended, Ended}
+use Rattle.card.specs.Turning.{If, Answered, Stopped, Passes, Feeds, toEat, Goes, canEat, ended, Ended}
 use Rattle.standing.specs.Standing.{placed-own}
 use Rattle.card.proofs.Opens.{placed_on}
 use Rattle.printing.specs.Written.{Wrote, same_text, joined}
@@ -82,8 +81,8 @@ feeds-on a b c d e x y z at m to f g =
     }
 
 -- the end of a line
-feeds-line : (c : Card) (x : Lent) (r : Printed) (y : Lent) (at : ℕ) → EndsLine at c x r y → y.line ≡ x.line → Feeds (10 ∷ []) c x at r.card y r.at
-feeds-line c x r y at h l =
+feeds-line : (c : Card) (x : Lent) (r : Card) (y : Lent) (at to : ℕ) → EndsLine at c x r to y → y.line ≡ x.line → Feeds (10 ∷ []) c x at r y to
+feeds-line c x r y at to h l =
     let e = feeds-end (sessionOf c x) in
     record { stands = stands-as (sym e.0) h.stands; area = l ∙ sym (laid_end (sessionOf c x) x.line); printed = same_text (sym e.1) (bound h.printed) }
 
@@ -166,7 +165,7 @@ module _ (piece : List ℕ) (t : Turn) (before : Lent) (c : Card) (line : List �
           k = lineLength bs + 1;
           used = on;
           most = omega arith;
-          fed = rw (to-line-end bs less) (feeds-on _ _ _ _ _ _ _ _ _ _ _ held-fed (feeds-line c mid (record { card = r.card; at = r.at }) after t.at p.ends same));
+          fed = rw (to-line-end bs less) (feeds-on _ _ _ _ _ _ _ _ _ _ _ held-fed (feeds-line c mid r.card after t.at r.at p.ends same));
           eats = rw (p.more, next, left, rest) (line-answered s (length before.out - t.at) bs held-few less g);
           further = λ x. omega arith;
         }
@@ -210,10 +209,10 @@ fewer false used used' n k e l f m = omega arith
 
 -- ---- the end of the input
 
-pub ended_some : (c : Card) (x : Lent) (r : Printed) (y : Lent) → c.held ≤ 65536 → length x.line ≡ 65536 → 0 < c.held → EndsLine 0 c x r y
-    → Ended c x (record { card = r.card; used = 0; printed = r.at }) y
+pub ended_some : (c : Card) (x : Lent) (r : Card) (to : ℕ) (y : Lent) → c.held ≤ 65536 → length x.line ≡ 65536 → 0 < c.held → EndsLine 0 c x r to y
+    → Ended c x (record { card = r; used = 0; printed = to }) y
 unfolding ended ends
-ended_some c x r y h l m e =
+ended_some c x r to y h l m e =
     let size : length (take c.held x.line) ≡ c.held = length-take-le c.held x.line (omega arith) in
     let some = ne_eqb (length (take c.held x.line)) 0 (λ z. absurd (omega arith)) in
     record { used = refl; stands = rw some e.stands; printed = rw some (bound e.printed) }

@@ -1,7 +1,6 @@
 -- What is lent to a card, the session that it is, and the line that it holds.
 use Rattle.std.specs.Prelude.{◌≡◌, List, ◌++◌, ℕ, ◌-◌, ◌≤◌, length, take}
 use Rattle.card.specs.declared.feed.Card.{Card}
-use Rattle.card.specs.declared.feed.Printed.{Printed}
 use Rattle.printing.specs.Written.{Wrote}
 use Rattle.grammar.specs.Feed.{Session, lineEnds}
 use Rattle.card.specs.Laying.{put}
@@ -42,7 +41,7 @@ pub record Holds (bytes : List ℕ) (c : Card) (line : List ℕ) (r : Card) (lin
   pub most : r.held ≤ 65536
   pub area : line' ≡ put line c.held (take (65536 - c.held) bytes)
 
--- the line that is held is answered, and its answer written from index `at` on
-pub record EndsLine (at : ℕ) (c : Card) (before : Lent) (r : Printed) (after : Lent) : Type 0 where
-  pub stands : Stands (lineEnds (sessionOf c before)).session (placeIn c before) r.card after
-  pub printed : Wrote 131200 before.out after.out at r.at (lineEnds (sessionOf c before)).printed
+-- the line that is held is answered, and its answer written from index `at` to before index `to`
+pub record EndsLine (at : ℕ) (c : Card) (before : Lent) (r : Card) (to : ℕ) (after : Lent) : Type 0 where
+  pub stands : Stands (lineEnds (sessionOf c before)).session (placeIn c before) r after
+  pub printed : Wrote 131200 before.out after.out at to (lineEnds (sessionOf c before)).printed

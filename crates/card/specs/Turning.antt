@@ -23,7 +23,7 @@ If false this that = that
 
 -- the line that is held ends at index `end` of the piece: it is answered, from index `at` of the output area on
 pub record Answered (at end : ℕ) (c : Card) (before : Lent) (r : Turn) (after : Lent) : Type 0 where
-  pub ends : EndsLine at c before (record { card = r.card; at = r.at }) after
+  pub ends : EndsLine at c before r.card r.at after
   pub used : r.used ≡ end + 1
   pub more : r.more ≡ true
 

@@ -18,13 +18,6 @@ pub struct Card {
     pub held: usize,
 }
 
-// The card after a line, and where the next answer goes.
-#[derive(Clone, Copy)]
-pub(crate) struct Printed {
-    pub(crate) card: Card,
-    pub(crate) at: usize,
-}
-
 // The card after a piece, how many bytes of the piece it has eaten, and how many bytes of the output area have answers.
 #[derive(Clone, Copy)]
 pub struct Eaten {
@@ -53,50 +46,35 @@ fn line_end(piece: &[u8], from: usize) -> usize
 
 impl Card {
     // Bytes of a line, of which no more are held than tell that it is too long.
-    fn hold(self, line: &mut [u8], piece: &[u8], from: usize, to: usize) -> Card
-        requires { (from ≤ to) × (to ≤ length piece.now) × (self.held ≤ 65536) × (length line.old ≡ 65536) }
-        ensures { Holds (take (to - from) (drop from piece.now)) self line.old result line.new }
+    fn hold(&mut self, line: &mut [u8], piece: &[u8], from: usize, to: usize)
+        requires { (from ≤ to) × (to ≤ length piece.now) × (self.old.held ≤ 65536) × (length line.old ≡ 65536) }
+        ensures { Holds (take (to - from) (drop from piece.now)) self.old line.old self.new line.new }
     {
-        let held = self.held;
-        let n = smaller(to - from, 65536 - held);
-        copy_in(line, held, piece, from, n);
-        let standing = self.standing;
-        Card {
-            standing,
-            lines: self.lines,
-            held: held + n,
-        }
+        let n = smaller(to - from, 65536 - self.held);
+        copy_in(line, self.held, piece, from, n);
+        self.held += n;
     }
 
-    // The line that is held ends: its answer is written from index `at` on.
+    // The line that is held ends: its answer is written from index `at` on, and the index behind it returned.
     fn end_line(
-        self,
+        &mut self,
         line: &[u8],
         store: &mut [u8],
         lengths: &mut [u32],
         work: &mut [u8],
         out: &mut [u8],
         at: usize,
-    ) -> Printed
-        requires { Areas line.now store.old lengths.old work.old × (self.held ≤ 65536) × (self.lines < 18446744073709551615) × (at + 131200 ≤ length out.old) }
-        ensures { EndsLine at self (lent line.now store.old lengths.old out.old)
-            result (lent line.now store.new lengths.new out.new) }
+    ) -> usize
+        requires { Areas line.now store.old lengths.old work.old × (self.old.held ≤ 65536) × (self.old.lines < 18446744073709551615) × (at + 131200 ≤ length out.old) }
+        ensures { EndsLine at self.old (lent line.now store.old lengths.old out.old)
+            self.new result (lent line.now store.new lengths.new out.new) }
     {
-        let held = self.held;
-        let number = self.lines + 1;
-        let standing = self.standing;
-        let answered = standing.answer(&line[0..held], store, lengths, work);
-        let answer = answered.answer;
-        let end = answering::write_line(number, answer, work, out, at);
-        let next = answered.standing;
-        Printed {
-            card: Card {
-                standing: next,
-                lines: number,
-                held: 0,
-            },
-            at: end,
-        }
+        let answer = self
+            .standing
+            .answer(&line[0..self.held], store, lengths, work);
+        self.lines += 1;
+        self.held = 0;
+        answering::write_line(self.lines, answer, work, out, at)
     }
 }
 
@@ -111,68 +89,51 @@ pub(crate) struct Turn {
     pub(crate) more: bool,
 }
 
-impl Card {
-    // The line that is held ends at index `end` of the piece: it is answered if there is room.
+impl Turn {
+    // The line that is held ends where so much of the piece is eaten: it is answered if there is room.
     fn pass_line(
-        self,
-        end: usize,
+        &mut self,
         line: &[u8],
         store: &mut [u8],
         lengths: &mut [u32],
         work: &mut [u8],
         out: &mut [u8],
-        at: usize,
-    ) -> Turn
-        requires { Areas line.now store.old lengths.old work.old × (self.held ≤ 65536) × (at ≤ length out.old) × (end < 18446744073709551615) }
-        ensures { Passes at end self (lent line.now store.old lengths.old out.old)
-            result (lent line.now store.new lengths.new out.new) }
+    )
+        requires { Areas line.now store.old lengths.old work.old × (self.old.card.held ≤ 65536) × (self.old.at ≤ length out.old) × (self.old.used < 18446744073709551615) }
+        ensures { Passes self.old.at self.old.used self.old.card (lent line.now store.old lengths.old out.old)
+            self.new (lent line.now store.new lengths.new out.new) }
     {
-        if (131200 <= out.len() - at) & (self.lines < 18446744073709551615) {
-            let printed = self.end_line(line, store, lengths, work, out, at);
-            let next = printed.card;
-            return Turn {
-                card: next,
-                used: end + 1,
-                at: printed.at,
-                more: true,
-            };
-        }
-        Turn {
-            card: self,
-            used: end,
-            at,
-            more: false,
+        if (131200 <= out.len() - self.at) & (self.card.lines < 18446744073709551615) {
+            self.at = self.card.end_line(line, store, lengths, work, out, self.at);
+            self.used += 1;
+            self.more = true;
+        } else {
+            self.more = false;
         }
     }
-}
 
-// To the end of a line and its answer; or to where the piece ends, or the area may not hold the next answer.
-fn go_on(
-    t: Turn,
-    line: &mut [u8],
-    store: &mut [u8],
-    lengths: &mut [u32],
-    work: &mut [u8],
-    piece: &[u8],
-    out: &mut [u8],
-) -> Turn
-    requires { Areas line.old store.old lengths.old work.old × (t.card.held ≤ 65536) × (t.at ≤ length out.old) × (t.used ≤ length piece.now) }
-    ensures { Goes piece.now t (lent line.old store.old lengths.old out.old)
-        result (lent line.new store.new lengths.new out.new) }
-{
-    let from = t.used;
-    let at = t.at;
-    let end = line_end(piece, from);
-    let before = t.card;
-    let card = before.hold(line, piece, from, end);
-    if end < piece.len() {
-        return card.pass_line(end, line, store, lengths, work, out, at);
-    }
-    Turn {
-        card,
-        used: end,
-        at,
-        more: false,
+    // To the end of a line and its answer; or to where the piece ends, or the area may not hold the next answer.
+    fn go_on(
+        &mut self,
+        line: &mut [u8],
+        store: &mut [u8],
+        lengths: &mut [u32],
+        work: &mut [u8],
+        piece: &[u8],
+        out: &mut [u8],
+    )
+        requires { Areas line.old store.old lengths.old work.old × (self.old.card.held ≤ 65536) × (self.old.at ≤ length out.old) × (self.old.used ≤ length piece.now) }
+        ensures { Goes piece.now self.old (lent line.old store.old lengths.old out.old)
+            self.new (lent line.new store.new lengths.new out.new) }
+    {
+        let end = line_end(piece, self.used);
+        self.card.hold(line, piece, self.used, end);
+        self.used = end;
+        if end < piece.len() {
+            self.pass_line(line, store, lengths, work, out);
+        } else {
+            self.more = false;
+        }
     }
 }
 
@@ -223,7 +184,7 @@ impl Card {
             more: true,
         };
         while t.more {
-            t = go_on(t, line, store, lengths, work, piece, out);
+            t.go_on(line, store, lengths, work, piece, out);
         }
         let card = t.card;
         Eaten {
@@ -271,12 +232,12 @@ impl Card {
             result (lent line.now store.new lengths.new out.new) }
     {
         if 0 < self.held {
-            let last = self.end_line(line, store, lengths, work, out, 0);
-            let card = last.card;
+            let mut card = self;
+            let printed = card.end_line(line, store, lengths, work, out, 0);
             return Eaten {
                 card,
                 used: 0,
-                printed: last.at,
+                printed,
             };
         }
         Eaten {

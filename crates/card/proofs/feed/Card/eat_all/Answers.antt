@@ -10,7 +10,7 @@ pub loop-t-preserved : goal.loop-t-preserved
 loop-t-preserved c =
     let l = c.loop-t in
     let a = l.invariant.0 in
-    let g = c.go_on-t in
+    let g = c.go_on in
     let line : length g.new.line ≡ length l.line = search rules in
     let store : length g.new.store ≡ length l.store = search rules in
     let lengths : length g.new.lengths ≡ length l.lengths = search rules in

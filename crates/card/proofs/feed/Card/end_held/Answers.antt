@@ -5,7 +5,7 @@ use Rattle.card.proofs.feed.Card.end_held.Goals as goal
 
 pub returns-then-self-gt0 : goal.returns-then-self-gt0
 returns-then-self-gt0 c =
-    let l = c.end_line-last in ended_some c.args.self _ l.result _ c.requires.1 c.requires.0.0 c.if-self-gt0.true l.ensures
+    let l = c.end_line-printed in ended_some c.args.self _ l.new.self l.result _ c.requires.1 c.requires.0.0 c.if-self-gt0.true l.ensures
 
 pub returns : goal.returns
 returns c = ended-none c.args.self _ c.requires.0.0 (omega (arith, c.if-self-gt0.false))

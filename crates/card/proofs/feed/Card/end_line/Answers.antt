@@ -6,4 +6,4 @@ use Rattle.card.proofs.feed.Card.end_line.Goals as goal
 pub returns : goal.returns
 returns c =
     let a = c.args in
-    ends-line a.self (lent a.line.now a.store.now a.lengths.now a.out.now) c.answer-answered.result _ _ a.at c.write_line-end.result c.answer-answered.ensures c.write_line-end.ensures
+    ends-line a.self.now (lent a.line.now a.store.now a.lengths.now a.out.now) _ c.answer-answer.result _ _ a.at c.write_line.result c.answer-answer.ensures c.write_line.ensures

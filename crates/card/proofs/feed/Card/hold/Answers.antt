@@ -6,4 +6,4 @@ pub returns : goal.returns
 returns c =
     let a = c.args in
     let r = c.requires in
-    rw c.copy_in.ensures (holds a.self a.line.now a.piece.now a.from a.to _ r.2 r.3 r.0 r.1 c.smaller-n.ensures)
+    rw c.copy_in.ensures (holds a.self.now a.line.now a.piece.now a.from a.to _ r.2 r.3 r.0 r.1 c.smaller-n.ensures)
