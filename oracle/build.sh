@@ -4,5 +4,7 @@ set -e
 . "$(dirname "$0")/lib.sh"
 lay_out instant instant
 lay_out nanos nanos
-compile instant oracle
-compile nanos oracle64
+# Library, program and the standard library as one: slow to build, so for these two alone.
+compile instant oracle "-C lto=fat" &
+compile nanos oracle64 "-C lto=fat"
+wait $!

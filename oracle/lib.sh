@@ -23,11 +23,11 @@ rust() {
     rustc --edition 2024 -O -C target-cpu=x86-64-v2 -C codegen-units=1 -C strip=symbols "$@"
 }
 
-# Compiles the library in target/$1, and over it the program target/$2.
+# Compiles the library in target/$1, and over it the program target/$2, with the flags in $3, if any.
 compile() {
     rust --crate-type rlib --crate-name nvx --cap-lints allow \
         -o "target/$1/libnvx.rlib" "target/$1/lib.rs"
-    rust --extern "nvx=target/$1/libnvx.rlib" -o "target/$2" src/main.rs
+    rust --extern "nvx=target/$1/libnvx.rlib" ${3-} -o "target/$2" src/main.rs
 }
 
 # Compiles one of our own programs, src/$1.rs.

@@ -12,7 +12,7 @@ count="${1:-20000}"
 [ $# -gt 0 ] && shift
 for name in generate mutate compare; do tool "$name"; done
 lay_out nanos nanos
-compile nanos oracle64
+compile nanos oracle64 "-C lto=fat"
 if [ "$count" = sample ]; then
     part_sample
     cards=target/sample told=target/told-sample
@@ -29,8 +29,8 @@ mkdir -p $told target/mutants
 # Builds the mutant $2 of the list $1, unless it is there, as it is, and newer than the oracle.
 build() {
     target/mutate "$1" "$2" >target/mutant.edit
-    newer=$(find lib.sh nvx src/main.rs src/card.rs src/ring.rs src/session.rs \
-        -newer "target/mutants/$2" 2>/dev/null || echo all)
+    newer=$(find lib.sh nvx src/main.rs src/answers.rs src/card.rs src/lines.rs src/ring.rs \
+        src/session.rs -newer "target/mutants/$2" 2>/dev/null || echo all)
     [ -n "$newer" ] || ! cmp -s target/mutant.edit "target/mutants/$2.edit" || return 0
     lay_out mutant nanos
     target/mutate "$1" "$2" target/mutant/exec

@@ -1,12 +1,13 @@
 //! The lines of a session card: what each says, or nothing where it is no line of the card.
 
-use std::str::FromStr;
-
 use nvx::exec::{Cause, Key, LaunchFailure, Pool, Settlement, Status, Stream, Window};
 
 /// The longest line, and the largest message buffer, in bytes.
 const LINE: usize = 65_535;
 const BUFFER: usize = 16_384;
+
+/// The room that a line may need beside it: for the bytes of its digits, or for a message.
+pub const ROOM: usize = LINE / 2;
 
 /// How long a program may run whose TIMEOUT is missing, in nanoseconds.
 const HOUR: u64 = 3_600_000_000_000;
@@ -25,15 +26,16 @@ pub struct Open {
     pub settlement: u64,
 }
 
-/// A call of the runner, in the order of its methods; a u64 in front is the call's time.
-pub enum Call {
+/// A call of the runner, in the order of its methods; a u64 in front is the call's time. Bytes are
+/// lent, and so is a message's buffer.
+pub enum Call<'a> {
     Credit(Key, Pool, u32),
-    Input(Key, Vec<u8>),
+    Input(Key, &'a [u8]),
     EndInput(Key),
     Cancel(u64, Key, Cause),
     Launched(Result<(), LaunchFailure>),
     ReadAllowance(Stream),
-    Output(Stream, Vec<u8>),
+    Output(Stream, &'a [u8]),
     Discarded(Stream, usize),
     OutputClosed(Stream),
     OutputFailed(Stream),
@@ -49,7 +51,7 @@ pub enum Call {
     Tick(u64),
     Deadline,
     Request,
-    Message(usize),
+    Message(&'a mut [u8]),
     IsFinished,
     IsDetached,
     AwaitsSettlement,
@@ -58,7 +60,7 @@ pub enum Call {
     HighWater,
 }
 
-impl Call {
+impl Call<'_> {
     /// The call's time, if it has one.
     pub fn now(&self) -> Option<u64> {
         match *self {
@@ -72,195 +74,248 @@ impl Call {
 
 /// Reads the line that opens a session.
 pub fn open(line: &[u8]) -> Option<Open> {
-    let fields = fields(line)?;
-    let [
-        "open",
-        now,
-        id,
-        generation,
-        ref limits @ ..,
-        timeout,
-        grace,
-        settlement,
-    ] = fields[..]
-    else {
+    let mut fields = Fields::of(line)?;
+    if fields.next()? != b"open" {
         return None;
-    };
-    let &[
-        chunk,
-        input_unit,
-        input_size,
-        output_unit,
-        output_size,
-        shared,
-    ] = limits
-    else {
-        return None;
-    };
+    }
     Some(Open {
-        now: number(now)?,
-        key: key(id, generation)?,
-        chunk: number(chunk)?,
-        input: window(input_unit, input_size)?,
-        output: window(output_unit, output_size)?,
-        shared: truth(shared)?,
-        timeout: limit(timeout)?,
-        grace: number(grace)?,
-        settlement: number(settlement)?,
+        now: number(fields.next()?)?,
+        key: key(fields.next()?, fields.next()?)?,
+        chunk: number(fields.next()?)?,
+        input: window(fields.next()?, fields.next()?)?,
+        output: window(fields.next()?, fields.next()?)?,
+        shared: truth(fields.next()?)?,
+        timeout: limit(fields.next()?)?,
+        grace: number(fields.next()?)?,
+        settlement: number(fields.last())?,
     })
 }
 
-/// Reads a line that calls the runner.
-pub fn call(line: &[u8]) -> Option<Call> {
-    Some(match fields(line)?[..] {
-        ["credit", id, generation, name, units] => {
-            Call::Credit(key(id, generation)?, pool(name)?, number(units)?)
+/// Reads a line that calls the runner. What it lends stands in the room.
+pub fn call<'a>(line: &[u8], room: &'a mut [u8]) -> Option<Call<'a>> {
+    let mut fields = Fields::of(line)?;
+    let Some(word) = fields.next() else {
+        return bare(line);
+    };
+    Some(match word {
+        b"credit" => {
+            let key = key(fields.next()?, fields.next()?)?;
+            Call::Credit(key, pool(fields.next()?)?, number(fields.last())?)
         }
-        ["input", id, generation, hex] => Call::Input(key(id, generation)?, bytes(hex)?),
-        ["end_input", id, generation] => Call::EndInput(key(id, generation)?),
-        ["cancel", now, id, generation, name] => {
-            Call::Cancel(number(now)?, key(id, generation)?, cause(name)?)
+        b"input" => {
+            let key = key(fields.next()?, fields.next()?)?;
+            Call::Input(key, bytes(fields.last(), room)?)
         }
-        ["launched", "0", "-", "-"] => Call::Launched(Ok(())),
-        ["launched", "1", stage, error] => {
-            Call::Launched(Err(LaunchFailure::new(number(stage)?, signed(error)?)))
+        b"end_input" => Call::EndInput(key(fields.next()?, fields.last())?),
+        b"cancel" => {
+            let now = number(fields.next()?)?;
+            let key = key(fields.next()?, fields.next()?)?;
+            Call::Cancel(now, key, cause(fields.last())?)
         }
-        ["read_allowance", name] => Call::ReadAllowance(stream(name)?),
-        ["output", name, hex] => Call::Output(stream(name)?, bytes(hex)?),
-        ["discarded", name, count] => Call::Discarded(stream(name)?, number(count)?),
-        ["output_closed", name] => Call::OutputClosed(stream(name)?),
-        ["output_failed", name] => Call::OutputFailed(stream(name)?),
-        ["output_hung_up", name] => Call::OutputHungUp(stream(name)?),
-        ["pending_input"] => Call::PendingInput,
-        ["input_written", count] => Call::InputWritten(number(count)?),
-        ["input_closed"] => Call::InputClosed,
-        ["exited", now, field] => Call::Exited(number(now)?, optional(field, status)?),
-        ["settled", "Settled"] => Call::Settled(Settlement::Settled),
-        ["settled", "Failed"] => Call::Settled(Settlement::Failed),
-        ["dropped", now] => Call::Dropped(number(now)?),
-        ["reset", now] => Call::Reset(number(now)?),
-        ["disconnect", now] => Call::Disconnect(number(now)?),
-        ["tick", now] => Call::Tick(number(now)?),
-        ["deadline"] => Call::Deadline,
-        ["request"] => Call::Request,
-        ["message", length] => Call::Message(number(length).filter(|&n| n <= BUFFER)?),
-        ["is_finished"] => Call::IsFinished,
-        ["is_detached"] => Call::IsDetached,
-        ["awaits_settlement"] => Call::AwaitsSettlement,
-        ["memory_bound"] => Call::MemoryBound,
-        ["buffered"] => Call::Buffered,
-        ["high_water"] => Call::HighWater,
+        b"launched" => Call::Launched(launch(fields)?),
+        b"read_allowance" => Call::ReadAllowance(stream(fields.last())?),
+        b"output" => Call::Output(stream(fields.next()?)?, bytes(fields.last(), room)?),
+        b"discarded" => Call::Discarded(stream(fields.next()?)?, number(fields.last())?),
+        b"output_closed" => Call::OutputClosed(stream(fields.last())?),
+        b"output_failed" => Call::OutputFailed(stream(fields.last())?),
+        b"output_hung_up" => Call::OutputHungUp(stream(fields.last())?),
+        b"input_written" => Call::InputWritten(number(fields.last())?),
+        b"exited" => Call::Exited(number(fields.next()?)?, optional(fields.last(), status)?),
+        b"settled" => Call::Settled(settlement(fields.last())?),
+        b"dropped" => Call::Dropped(number(fields.last())?),
+        b"reset" => Call::Reset(number(fields.last())?),
+        b"disconnect" => Call::Disconnect(number(fields.last())?),
+        b"tick" => Call::Tick(number(fields.last())?),
+        b"message" => {
+            let length = number(fields.last()).filter(|&length| length <= BUFFER)?;
+            Call::Message(&mut room[..length])
+        }
         _ => return None,
     })
 }
 
-/// Parts a line at its commas. No field of a good line holds anything but ASCII.
-fn fields(line: &[u8]) -> Option<Vec<&str>> {
-    if line.len() > LINE {
-        return None;
+/// Reads a line that has no comma.
+fn bare(line: &[u8]) -> Option<Call<'static>> {
+    Some(match line {
+        b"pending_input" => Call::PendingInput,
+        b"input_closed" => Call::InputClosed,
+        b"deadline" => Call::Deadline,
+        b"request" => Call::Request,
+        b"is_finished" => Call::IsFinished,
+        b"is_detached" => Call::IsDetached,
+        b"awaits_settlement" => Call::AwaitsSettlement,
+        b"memory_bound" => Call::MemoryBound,
+        b"buffered" => Call::Buffered,
+        b"high_water" => Call::HighWater,
+        _ => return None,
+    })
+}
+
+/// What is left of a line, parted at its commas. No field of a good line holds anything but ASCII.
+struct Fields<'a>(&'a [u8]);
+
+impl<'a> Fields<'a> {
+    fn of(line: &'a [u8]) -> Option<Self> {
+        (line.len() <= LINE).then_some(Self(line))
     }
-    Some(std::str::from_utf8(line).ok()?.split(',').collect())
+
+    /// The next field, which a comma ends.
+    fn next(&mut self) -> Option<&'a [u8]> {
+        let comma = self.0.iter().position(|&byte| byte == b',')?;
+        let field = &self.0[..comma];
+        self.0 = &self.0[comma + 1..];
+        Some(field)
+    }
+
+    /// The last field: all that is left. Whoever reads it takes no comma, so none is looked for.
+    fn last(self) -> &'a [u8] {
+        self.0
+    }
 }
 
 /// Digits, at least one, within the type.
-fn number<T: FromStr>(field: &str) -> Option<T> {
-    let digits = !field.is_empty() && field.bytes().all(|byte| byte.is_ascii_digit());
-    digits.then(|| field.parse().ok())?
+fn number<T: TryFrom<u64>>(field: &[u8]) -> Option<T> {
+    if field.is_empty() {
+        return None;
+    }
+    let mut number = 0u64;
+    for byte in field {
+        let digit = byte.wrapping_sub(b'0');
+        if digit > 9 {
+            return None;
+        }
+        number = number.checked_mul(10)?.checked_add(digit.into())?;
+    }
+    number.try_into().ok()
 }
 
 /// A number that may have a minus in front.
-fn signed(field: &str) -> Option<i32> {
-    let digits = field.strip_prefix('-').unwrap_or(field);
-    let good = !digits.is_empty() && digits.bytes().all(|byte| byte.is_ascii_digit());
-    good.then(|| field.parse().ok())?
+fn signed(field: &[u8]) -> Option<i32> {
+    let number = match field {
+        [b'-', digits @ ..] => -number::<i64>(digits)?,
+        _ => number(field)?,
+    };
+    number.try_into().ok()
 }
 
 /// A field that "-" leaves out.
-fn optional<T>(field: &str, read: fn(&str) -> Option<T>) -> Option<Option<T>> {
+fn optional<T>(field: &[u8], read: fn(&[u8]) -> Option<T>) -> Option<Option<T>> {
     match field {
-        "-" => Some(None),
+        b"-" => Some(None),
         _ => read(field).map(Some),
     }
 }
 
 /// How long a program may run, where there is a limit.
-fn limit(field: &str) -> Option<Option<u64>> {
+fn limit(field: &[u8]) -> Option<Option<u64>> {
     match field {
-        "-" => Some(Some(HOUR)),
-        "never" => Some(None),
+        b"-" => Some(Some(HOUR)),
+        b"never" => Some(None),
         _ => number(field).map(Some),
     }
 }
 
-fn truth(field: &str) -> Option<bool> {
+fn truth(field: &[u8]) -> Option<bool> {
     match field {
-        "0" => Some(false),
-        "1" => Some(true),
+        b"0" => Some(false),
+        b"1" => Some(true),
         _ => None,
     }
 }
 
-fn bytes(field: &str) -> Option<Vec<u8>> {
-    let (pairs, []) = field.as_bytes().as_chunks::<2>() else {
+/// Two digits a byte; the bytes stand at the start of the room. No digit is a way out of the loop,
+/// so the compiler takes many at once.
+fn bytes<'a>(field: &[u8], room: &'a mut [u8]) -> Option<&'a [u8]> {
+    let (pairs, []) = field.as_chunks() else {
         return None;
     };
-    let byte = |&[high, low]: &[u8; 2]| Some(digit(high)? << 4 | digit(low)?);
-    pairs.iter().map(byte).collect()
-}
-
-fn digit(byte: u8) -> Option<u8> {
-    match byte {
-        b'0'..=b'9' => Some(byte - b'0'),
-        b'a'..=b'f' => Some(byte - b'a' + 10),
-        _ => None,
+    let bytes = &mut room[..pairs.len()];
+    let mut worst = 0;
+    for (byte, &pair) in bytes.iter_mut().zip(pairs) {
+        let [high, low] = pair.map(digit);
+        worst |= high | low;
+        *byte = high << 4 | low;
     }
+    (worst < 16).then_some(bytes)
 }
 
-fn key(id: &str, generation: &str) -> Option<Key> {
+/// What a hex digit stands for; 16 or more for any other byte.
+fn digit(byte: u8) -> u8 {
+    // Counted from the byte past '9', the digits are 246 to 255 and come to 0 to 9; any other byte
+    // is 245 at most and comes to 16 or more.
+    let number = byte
+        .wrapping_sub(b'9' + 1)
+        .saturating_sub(6)
+        .wrapping_add(16);
+    let letter = byte.wrapping_sub(b'a').saturating_add(10);
+    number.min(letter)
+}
+
+fn key(id: &[u8], generation: &[u8]) -> Option<Key> {
     Some(Key::new(number(id)?, number(generation)?))
 }
 
-fn window(unit: &str, size: &str) -> Option<Window> {
+fn window(unit: &[u8], size: &[u8]) -> Option<Window> {
     match unit {
-        "B" => number(size).map(Window::bytes),
-        "F" => number(size).map(Window::frames),
+        b"B" => number(size).map(Window::bytes),
+        b"F" => number(size).map(Window::frames),
         _ => None,
     }
 }
 
-fn status(field: &str) -> Option<Status> {
-    match field.split_at_checked(1)? {
-        ("E", code) => signed(code).map(Status::Exited),
-        ("S", signal) => signed(signal).map(Status::Signaled),
+fn status(field: &[u8]) -> Option<Status> {
+    match field {
+        [b'E', code @ ..] => signed(code).map(Status::Exited),
+        [b'S', signal @ ..] => signed(signal).map(Status::Signaled),
         _ => None,
     }
 }
 
-fn stream(name: &str) -> Option<Stream> {
+/// The last three fields of launched.
+fn launch(mut fields: Fields) -> Option<Result<(), LaunchFailure>> {
+    match fields.next()? {
+        b"0" => (fields.last() == b"-,-").then_some(Ok(())),
+        b"1" => {
+            let stage = number(fields.next()?)?;
+            Some(Err(LaunchFailure::new(stage, signed(fields.last())?)))
+        }
+        _ => None,
+    }
+}
+
+fn settlement(name: &[u8]) -> Option<Settlement> {
     match name {
-        "Stdout" => Some(Stream::Stdout),
-        "Stderr" => Some(Stream::Stderr),
+        b"Settled" => Some(Settlement::Settled),
+        b"Failed" => Some(Settlement::Failed),
         _ => None,
     }
 }
 
-fn pool(name: &str) -> Option<Pool> {
+fn stream(name: &[u8]) -> Option<Stream> {
     match name {
-        "Input" => Some(Pool::Input),
-        "Stdout" => Some(Pool::Stdout),
-        "Stderr" => Some(Pool::Stderr),
-        "Output" => Some(Pool::Output),
+        b"Stdout" => Some(Stream::Stdout),
+        b"Stderr" => Some(Stream::Stderr),
         _ => None,
     }
 }
 
-fn cause(name: &str) -> Option<Cause> {
+fn pool(name: &[u8]) -> Option<Pool> {
     match name {
-        "Cancelled" => Some(Cause::Cancelled),
-        "Dropped" => Some(Cause::Dropped),
-        "TimedOut" => Some(Cause::TimedOut),
-        "Reset" => Some(Cause::Reset),
-        "Disconnected" => Some(Cause::Disconnected),
+        b"Input" => Some(Pool::Input),
+        b"Stdout" => Some(Pool::Stdout),
+        b"Stderr" => Some(Pool::Stderr),
+        b"Output" => Some(Pool::Output),
+        _ => None,
+    }
+}
+
+fn cause(name: &[u8]) -> Option<Cause> {
+    match name {
+        b"Cancelled" => Some(Cause::Cancelled),
+        b"Dropped" => Some(Cause::Dropped),
+        b"TimedOut" => Some(Cause::TimedOut),
+        b"Reset" => Some(Cause::Reset),
+        b"Disconnected" => Some(Cause::Disconnected),
         _ => None,
     }
 }

@@ -2,19 +2,24 @@
 //! one answer a line. With --ring, pending shows what our ring of the input hands back. With
 //! --many, the input holds card after card, each ended by a line `----`, and so do the answers.
 
+mod answers;
 mod card;
+mod lines;
 mod ring;
 mod session;
 
-use std::io::{self, BufRead, Write};
+use std::io::{self, StdoutLock};
 
+use lines::Lines;
 use session::Session;
 
 /// The number that refuses what is no line of the card.
 const BAD_LINE: u32 = 30;
 
 /// With --many, the line that ends a card and its answers.
-const SEPARATOR: &[u8] = b"----";
+const SEPARATOR: &str = "----";
+
+type Answers = answers::Answers<StdoutLock<'static>>;
 
 fn main() -> io::Result<()> {
     let (mut as_ring, mut many) = (false, false);
@@ -28,51 +33,56 @@ fn main() -> io::Result<()> {
             }
         }
     }
-    let mut input = io::stdin().lock();
-    let mut output = io::BufWriter::new(io::stdout().lock());
+    let mut lines = Lines::of(io::stdin().lock());
+    let mut answers = Answers::to(io::stdout().lock());
+    let mut room = vec![0; card::ROOM];
     let mut session = None;
     let mut number = 0u64;
-    let mut line = Vec::new();
-    while read_line(&mut input, &mut line)? {
-        if many && line == SEPARATOR {
+    while let Some(line) = lines.next()? {
+        if many && line == SEPARATOR.as_bytes() {
             (session, number) = (None, 0);
-            output.write_all(SEPARATOR)?;
-            output.write_all(b"\n")?;
+            answers.word(SEPARATOR);
+            answers.end_line()?;
             continue;
         }
         number += 1;
-        let answer = if number == 1 {
-            open(&mut session, &line, as_ring)
+        answers.number(number);
+        answers.word(",");
+        let answered = if number == 1 {
+            open(&mut session, line, as_ring, &mut answers)
         } else {
-            call(&mut session, &line)
+            call(&mut session, line, &mut room, &mut answers)
         };
-        match answer {
-            Ok(text) => writeln!(output, "{number},{text}")?,
-            Err(refusal) => writeln!(output, "{number},refused,{refusal},-")?,
+        if let Err(refusal) = answered {
+            answers.word("refused,");
+            answers.number(refusal.into());
+            answers.word(",-");
         }
+        answers.end_line()?;
     }
-    output.flush()
-}
-
-/// Reads the next line, without the byte 0a that ends it, unless the input is at its end.
-fn read_line(input: &mut impl BufRead, line: &mut Vec<u8>) -> io::Result<bool> {
-    line.clear();
-    if input.read_until(b'\n', line)? == 0 {
-        return Ok(false);
-    }
-    line.pop_if(|byte| *byte == b'\n');
-    Ok(true)
+    answers.write_out()
 }
 
 /// Answers the first line, which alone opens the session.
-fn open(session: &mut Option<Session>, line: &[u8], as_ring: bool) -> Result<String, u32> {
+fn open(
+    session: &mut Option<Session>,
+    line: &[u8],
+    as_ring: bool,
+    answers: &mut Answers,
+) -> Result<(), u32> {
     let open = card::open(line).ok_or(BAD_LINE)?;
     *session = Some(Session::open(open, as_ring)?);
-    Ok(session::OK.into())
+    answers.word(session::OK);
+    Ok(())
 }
 
 /// Answers a later line, which is bad where the first opened nothing.
-fn call(session: &mut Option<Session>, line: &[u8]) -> Result<String, u32> {
+fn call(
+    session: &mut Option<Session>,
+    line: &[u8],
+    room: &mut [u8],
+    answers: &mut Answers,
+) -> Result<(), u32> {
     let session = session.as_mut().ok_or(BAD_LINE)?;
-    session.call(card::call(line).ok_or(BAD_LINE)?)
+    session.call(card::call(line, room).ok_or(BAD_LINE)?, answers)
 }

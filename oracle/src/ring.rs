@@ -15,12 +15,14 @@ impl Ring {
         }
     }
 
-    /// Appends bytes that the runner kept.
-    pub fn push(&mut self, bytes: &[u8]) {
-        for &byte in bytes {
+    /// Appends bytes that the runner kept, up to the end of the area and on from its start.
+    pub fn push(&mut self, mut bytes: &[u8]) {
+        while !bytes.is_empty() {
             let end = (self.start + self.waiting) % self.area.len();
-            self.area[end] = byte;
-            self.waiting += 1;
+            let (piece, rest) = bytes.split_at(bytes.len().min(self.area.len() - end));
+            self.area[end..end + piece.len()].copy_from_slice(piece);
+            self.waiting += piece.len();
+            bytes = rest;
         }
     }
 

@@ -4,6 +4,7 @@ use nvx::exec::runner::{Message, Request};
 use nvx::exec::{Limits, Outcome, Receipt, Runner, Status, Stream, Timers, Unit, Violation};
 use nvx::time::{Duration, at, nanos};
 
+use crate::Answers;
 use crate::card::{Call, Open};
 use crate::ring::Ring;
 
@@ -46,77 +47,84 @@ impl Session {
         })
     }
 
-    /// The answer to a call, or its refusal. Only an answered call's time is remembered.
-    pub fn call(&mut self, call: Call) -> Result<String, u32> {
+    /// Answers a call, or gives the number that refuses it, and then nothing is written. Only an
+    /// answered call's time is remembered.
+    pub fn call(&mut self, call: Call, answers: &mut Answers) -> Result<(), u32> {
         let now = call.now().unwrap_or(self.last);
         if now < self.last {
             return Err(31);
         }
-        let answer = self.run(call, now).map_err(refusal)?;
+        self.run(call, answers).map_err(refusal)?;
         self.last = now;
-        if self.runner.pending_input().is_empty() && self.ring.waiting() > 0 {
+        if self.ring.waiting() > 0 && self.runner.pending_input().is_empty() {
             self.ring.clear();
         }
-        Ok(answer)
+        Ok(())
     }
 
-    /// Makes the call, at the time `now` where it has one.
-    fn run(&mut self, call: Call, now: u64) -> Result<String, Violation> {
+    /// Makes the call.
+    fn run(&mut self, call: Call, answers: &mut Answers) -> Result<(), Violation> {
         let runner = &mut self.runner;
-        let now = at(now);
-        Ok(match call {
-            Call::Credit(key, pool, units) => receipt(runner.credit(key, pool, units)?),
+        match call {
+            Call::Credit(key, pool, units) => receipt(runner.credit(key, pool, units)?, answers),
             Call::Input(key, bytes) => {
-                let answer = runner.input(key, &bytes)?;
+                let answer = runner.input(key, bytes)?;
                 if answer == Receipt::Applied {
-                    self.ring.push(&bytes);
+                    self.ring.push(bytes);
                 }
-                receipt(answer)
+                receipt(answer, answers);
             }
-            Call::EndInput(key) => receipt(runner.end_input(key)?),
-            Call::Cancel(_, key, cause) => receipt(runner.cancel(now, key, cause)?),
-            Call::Launched(result) => ok(runner.launched(result)),
-            Call::ReadAllowance(stream) => value(runner.read_allowance(stream)),
-            Call::Output(stream, bytes) => format!("taken,{},-", runner.output(stream, &bytes)),
-            Call::Discarded(stream, count) => ok(runner.discarded(stream, count)),
-            Call::OutputClosed(stream) => ok(runner.output_closed(stream)),
-            Call::OutputFailed(stream) => ok(runner.output_failed(stream)),
-            Call::OutputHungUp(stream) => ok(runner.output_hung_up(stream)),
-            Call::PendingInput => self.pending(),
+            Call::EndInput(key) => receipt(runner.end_input(key)?, answers),
+            Call::Cancel(now, key, cause) => receipt(runner.cancel(at(now), key, cause)?, answers),
+            Call::Launched(result) => ok(runner.launched(result), answers),
+            Call::ReadAllowance(stream) => value(runner.read_allowance(stream), answers),
+            Call::Output(stream, bytes) => counted("taken,", runner.output(stream, bytes), answers),
+            Call::Discarded(stream, count) => ok(runner.discarded(stream, count), answers),
+            Call::OutputClosed(stream) => ok(runner.output_closed(stream), answers),
+            Call::OutputFailed(stream) => ok(runner.output_failed(stream), answers),
+            Call::OutputHungUp(stream) => ok(runner.output_hung_up(stream), answers),
+            Call::PendingInput => self.pending(answers),
             Call::InputWritten(count) => {
                 self.ring.pop(count);
-                ok(runner.input_written(count))
+                ok(runner.input_written(count), answers);
             }
-            Call::InputClosed => ok(runner.input_closed()),
-            Call::Exited(_, status) => ok(runner.exited(now, status)),
-            Call::Settled(result) => ok(runner.settled(result)),
-            Call::Dropped(_) => ok(runner.dropped(now)),
-            Call::Reset(_) => ok(runner.reset(now)),
-            Call::Disconnect(_) => ok(runner.disconnect(now)),
-            Call::Tick(_) => ok(runner.tick(now)),
-            Call::Deadline => runner.deadline().map_or(NONE.into(), |at| value(nanos(at))),
-            Call::Request => runner.next_request().map_or(NONE.into(), request),
-            Call::Message(length) => {
-                let mut buffer = vec![0; length];
-                let answer = runner.next_message(&mut buffer);
-                answer.map_or(NONE.into(), |answer| message(answer, &buffer))
-            }
-            Call::IsFinished => value(u8::from(runner.is_finished())),
-            Call::IsDetached => value(u8::from(runner.is_detached())),
-            Call::AwaitsSettlement => value(u8::from(runner.awaits_settlement())),
-            Call::MemoryBound => value(runner.memory_bound()),
-            Call::Buffered => value(runner.buffered()),
-            Call::HighWater => value(runner.high_water()),
-        })
+            Call::InputClosed => ok(runner.input_closed(), answers),
+            Call::Exited(now, status) => ok(runner.exited(at(now), status), answers),
+            Call::Settled(result) => ok(runner.settled(result), answers),
+            Call::Dropped(now) => ok(runner.dropped(at(now)), answers),
+            Call::Reset(now) => ok(runner.reset(at(now)), answers),
+            Call::Disconnect(now) => ok(runner.disconnect(at(now)), answers),
+            Call::Tick(now) => ok(runner.tick(at(now)), answers),
+            Call::Deadline => match runner.deadline() {
+                Some(at) => answers.print(format_args!("value,{},-", nanos(at))),
+                None => answers.word(NONE),
+            },
+            Call::Request => match runner.next_request() {
+                Some(next) => request(next, answers),
+                None => answers.word(NONE),
+            },
+            Call::Message(buffer) => match runner.next_message(buffer) {
+                Some(next) => message(next, buffer, answers),
+                None => answers.word(NONE),
+            },
+            Call::IsFinished => value(runner.is_finished().into(), answers),
+            Call::IsDetached => value(runner.is_detached().into(), answers),
+            Call::AwaitsSettlement => value(runner.awaits_settlement().into(), answers),
+            Call::MemoryBound => value(runner.memory_bound(), answers),
+            Call::Buffered => value(runner.buffered(), answers),
+            Call::HighWater => value(runner.high_water(), answers),
+        }
+        Ok(())
     }
 
     /// The pending input: as far as the runner's queue is in one piece, or as far as our ring is.
-    fn pending(&self) -> String {
+    fn pending(&self, answers: &mut Answers) {
         let (queue, ring) = (self.runner.pending_input(), self.ring.pending());
         assert_eq!(queue.is_empty(), ring.is_empty());
-        assert!(queue.iter().zip(ring).all(|(one, other)| one == other));
+        let both = queue.len().min(ring.len());
+        assert!(queue[..both] == ring[..both]);
         let bytes = if self.as_ring { ring } else { queue };
-        format!("pending,{},{}", bytes.len(), hex(bytes))
+        lent("pending,", bytes, answers);
     }
 }
 
@@ -151,65 +159,84 @@ fn refusal(violation: Violation) -> u32 {
     }
 }
 
-// The text of each answer, from its word on. Names are the Rust's own.
+// The text of each answer, from its word on. Names are the Rust's own, printed by its Debug; those
+// that many lines have are spelled here, which is quicker.
 
 /// The answer to a call with no result.
-fn ok(_: ()) -> String {
-    OK.into()
+fn ok(_: (), answers: &mut Answers) {
+    answers.word(OK);
 }
 
-fn value(number: impl std::fmt::Display) -> String {
-    format!("value,{number},-")
+fn value(number: usize, answers: &mut Answers) {
+    counted("value,", number, answers);
 }
 
-fn receipt(receipt: Receipt) -> String {
-    format!("{receipt:?},-,-")
+fn counted(word: &str, number: usize, answers: &mut Answers) {
+    answers.word(word);
+    answers.number(number as u64);
+    answers.word(",-");
 }
 
-fn request(request: Request) -> String {
-    match request {
-        Request::Terminate(cause) => format!("Terminate,{cause:?},-"),
-        Request::Discard(stream) => format!("Discard,{stream:?},-"),
-        _ => format!("{request:?},-,-"),
+/// A word, the number of the bytes, and the bytes.
+fn lent(word: &str, bytes: &[u8], answers: &mut Answers) {
+    answers.word(word);
+    answers.number(bytes.len() as u64);
+    answers.word(",");
+    answers.hex(bytes);
+}
+
+fn receipt(receipt: Receipt, answers: &mut Answers) {
+    match receipt {
+        Receipt::Applied => answers.word("Applied,-,-"),
+        _ => answers.print(format_args!("{receipt:?},-,-")),
     }
 }
 
-fn message(message: Message, buffer: &[u8]) -> String {
+fn request(request: Request, answers: &mut Answers) {
+    match request {
+        Request::Terminate(cause) => answers.print(format_args!("Terminate,{cause:?},-")),
+        Request::Discard(stream) => answers.print(format_args!("Discard,{stream:?},-")),
+        _ => answers.print(format_args!("{request:?},-,-")),
+    }
+}
+
+fn message(message: Message, buffer: &[u8], answers: &mut Answers) {
     match message {
-        Message::Credit { units } => format!("Credit,{units},-"),
+        Message::Credit { units } => counted("Credit,", units as usize, answers),
         Message::Output { stream, length } => {
-            format!("{stream:?},{length},{}", hex(&buffer[..length]))
+            let word = match stream {
+                Stream::Stdout => "Stdout,",
+                Stream::Stderr => "Stderr,",
+            };
+            lent(word, &buffer[..length], answers);
         }
-        Message::End(stream) => format!("End,{stream:?},-"),
-        Message::Terminal(outcome) => format!("Terminal,-,-,{}", terminal(outcome)),
-        _ => format!("{message:?},-,-"),
+        Message::End(stream) => answers.print(format_args!("End,{stream:?},-")),
+        Message::Terminal(outcome) => {
+            answers.word("Terminal,-,-,");
+            terminal(outcome, answers);
+        }
+        _ => answers.print(format_args!("{message:?},-,-")),
     }
 }
 
 /// The five fields of an outcome.
-fn terminal(outcome: Outcome) -> String {
-    let status = outcome.status().map(|status| match status {
-        Status::Exited(code) => format!("E{code}"),
-        Status::Signaled(signal) => format!("S{signal}"),
-    });
-    let cause = outcome.cause().map(|cause| format!("{cause:?}"));
-    let failure = outcome.launch_failure();
-    let failure = failure.map(|failure| format!("{}/{}", failure.stage(), failure.error()));
-    let [status, cause, failure] = [status, cause, failure].map(or_missing);
+fn terminal(outcome: Outcome, answers: &mut Answers) {
+    match outcome.status() {
+        Some(Status::Exited(code)) => answers.print(format_args!("E{code},")),
+        Some(Status::Signaled(signal)) => answers.print(format_args!("S{signal},")),
+        None => answers.word("-,"),
+    }
+    match outcome.cause() {
+        Some(cause) => answers.print(format_args!("{cause:?},")),
+        None => answers.word("-,"),
+    }
+    match outcome.launch_failure() {
+        Some(failure) => {
+            answers.print(format_args!("{}/{},", failure.stage(), failure.error()));
+        }
+        None => answers.word("-,"),
+    }
     let [stdout, stderr] = Stream::ALL.map(|stream| u8::from(outcome.is_truncated(stream)));
     let reusable = u8::from(outcome.is_reusable());
-    format!("{status},{cause},{failure},{stdout}{stderr},{reusable}")
-}
-
-fn or_missing(field: Option<String>) -> String {
-    field.unwrap_or("-".into())
-}
-
-fn hex(bytes: &[u8]) -> String {
-    let digit = |digit: u8| char::from(b"0123456789abcdef"[usize::from(digit)]);
-    let mut text = String::with_capacity(2 * bytes.len());
-    for byte in bytes {
-        text.extend([digit(byte >> 4), digit(byte & 15)]);
-    }
-    text
+    answers.print(format_args!("{stdout}{stderr},{reusable}"));
 }
