@@ -1,7 +1,7 @@
 -- Small examples, computed from the definitions: what stands for bytes, and what does just not.
-use Rattle.std.specs.Prelude.{◌≡◌, refl, [], ◌∷◌}
+use Rattle.std.specs.Prelude.{◌≡◌, refl, [], ◌∷◌, get_or}
 use Rattle.std.proofs.Math.Option.{none, some}
-use Rattle.hexadecimal.specs.Hexadecimal.{hexDigit, hexOf, areHex, arePairs, hexValue, pairs, unhex}
+use Rattle.hexadecimal.specs.Hexadecimal.{hexDigit, hexOf, areHex, arePairs, hexValue, digits, pairs, unhex}
 
 -- ---- bytes: none, `0a`, an uppercase digit, an odd count
 nothing : unhex [] ≡ some []
@@ -23,3 +23,16 @@ odd = refl
 spelled : hexOf (255 ∷ 10 ∷ []) ≡ 102 ∷ 102 ∷ 48 ∷ 97 ∷ []
 unfolding hexOf hexDigit
 spelled = refl
+
+-- ---- the table: `0` to `9` and what stands beside them, `a` to `f` and what stands beside them, `A`, and the last byte
+decimal : (get_or digits 47 0 ≡ 255) × (get_or digits 48 0 ≡ 0) × (get_or digits 57 0 ≡ 9) × (get_or digits 58 0 ≡ 255)
+unfolding digits
+decimal = (refl, refl, refl, refl)
+
+letter : (get_or digits 96 0 ≡ 255) × (get_or digits 97 0 ≡ 10) × (get_or digits 102 0 ≡ 15) × (get_or digits 103 0 ≡ 255)
+unfolding digits
+letter = (refl, refl, refl, refl)
+
+neither : (get_or digits 65 0 ≡ 255) × (get_or digits 255 0 ≡ 255)
+unfolding digits
+neither = (refl, refl)

@@ -1,7 +1,8 @@
--- What the contracts of `hexadecimal` cite (Hexadecimal, Answers), their laws, what is read back from what is written, and small
--- examples.
+-- What the contracts of `hexadecimal` cite (Hexadecimal, Answers), their laws, the rule of the table of digits, what is read back
+-- from what is written, and small examples.
 pub mod Hexadecimal
 pub mod HexadecimalLaws
+pub mod Digits
 pub mod Answers
 pub mod RoundTrip
 pub mod Edges
