@@ -1,0 +1,4 @@
+-- What the contract of `search` cites (Search), its laws, and small examples.
+pub mod Search
+pub mod SearchLaws
+pub mod Edges
