@@ -3,6 +3,7 @@ use Rattle.std.specs.Prelude.{Bool, true, false, cond, ◌≡◌, refl, List, []
 use Rattle.std.proofs.Common.{sym, ap, ◌∙◌, arith, add-one, eq-eqb, ne_eqb, length-drop, drop-cons, take_all, drop-drop}
 use Rattle.std.proofs.Math.Decide.{dec_lt}
 use Rattle.std.proofs.Math.Seq.{drop-length}
+use Rattle.search.specs.SearchLaws.{index-most}
 use Rattle.syntax.specs.Lines.{inFirst, fields}
 use Rattle.reading.specs.FieldLaws.{Some, commaAt, fields-last, fields-cut, fields-some}
 use Rattle.opening.specs.Open.{at}
@@ -41,17 +42,8 @@ first_field t l =
       | no h ↦ let e : commaAt t ≡ length t = omega arith in rw (fields-last t e) (sym (take_all (commaAt t) t (omega arith)))
     ]
 
-pub comma-most : (t : List ℕ) → commaAt t ≤ length t
-unfolding commaAt
-comma-most [] = omega arith
-comma-most (b ∷ t) = by (eqb b 44) (comma-most t)
-  where
-    by : (e : Bool) → commaAt t ≤ length t → cond e 0 (suc (commaAt t)) ≤ suc (length t)
-    by true l = omega arith
-    by false l = omega arith
-
 pub place-field : (s : List ℕ) (k i : ℕ) → Begins s k i → at (fields s) k ≡ take (commaAt (drop i s)) (drop i s)
-place-field s k i p = p.is ∙ first_field (drop i s) (comma-most (drop i s))
+place-field s k i p = p.is ∙ first_field (drop i s) (index-most 44 (drop i s))
 
 -- a turn of the loop that counts
 in-first : (b : ℕ) (fs : List (List ℕ)) → Some fs → length (inFirst b fs) ≡ length fs
@@ -89,7 +81,7 @@ pub place-turn : (s : List ℕ) (k i j b : ℕ) → j < k → Behind s i b → a
 place-turn s k i j b l x =
     let m : k - j ≡ (k - (j + 1)) + 1 = omega arith in
     let further : drop b (drop i s) ≡ drop (i + b) s = drop-drop b i s in
-    rw m (place-on (drop i s) (k - (j + 1)) (comma-most (drop i s)) ∙ rw (← x.is, further) refl)
+    rw m (place-on (drop i s) (k - (j + 1)) (index-most 44 (drop i s)) ∙ rw (← x.is, further) refl)
 
 -- the k-th field as the code makes it
 pub place_part : (s : List ℕ) (k i e : ℕ) → Begins s k i → e ≡ i + commaAt (drop i s) → take (e - i) (drop i s) ≡ at (fields s) k
@@ -98,4 +90,4 @@ place_part s k i e p h =
 
 -- the first field as the code makes it
 pub first_part : (s : List ℕ) (e : ℕ) → e ≡ commaAt s → take (e - 0) s ≡ at (fields s) 0
-first_part s e h = let n : e - 0 ≡ commaAt s = omega arith in ap (λ (x : ℕ). take x s) n ∙ sym (first_field s (comma-most s))
+first_part s e h = let n : e - 0 ≡ commaAt s = omega arith in ap (λ (x : ℕ). take x s) n ∙ sym (first_field s (index-most 44 s))

@@ -1,28 +1,19 @@
 -- Where the fields of a line are cut.
 use Rattle.std.specs.Prelude.{Bool, true, false, cond, ◌≡◌, refl, List, [], ◌∷◌, ℕ, suc, ◌+◌, ◌-◌, ◌≤◌, ◌<◌, eqb, length, take, drop, get_or}
-use Rattle.std.proofs.Common.{sym, ap, ◌∙◌, arith, add-one, length-drop, drop-cons, take_all}
+use Rattle.std.proofs.Common.{sym, ap, ◌∙◌, arith, add-one, length-drop, take_all}
 use Rattle.std.proofs.Math.Option.{none, some}
-use Rattle.std.proofs.Math.Seq.{drop-length}
 use Rattle.exec.specs.declared.MaybeStatus.TheVariants as MaybeStatus
+use Rattle.search.specs.Search.{indexOf}
 use Rattle.syntax.specs.Lines.{inFirst, missing, fields, status, callOf}
 use Rattle.reading.specs.Meaning.{exitedWith, signaledWith}
 
 -- the index of the first comma, or the length where there is none
-unfoldable pub commaAt : List ℕ → ℕ
-commaAt [] = 0
-commaAt (b ∷ s) = cond (eqb b 44) 0 (suc (commaAt s))
-
-pub comma-turn : (s : List ℕ) (i : ℕ) → i < length s → commaAt (drop i s) ≡ cond (eqb (get_or s i 0) 44) 0 (suc (commaAt (drop (i + 1) s)))
-unfolding commaAt
-comma-turn s i h = rw (drop-cons s i 0 h, add-one) refl
-
-pub comma-end : (s : List ℕ) → commaAt (drop (length s) s) ≡ 0
-unfolding commaAt
-comma-end s = rw (drop-length s) refl
+abbrev pub commaAt : List ℕ → ℕ
+commaAt = indexOf 44
 
 -- no comma: one field
 pub fields-last : (s : List ℕ) → commaAt s ≡ length s → fields s ≡ s ∷ []
-unfolding commaAt fields
+unfolding indexOf fields
 fields-last [] h = refl
 fields-last (b ∷ s) h = by (eqb b 44) (fields-last s) h
   where
@@ -33,7 +24,7 @@ fields-last (b ∷ s) h = by (eqb b 44) (fields-last s) h
 
 -- a comma: the field before it, and the fields behind
 cut : (s : List ℕ) → commaAt s < length s → fields s ≡ take (commaAt s) s ∷ fields (drop (suc (commaAt s)) s)
-unfolding commaAt fields
+unfolding indexOf fields
 cut [] h = absurd (omega arith)
 cut (b ∷ s) h = by (eqb b 44) (cut s) h
   where

@@ -373,15 +373,7 @@ fn call4(name: &[u8], a: &[u8], b: &[u8], c: &[u8], d: &[u8]) -> Line
 pub fn comma(text: &[u8]) -> usize
     ensures { (result ≡ commaAt text.now) × (result ≤ length text.now) }
 {
-    let n = text.len();
-    let mut i: usize = 0;
-    while i < n {
-        if text[i] == b',' {
-            return i;
-        }
-        i += 1;
-    }
-    n
+    search::find(text, b',')
 }
 
 fn after4(name: &[u8], a: &[u8], b: &[u8], c: &[u8], rest: &[u8]) -> Line
