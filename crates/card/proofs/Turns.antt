@@ -15,7 +15,8 @@ use Rattle.card.specs.declared.feed.Card.{Card}
 use Rattle.standing.specs.declared.Standing.{Standing}
 use Rattle.card.specs.declared.feed.Turn.{Turn}
 use Rattle.grammar.specs.Feed.{Session, lineEnds, feeds, pieces, ends}
-use Rattle.card.specs.Feeding.{eaten, goesOn, lineLength, holdAll, line-most, line-feeds, to-line-end, feeds-end, all_held, line-answered, line-stopped}
+use Rattle.card.specs.Feeding.{eaten, goesOn, lineLength, holdAll, line-feeds, to-line-end, feeds-end, all_held, line-answered, line-stopped}
+use Rattle.search.specs.SearchLaws.{index-most}
 use Rattle.card.specs.Laying.{laid, laid-pieces, laid_end, line-lays}
 use Rattle.card.specs.Holding.{Lent, placeIn, sessionOf, Stands, Holds, EndsLine}
 use Rattle.standing.specs.Standing.{Place, placeOf, placed}
@@ -136,7 +137,7 @@ module _ (piece : List ℕ) (t : Turn) (before : Lent) (c : Card) (line : List �
   go-stop n = record {
     k = lineLength bs;
     used = e;
-    most = omega (arith, line-most bs, length-drop t.used piece);
+    most = omega (arith, index-most 10 bs, length-drop t.used piece);
     fed = held-fed;
     eats = n ∙ omega arith;
     further = λ q. absurd (true≢false (sym q));

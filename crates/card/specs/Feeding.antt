@@ -1,8 +1,9 @@
 -- What the code has eaten of a piece, and how a session goes on from one line to the next.
-use Rattle.std.specs.Prelude.{Bool, true, false, cond, ◌&&◌, ◌≡◌, refl, List, [], ◌∷◌, ◌++◌, ℕ, suc, ◌+◌, ◌-◌, ◌≤◌, ◌<◌, eqb, ltb, leb, length, take, drop, get_or}
-use Rattle.std.proofs.Common.{sym, ap, ◌∙◌, append_assoc, append-nil, arith, add-one, length-append, drop-cons, take_all, take-add, ltb-true, ltb-false, eqb-true}
+use Rattle.std.specs.Prelude.{Bool, true, false, cond, ◌&&◌, ◌≡◌, refl, List, [], ◌∷◌, ◌++◌, ℕ, suc, ◌+◌, ◌-◌, ◌≤◌, ◌<◌, eqb, ltb, leb, length, take, drop}
+use Rattle.std.proofs.Common.{sym, ap, ◌∙◌, append_assoc, append-nil, arith, add-one, length-append, take_all, take-add, ltb-true, ltb-false, eqb-true}
 use Rattle.std.proofs.Math.Seq.{drop-length}
 use Rattle.std.proofs.lemmas.List.{take-append-le}
+use Rattle.search.specs.Search.{indexOf}
 use Rattle.grammar.specs.Feed.{Session, Step, hold, lineEnds, eat, feeds}
 
 -- a line is answered where 131,200 bytes of the output area are free, which is more than any answer has, and where its number is a u64
@@ -24,26 +25,12 @@ eaten s room (b ∷ rest) =
 -- ---- a line, and its end
 
 -- the bytes before the first end of a line
-unfoldable pub lineLength : List ℕ → ℕ
-lineLength [] = 0
-lineLength (b ∷ s) = cond (eqb b 10) 0 (suc (lineLength s))
+abbrev pub lineLength : List ℕ → ℕ
+lineLength = indexOf 10
 
 -- more bytes of a line are held
 unfoldable pub holdAll : Session → List ℕ → Session
 holdAll s bs = holding s (take 65536 (s.held ++ bs))
-
-pub line-turn : (s : List ℕ) (i : ℕ) → i < length s → lineLength (drop i s) ≡ cond (eqb (get_or s i 0) 10) 0 (suc (lineLength (drop (i + 1) s)))
-unfolding lineLength
-line-turn s i h = rw (drop-cons s i 0 h, add-one) refl
-
-pub line-most : (s : List ℕ) → lineLength s ≤ length s
-unfolding lineLength
-line-most [] = omega arith
-line-most (b ∷ s) = by (eqb b 10) (line-most s)
-  where
-    by : (e : Bool) → lineLength s ≤ length s → cond e 0 (suc (lineLength s)) ≤ suc (length s)
-    by true l = omega arith
-    by false l = omega arith
 
 hold-most : (b : ℕ) (l : List ℕ) → length l ≤ 65536 → length (hold b l) ≤ 65536
 hold-most b l h = by (ltb (length l) 65536) refl
@@ -93,7 +80,7 @@ fed-on s b run q f = (
 
 -- A: TO THE END OF THE LINE, BYTES ARE HELD
 pub line-feeds : (s : Session) (bs : List ℕ) → length s.held ≤ 65536 → Held s (take (lineLength bs) bs)
-unfolding lineLength
+unfolding indexOf
 line-feeds s [] h = fed-none s h
 line-feeds s (b ∷ bs) h = by (eqb b 10) refl (line-feeds (holding s (hold b s.held)) bs (hold-most b s.held h))
   where
@@ -107,7 +94,7 @@ eaten-none s room bs h = ap (λ (x : Session). eaten x room bs) (sym (held_none 
 -- B: AND ALL OF THEM ARE EATEN
 pub line-eaten : (s : Session) (room : ℕ) (bs : List ℕ) → length s.held ≤ 65536
     → eaten s room bs ≡ lineLength bs + eaten (holdAll s (take (lineLength bs) bs)) room (drop (lineLength bs) bs)
-unfolding lineLength
+unfolding indexOf
 line-eaten s room [] h = eaten-none s room [] h
 line-eaten s room (b ∷ bs) h = by (eqb b 10) refl (line-eaten (holding s (hold b s.held)) room bs (hold-most b s.held h))
   where
@@ -123,7 +110,7 @@ line-eaten s room (b ∷ bs) h = by (eqb b 10) refl (line-eaten (holding s (hold
 
 -- the line's end
 end_of : (bs : List ℕ) → lineLength bs < length bs → drop (lineLength bs) bs ≡ 10 ∷ drop (suc (lineLength bs)) bs
-unfolding lineLength
+unfolding indexOf
 end_of [] h = absurd (omega arith)
 end_of (b ∷ bs) h = by (eqb b 10) refl (end_of bs) h
   where
@@ -181,7 +168,3 @@ line-stopped s room bs h l g =
     let run = take (lineLength bs) bs in
     let n = ap (eaten (holdAll s run) room) (line-end bs l) ∙ eaten-stop s room run (drop (lineLength bs + 1) bs) g in
     line-eaten s room bs h ∙ ap (λ (x : ℕ). lineLength bs + x) n ∙ omega arith
-
-pub line-over : (s : List ℕ) → lineLength (drop (length s) s) ≡ 0
-unfolding lineLength
-line-over s = rw (drop-length s) refl

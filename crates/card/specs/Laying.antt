@@ -4,6 +4,7 @@ use Rattle.std.proofs.Common.{sym, ap, ◌∙◌, arith, length-append, length-t
 use Rattle.std.proofs.Math.Seq.{set_out}
 use Rattle.ring.specs.Runs.{copied, copied-zero, copied-one}
 use Rattle.ring.specs.Lent.{copied-join}
+use Rattle.search.specs.Search.{indexOf}
 use Rattle.grammar.specs.Feed.{Session, hold, eat, feeds}
 use Rattle.card.specs.Feeding.{lineLength, holding}
 
@@ -80,7 +81,7 @@ lays_more b run q f s line h l = laid-other s line b run q ∙ by (ltb (length s
 
 -- TO THE END OF THE LINE
 pub line-lays : (bs : List ℕ) → Lays (take (lineLength bs) bs)
-unfolding lineLength
+unfolding indexOf
 line-lays [] = lays-none
 line-lays (b ∷ bs) = by (eqb b 10) refl (line-lays bs)
   where

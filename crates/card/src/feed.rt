@@ -33,15 +33,7 @@ fn line_end(piece: &[u8], from: usize) -> usize
     requires { from ≤ length piece.now }
     ensures { (result ≡ from + lineLength (drop from piece.now)) × (result ≤ length piece.now) }
 {
-    let n = piece.len();
-    let mut i = from;
-    while i < n {
-        if piece[i] == 10 {
-            return i;
-        }
-        i += 1;
-    }
-    n
+    from + search::find(&piece[from..piece.len()], 10)
 }
 
 impl Card {
