@@ -3,7 +3,7 @@
 
 ghost use Rattle.std.specs.Prelude.{◌≡◌, true, ◌++◌, ◌+◌, ◌*◌, ◌/◌, ◌≤◌, ◌<◌, length, drop};
 ghost use Rattle.ring.specs.Runs.{copied};
-ghost use Rattle.hexadecimal.specs.Hexadecimal.{isHex, areHex, arePairs, hexValue, digits, hexDigit, hexOf, pairs, unhex};
+ghost use Rattle.hexadecimal.specs.Hexadecimal.{isHex, areHex, arePairs, hexValue, hexDigit, hexOf, pairs, unhex};
 ghost use Rattle.hexadecimal.specs.Answers.{maybeLength, unhexInto};
 
 #[derive(Clone, Copy)]
@@ -41,9 +41,10 @@ fn are_pairs(text: &[u8]) -> bool
     (text.len() % 2 == 0) & are_hex(text)
 }
 
-// Entry c is the value of the byte c as a digit, and 255 where c is none: `0` is 48, `a` is 97.
+// Entry c is the value of the byte c as a digit, and 255 where c is none: `0` is 48, `a` is 97. (No constant: that would be
+// made anew on the stack wherever it is indexed.)
 #[rattlefmt::skip]
-const DIGITS: [u8; 256] = [
+static DIGITS: [u8; 256] = [
     255, 255, 255, 255, 255, 255, 255, 255, 255, 255, 255, 255, 255, 255, 255, 255,
     255, 255, 255, 255, 255, 255, 255, 255, 255, 255, 255, 255, 255, 255, 255, 255,
     255, 255, 255, 255, 255, 255, 255, 255, 255, 255, 255, 255, 255, 255, 255, 255,
@@ -62,12 +63,11 @@ const DIGITS: [u8; 256] = [
     255, 255, 255, 255, 255, 255, 255, 255, 255, 255, 255, 255, 255, 255, 255, 255,
 ];
 
-// (The table is lent: a constant that is indexed in a function is made anew on the stack at each reading.)
-fn value(table: &[u8; 256], c: u8) -> u8
-    requires { (table.now ≡ digits) × (isHex c ≡ true) }
+fn value(c: u8) -> u8
+    requires { isHex c ≡ true }
     ensures { (result ≡ hexValue c) × (result < 16) }
 {
-    table[c as usize]
+    DIGITS[c as usize]
 }
 
 // Writes the bytes that n pairs of digits stand for at the start of out.
@@ -77,10 +77,9 @@ fn put_pairs(text: &[u8], out: &mut [u8], n: usize)
     requires { (areHex text.now ≡ true) × (2 * n ≡ length text.now) × (n ≤ length out.old) }
     ensures { out.new ≡ pairs text.now ++ drop n out.old }
 {
-    let table = DIGITS;
     let mut j: usize = 0;
     while j < n {
-        out[j] = value(&table, text[2 * j]) * 16 + value(&table, text[2 * j + 1]);
+        out[j] = value(text[2 * j]) * 16 + value(text[2 * j + 1]);
         j += 1;
     }
 }

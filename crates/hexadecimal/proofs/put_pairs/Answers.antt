@@ -1,7 +1,6 @@
--- A turn writes the byte of one pair. The code's table is the definition's, by computation.
+-- A turn writes the byte of one pair.
 use Rattle.std.proofs.Common.{◌≡◌, ℕ, ◌+◌, ◌*◌, refl, ap₂, ◌∙◌, arith, length-set}
 use Rattle.ring.specs.Runs.{copied-zero}
-use Rattle.hexadecimal.specs.Hexadecimal.{digits}
 use Rattle.hexadecimal.specs.HexadecimalLaws.{hex-at, unhex-turn, unhex-end}
 use Rattle.hexadecimal.proofs.put_pairs.Goals as goal
 
@@ -9,12 +8,10 @@ pub loop-j-init : goal.loop-j-init
 loop-j-init c = (omega arith, copied-zero _ _ _ _, refl)
 
 pub value-requires : goal.value-requires
-unfolding digits
-value-requires c = (refl, hex-at _ _ c.requires.0 (omega arith))
+value-requires c = hex-at _ _ c.requires.0 (omega arith)
 
 pub value-requires-in-loop-j : goal.value-requires-in-loop-j
-unfolding digits
-value-requires-in-loop-j c = (refl, hex-at _ _ c.requires.0 (omega arith))
+value-requires-in-loop-j c = hex-at _ _ c.requires.0 (omega arith)
 
 pub loop-j-preserved : goal.loop-j-preserved
 loop-j-preserved c =

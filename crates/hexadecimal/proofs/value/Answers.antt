@@ -1,5 +1,5 @@
 -- The table's rule at a digit.
-use Rattle.std.proofs.Common.{◌≡◌, true, ap, ◌∙◌, refl, arith, List, ℕ, ◌<◌, get_or}
+use Rattle.std.proofs.Common.{◌≡◌, true, ◌∙◌, refl, arith, ℕ, ◌<◌, get_or}
 use Rattle.hexadecimal.specs.Hexadecimal.{isHex, hexValue, digitOf, digits}
 use Rattle.hexadecimal.specs.HexadecimalLaws.{value-below}
 use Rattle.hexadecimal.specs.Digits.{digits-rule}
@@ -11,8 +11,7 @@ unfolding digitOf
 digits-value c h e = digits-rule c h ∙ rw e refl
 
 pub returns : goal.returns
+unfolding digits
 returns c =
-    let b = c.args.c in
-    let e : get_or c.args.table.now b 0 ≡ hexValue b =
-    ap (λ (t : List ℕ). get_or t b 0) c.requires.0 ∙ digits-value b (omega arith) c.requires.1 in
-    (e, omega (arith, e, value-below b c.requires.1))
+    let e = digits-value c.args.c (omega arith) c.requires in
+    (e, omega (arith, e, value-below c.args.c c.requires))
