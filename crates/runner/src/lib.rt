@@ -3,6 +3,7 @@
 #![tactic(auto)]
 
 pub mod answer;
+mod in_place;
 mod life;
 pub mod message;
 mod pairs;
