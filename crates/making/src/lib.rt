@@ -61,16 +61,17 @@ fn heard(runner: &mut Runner, hearing: Hearing) -> Answer
     answering::received(hearing.received)
 }
 
-// ---- the calls that change the runner, each in a function of its own
+// ---- the calls that change the runner. Each stands alone (inline(never)): as parts of `make` they would all be set up for each call.
 
 #[tactic(auto, unfolding(account::specs::Step::next, account::specs::Step::answer))]
+#[inline(never)]
 fn credit(runner: &mut Runner, key: Key, pool: Pool, units: u32) -> Answer
     ensures { Moves runner.old (Calls.credit key pool units) runner.new result }
 {
-    let hearing = runner.credit(key, pool, units);
-    heard(runner, hearing)
+    answering::received(runner.credit_mut(key, pool, units))
 }
 
+#[inline(never)]
 fn input(
     runner: &mut Runner,
     key: Key,
@@ -82,11 +83,12 @@ fn input(
     ensures { InputMade runner.new result store.new lengths.new (Runs.input runner.old key (take n work.now) store.old lengths.old) }
 {
     let k = smaller(n, work.len());
-    let hearing = runner.input(key, store, lengths, &work[0..k]);
-    heard(runner, hearing)
+    let received = runner.input_mut(key, store, lengths, &work[0..k]);
+    answering::received(received)
 }
 
 #[tactic(auto, unfolding(account::specs::Step::next, account::specs::Step::answer))]
+#[inline(never)]
 fn end_input(runner: &mut Runner, key: Key) -> Answer
     ensures { Moves runner.old (Calls.endInput key) runner.new result }
 {
@@ -95,6 +97,7 @@ fn end_input(runner: &mut Runner, key: Key) -> Answer
 }
 
 #[tactic(auto, unfolding(account::specs::Step::next, account::specs::Step::answer))]
+#[inline(never)]
 fn cancel(runner: &mut Runner, now: u64, key: Key, cause: Cause) -> Answer
     ensures { Moves runner.old (Calls.cancel now key cause) runner.new result }
 {
@@ -103,6 +106,7 @@ fn cancel(runner: &mut Runner, now: u64, key: Key, cause: Cause) -> Answer
 }
 
 #[tactic(auto, unfolding(account::specs::Step::next, account::specs::Step::answer))]
+#[inline(never)]
 fn launched(runner: &mut Runner, launch: LaunchResult) -> Answer
     ensures { Moves runner.old (Calls.launched launch) runner.new result }
 {
@@ -110,16 +114,17 @@ fn launched(runner: &mut Runner, launch: LaunchResult) -> Answer
     noted(runner, noting)
 }
 
+#[inline(never)]
 fn output(runner: &mut Runner, stream: Stream, n: usize, store: &mut [u8], work: &[u8]) -> Answer
     ensures { OutputMade runner.new result store.new (Runs.output runner.old stream (take n work.now) store.old) }
 {
     let k = smaller(n, work.len());
-    let taking = runner.output(stream, store, &work[0..k]);
-    *runner = taking.runner;
-    answering::took(taking.taken)
+    let taken = runner.output_mut(stream, store, &work[0..k]);
+    answering::took(taken)
 }
 
 #[tactic(auto, unfolding(account::specs::Step::next, account::specs::Step::answer))]
+#[inline(never)]
 fn discarded(runner: &mut Runner, stream: Stream, bytes: usize) -> Answer
     ensures { Moves runner.old (Calls.discarded stream bytes) runner.new result }
 {
@@ -128,6 +133,7 @@ fn discarded(runner: &mut Runner, stream: Stream, bytes: usize) -> Answer
 }
 
 #[tactic(auto, unfolding(account::specs::Step::next, account::specs::Step::answer))]
+#[inline(never)]
 fn output_closed(runner: &mut Runner, stream: Stream) -> Answer
     ensures { Moves runner.old (Calls.outputClosed stream) runner.new result }
 {
@@ -136,6 +142,7 @@ fn output_closed(runner: &mut Runner, stream: Stream) -> Answer
 }
 
 #[tactic(auto, unfolding(account::specs::Step::next, account::specs::Step::answer))]
+#[inline(never)]
 fn output_failed(runner: &mut Runner, stream: Stream) -> Answer
     ensures { Moves runner.old (Calls.outputFailed stream) runner.new result }
 {
@@ -144,6 +151,7 @@ fn output_failed(runner: &mut Runner, stream: Stream) -> Answer
 }
 
 #[tactic(auto, unfolding(account::specs::Step::next, account::specs::Step::answer))]
+#[inline(never)]
 fn output_hung_up(runner: &mut Runner, stream: Stream) -> Answer
     ensures { Moves runner.old (Calls.outputHungUp stream) runner.new result }
 {
@@ -153,14 +161,15 @@ fn output_hung_up(runner: &mut Runner, stream: Stream) -> Answer
 
 // (The store of bytes is not lent.)
 #[tactic(auto, unfolding(account::specs::Step::next, account::specs::Step::answer))]
+#[inline(never)]
 fn input_written(runner: &mut Runner, lengths: &mut [u32], n: usize) -> Answer
     ensures { (bytes work : List ℕ) → Made (stateOf runner.old bytes lengths.old) (Calls.inputWritten n) runner.new result bytes lengths.new work }
 {
-    let noting = runner.input_written(lengths, n);
-    noted(runner, noting)
+    answering::replied(runner.input_written_mut(lengths, n))
 }
 
 #[tactic(auto, unfolding(account::specs::Step::next, account::specs::Step::answer))]
+#[inline(never)]
 fn input_closed(runner: &mut Runner) -> Answer
     ensures { Moves runner.old Calls.inputClosed runner.new result }
 {
@@ -169,6 +178,7 @@ fn input_closed(runner: &mut Runner) -> Answer
 }
 
 #[tactic(auto, unfolding(account::specs::Step::next, account::specs::Step::answer))]
+#[inline(never)]
 fn exited(runner: &mut Runner, now: u64, status: MaybeStatus) -> Answer
     ensures { Moves runner.old (Calls.exited now status) runner.new result }
 {
@@ -177,6 +187,7 @@ fn exited(runner: &mut Runner, now: u64, status: MaybeStatus) -> Answer
 }
 
 #[tactic(auto, unfolding(account::specs::Step::next, account::specs::Step::answer))]
+#[inline(never)]
 fn settled(runner: &mut Runner, settlement: Settlement) -> Answer
     ensures { Moves runner.old (Calls.settled settlement) runner.new result }
 {
@@ -185,6 +196,7 @@ fn settled(runner: &mut Runner, settlement: Settlement) -> Answer
 }
 
 #[tactic(auto, unfolding(account::specs::Step::next, account::specs::Step::answer))]
+#[inline(never)]
 fn dropped(runner: &mut Runner, now: u64) -> Answer
     ensures { Moves runner.old (Calls.dropped now) runner.new result }
 {
@@ -193,6 +205,7 @@ fn dropped(runner: &mut Runner, now: u64) -> Answer
 }
 
 #[tactic(auto, unfolding(account::specs::Step::next, account::specs::Step::answer))]
+#[inline(never)]
 fn reset(runner: &mut Runner, now: u64) -> Answer
     ensures { Moves runner.old (Calls.reset now) runner.new result }
 {
@@ -201,6 +214,7 @@ fn reset(runner: &mut Runner, now: u64) -> Answer
 }
 
 #[tactic(auto, unfolding(account::specs::Step::next, account::specs::Step::answer))]
+#[inline(never)]
 fn disconnect(runner: &mut Runner, now: u64) -> Answer
     ensures { Moves runner.old (Calls.disconnect now) runner.new result }
 {
@@ -209,14 +223,15 @@ fn disconnect(runner: &mut Runner, now: u64) -> Answer
 }
 
 #[tactic(auto, unfolding(account::specs::Step::next, account::specs::Step::answer))]
+#[inline(never)]
 fn tick(runner: &mut Runner, now: u64) -> Answer
     ensures { Moves runner.old (Calls.tick now) runner.new result }
 {
-    let noting = runner.tick(now);
-    noted(runner, noting)
+    answering::replied(runner.tick_mut(now))
 }
 
 #[tactic(auto, unfolding(account::specs::Step::next, account::specs::Step::answer))]
+#[inline(never)]
 fn next_request(runner: &mut Runner) -> Answer
     ensures { Moves runner.old Calls.nextRequest runner.new result }
 {
@@ -238,14 +253,14 @@ pub fn clear(work: &mut [u8], n: usize)
 }
 
 // The message's bytes are left at the start of work.
+#[inline(never)]
 fn next_message(runner: &mut Runner, n: usize, store: &[u8], work: &mut [u8]) -> Answer
     requires { n ≤ length work.old }
     ensures { MessageMade runner.new result work.new (Runs.nextMessage runner.old store.now (zeros n)) }
 {
     clear(work, n);
-    let saying = runner.next_message(store, &mut work[0..n]);
-    *runner = saying.runner;
-    answering::said(saying.said)
+    let said = runner.next_message_mut(store, &mut work[0..n]);
+    answering::said(said)
 }
 
 fn wide(n: u16) -> usize
@@ -280,6 +295,7 @@ fn pending_input(runner: Runner, store: &[u8], work: &mut [u8]) -> Answer
 // ---- a call by its kind
 
 #[tactic(auto, unfolding(account::specs::Step::answer))]
+#[inline(never)]
 fn ask(runner: Runner, question: Question, store: &[u8], work: &mut [u8]) -> Answer
     requires { length store.now ≤ length work.old }
     ensures { Tells runner store.now (questionIs question) result work.new }

@@ -10,9 +10,9 @@ pub returns : goal.returns
 returns c =
     let a = c.args in
     let t = take-fewer (c.smaller-k.result - 0) a.n a.work.now (omega (arith, c.smaller-k.ensures)) in
-    let e = c.input-hearing.ensures ∙ ap (λ (b : List ℕ). Runs.input a.runner.now a.key b a.store.now a.lengths.now) t in (
-      c.heard.ensures.0 ∙ ap (λ (x : InputAfter). x.hearing.runner) e,
+    let e = c.input_mut-received.ensures ∙ ap (λ (b : List ℕ). Runs.input a.runner.now a.key b a.store.now a.lengths.now) t in (
+      ap (λ (x : InputAfter). x.hearing.runner) e,
       ap (λ (x : InputAfter). x.bytes) e,
       ap (λ (x : InputAfter). x.lengths) e,
-      λ w. c.heard.ensures.1 w ∙ ap (λ (x : InputAfter). receivedAs x.hearing.received) e,
+      λ w. c.received.ensures w ∙ ap (λ (x : InputAfter). receivedAs x.hearing.received) e,
     )

@@ -10,7 +10,7 @@ pub returns : goal.returns
 returns c =
     let a = c.args in
     let t = take-fewer (c.smaller-k.result - 0) a.n a.work.now (omega (arith, c.smaller-k.ensures)) in
-    let e = c.output-taking.ensures ∙ ap (λ (b : List ℕ). Runs.output a.runner.now a.stream b a.store.now) t in (
+    let e = c.output_mut-taken.ensures ∙ ap (λ (b : List ℕ). Runs.output a.runner.now a.stream b a.store.now) t in (
       ap (λ (x : OutputAfter). x.taking.runner) e,
       ap (λ (x : OutputAfter). x.bytes) e,
       λ w. c.took.ensures w ∙ ap (λ (x : OutputAfter). took x.taking.taken) e,
