@@ -125,17 +125,23 @@ impl Runner {
         reply
     }
 
-    // The next message to send the peer, if one waits. An output message stands at the start of `buffer`.
-    #[tactic(auto, unfolding(crate::specs::Calls::nextMessage, crate::specs::Message::say), using(crate::proofs::Guards::tested_stop))]
+    // The next message to send the peer, if one waits. An output message stands at the start of `buffer`. (Of what comes back only
+    // the parts that a message moves are taken over.)
+    #[tactic(auto, using(crate::proofs::Says::said_kept))]
     pub fn next_message_mut(&mut self, store: &[u8], buffer: &mut [u8]) -> Said
         ensures { messageAfter (saidBy self.new result) buffer.new ≡ nextMessage self.old store.now buffer.old }
     {
-        let limits = self.limits;
-        let enough = bytes_do(limits, store.len());
-        let good = self.agrees(enough) & self.stands();
-        let choice = self.choice(good, buffer.len());
-        let said = self.answer(good, choice);
-        self.say(choice, store, buffer);
-        said
+        let saying = self.next_message(store, buffer);
+        let next = saying.runner;
+        let flags = next.flags;
+        let input = next.input;
+        let outputs = next.outputs;
+        let credits = next.credits;
+        self.flags = flags;
+        self.input = input;
+        self.outputs = outputs;
+        self.credits = credits;
+        self.turn = next.turn;
+        saying.said
     }
 }

@@ -1,7 +1,6 @@
 // What the runner says next, and what it asks of the adapter: a choice by what the state shows, and then its effect.
 ghost use Rattle.std.specs.Prelude.{◌≡◌, true, ◌≤◌, length};
 ghost use Rattle.inbox.specs.Need.{byteNeed};
-ghost use Rattle.input.specs.Input.{takeCredit};
 ghost use Rattle.exec.specs.Stream.{index, following};
 ghost use Rattle.runner.specs.Message.{
   sendableOf,
@@ -28,7 +27,6 @@ use crate::runner::Runner;
 use choice::{Choice, order};
 use credit::sender::Credit;
 use exec::{MaybeCause, Stream};
-use input::Input;
 use output::Output;
 use output::outputs::{output_in, put_output};
 
@@ -145,16 +143,18 @@ impl Runner {
         }
     }
 
-    // What it leaves. The runner is changed where it stands, so that saying nothing copies nothing.
+    // The runner once it is said. It is changed in place and handed back at one place, so that saying nothing copies nothing.
     #[tactic(auto, unfolding(crate::specs::Message::say, crate::specs::Message::effect, crate::specs::Message::bufferAfter, crate::specs::Message::outputSent, crate::specs::Message::outputPaid, crate::specs::Message::sentOutput))]
-    pub(crate) fn say(&mut self, choice: Choice, store: &[u8], buffer: &mut [u8])
-        requires { Sayable choice self.old store.now buffer.old }
-        ensures { sayAfter self.new buffer.new ≡ say choice self.old store.now buffer.old }
+    pub(crate) fn say(mut self, choice: Choice, store: &[u8], buffer: &mut [u8]) -> Runner
+        requires { Sayable choice self store.now buffer.old }
+        ensures { sayAfter result buffer.new ≡ say choice self store.now buffer.old }
     {
         match choice {
             Choice::None => {}
             Choice::Credit => {
-                let granted = self.granted();
+                let input = self.input;
+                let crediting = input.take_credit();
+                let granted = crediting.input;
                 self.input = granted;
                 self.flags.credited = true;
             }
@@ -187,16 +187,7 @@ impl Runner {
                 self.flags.finished = true;
             }
         }
-    }
-
-    // The input once what can be granted is granted.
-    fn granted(self) -> Input
-        requires { InRange self }
-        ensures { result ≡ (takeCredit self.input).input }
-    {
-        let input = self.input;
-        let crediting = input.take_credit();
-        crediting.input
+        self
     }
 
     // The accounts once the cost of n bytes of a stream is spent.

@@ -533,11 +533,17 @@ impl Runner {
     }
 
     // The next message to send the peer, if one waits. An output message stands at the start of `buffer`.
-    pub fn next_message(mut self, store: &[u8], buffer: &mut [u8]) -> Saying
+    #[tactic(auto, unfolding(crate::specs::Calls::nextMessage, crate::specs::Message::say), using(crate::proofs::Guards::tested_stop))]
+    pub fn next_message(self, store: &[u8], buffer: &mut [u8]) -> Saying
         ensures { messageAfter result buffer.new ≡ nextMessage self store.now buffer.old }
     {
-        let said = self.next_message_mut(store, buffer);
-        Saying { runner: self, said }
+        let limits = self.limits;
+        let enough = bytes_do(limits, store.len());
+        let good = self.agrees(enough) & self.stands();
+        let choice = self.choice(good, buffer.len());
+        let said = self.answer(good, choice);
+        let runner = self.say(choice, store, buffer);
+        Saying { runner, said }
     }
 
     // Whether the terminal outcome was returned.

@@ -1,17 +1,14 @@
--- The input is in range; an output that was chosen is paid for, queued in a store that does, and fits the buffer.
+-- An output that was chosen is paid for, queued in a store that does, and fits the buffer.
 use Rattle.std.proofs.Common.{sym, ap, ◌∙◌}
 use Rattle.runner.specs.MessageLaws.{isSaid, is-payable, is-sendable}
 use Rattle.runner.proofs.runner.Runner.say.Goals as goal
-
-pub granted-granted-requires : goal.granted-granted-requires
-granted-granted-requires c = (c.requires (ap isSaid c.in-Credit.is)).0
 
 pub paid-paid-requires : goal.paid-paid-requires
 paid-paid-requires c =
     let a = c.args in
     let e = c.in-Output.is in
     let p = c.requires (ap isSaid e) in
-    is-payable a.self.now _ _ a.store.now a.buffer.now p.0 p.1 (sym e ∙ p.2)
+    is-payable a.self _ _ a.store.now a.buffer.now p.0 p.1 (sym e ∙ p.2)
 
 pub sent-sent-requires : goal.sent-sent-requires
 sent-sent-requires c =
