@@ -227,7 +227,8 @@ fn disconnect(runner: &mut Runner, now: u64) -> Answer
 fn tick(runner: &mut Runner, now: u64) -> Answer
     ensures { Moves runner.old (Calls.tick now) runner.new result }
 {
-    answering::replied(runner.tick_mut(now))
+    let noting = runner.tick(now);
+    noted(runner, noting)
 }
 
 #[tactic(auto, unfolding(account::specs::Step::next, account::specs::Step::answer))]

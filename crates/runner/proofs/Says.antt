@@ -3,11 +3,10 @@ use Rattle.std.proofs.Common.{◌≡◌, refl, ap, Bool, true, false, ℕ, ◌�
 use Rattle.std.proofs.lemmas.Bool.{false≢true}
 use Rattle.inbox.specs.Need.{byteNeed}
 use Rattle.choice.specs.declared.Choice.{Choice}
-use Rattle.exec.specs.declared.Reply.{Reply}
 use Rattle.runner.specs.declared.answer.Said.{Said}
 use Rattle.runner.specs.declared.runner.Runner.{Runner}
 use Rattle.runner.specs.Calls.{messageBy, nextMessage}
-use Rattle.runner.specs.Message.{choose, choiceOf, answerOf, effect, bufferAfter, messageAfter, SayAfter, sayAfter, say, outputSent, outputPaid}
+use Rattle.runner.specs.Message.{choose, choiceOf, answerOf, effect, bufferAfter, messageAfter, SayAfter, sayAfter, say}
 use Rattle.runner.specs.MessageLaws.{isSaid, Sayable}
 use Rattle.runner.specs.Range.{bytesDo, stop}
 use Rattle.runner.specs.RangeLaws.{InRange, stopIf}
@@ -33,37 +32,3 @@ module _ (r : Runner) (store buffer : List ℕ) (good : Bool) (c : Choice) (hc :
           ≡ messageBy (stopIf good r) r store buffer
       by true = refl
       by false = refl
-
--- a message moves five parts of the runner
-abbrev pub moved : (r next : Runner) → Runner
-moved r next = record {
-  key = r.key;
-  limits = r.limits;
-  timers = r.timers;
-  clocks = r.clocks;
-  life = r.life;
-  flags = next.flags;
-  input = next.input;
-  outputs = next.outputs;
-  credits = next.credits;
-  turn = next.turn;
-  high_water = r.high_water;
-}
-
-effect-kept : (c : Choice) (r : Runner) → effect c r ≡ moved r (effect c r)
-unfolding effect outputSent outputPaid
-effect-kept Choice.None r = refl
-effect-kept Choice.Credit r = refl
-effect-kept Choice.Started r = refl
-effect-kept Choice.InputClosed r = refl
-effect-kept (Choice.End x) r = refl
-effect-kept (Choice.Output x n) r = refl
-effect-kept Choice.Terminal r = refl
-
-pub said_kept : (r : Runner) (store buffer : List ℕ) → (nextMessage r store buffer).saying.runner ≡ moved r (nextMessage r store buffer).saying.runner
-unfolding nextMessage say
-said_kept r store buffer = by (stop r (bytesDo r.limits store))
-  where
-    by : (x : Reply) → (messageBy x r store buffer).saying.runner ≡ moved r (messageBy x r store buffer).saying.runner
-    by Reply.Ok = effect-kept (choose r (length buffer)) r
-    by (Reply.Refused x) = refl

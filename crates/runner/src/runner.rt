@@ -188,7 +188,10 @@ impl Runner {
     pub fn credit(mut self, key: Key, pool: Pool, units: u32) -> Hearing
         ensures { result ≡ credit self key pool units }
     {
-        let received = self.credit_mut(key, pool, units);
+        let accounting = self.account_for(key, pool, units);
+        let credits = accounting.credits;
+        let received = accounting.received;
+        self.credits = credits;
         Hearing {
             runner: self,
             received,
@@ -196,10 +199,25 @@ impl Runner {
     }
 
     // Bytes of the workload's input from the peer. Once the input is closed they are dropped, and the charge stands.
+    #[tactic(auto, unfolding(crate::specs::Calls::input, crate::specs::Streams::received, crate::specs::Streams::inputNext, crate::specs::Streams::inputAnswer, crate::specs::Streams::inputStore, crate::specs::Streams::inputLengths), using(crate::proofs::Guards::tested_stop))]
     pub fn input(mut self, key: Key, store: &mut [u8], lengths: &mut [u32], bytes: &[u8]) -> Hearing
         ensures { inputAfter result store.new lengths.new ≡ input self key bytes.now store.old lengths.old }
     {
-        let received = self.input_mut(key, store, lengths, bytes);
+        let limits = self.limits;
+        let enough = bytes_do(limits, store.len()) & lengths_do(limits, lengths.len());
+        let good = self.agrees(enough) & self.stands();
+        let received = if self.hears(good, key) {
+            let held = self.input;
+            let receiving = held.receive(limits, store, lengths, bytes);
+            let input = receiving.input;
+            let answer = receiving.received;
+            self.input = input;
+            let mark = self.mark(is_dropped(answer));
+            self.high_water = mark;
+            answer
+        } else {
+            self.meets(good, key)
+        };
         Hearing {
             runner: self,
             received,
@@ -291,10 +309,27 @@ impl Runner {
 
     // Bytes that were read from a stream, in order, of which it takes as many as the allowance lets it. While the stream is
     // discarded it takes all, and drops them.
+    #[tactic(auto, unfolding(crate::specs::Calls::output, crate::specs::Streams::outputTook, crate::specs::Streams::outputNext, crate::specs::Streams::outputTaken, crate::specs::Streams::outputStore, output::specs::Output::takenIn), using(crate::proofs::Guards::tested_stop))]
     pub fn output(mut self, stream: Stream, store: &mut [u8], bytes: &[u8]) -> Taking
         ensures { outputAfter result store.new ≡ output self stream bytes.now store.old }
     {
-        let taken = self.output_mut(stream, store, bytes);
+        let limits = self.limits;
+        let enough = bytes_do(limits, store.len());
+        let taken = if self.agrees(enough) & self.stands() {
+            let none = self.keeps_none(stream);
+            let chunk = limits.chunk;
+            let outputs = self.outputs;
+            let output = output_in(stream, outputs);
+            let base = ring_base(stream, chunk);
+            let intake = output.take_in(self.flags.gave_up, store, base, chunk, bytes);
+            let next = put_output(stream, intake.output, outputs);
+            self.outputs = next;
+            let mark = self.mark(none);
+            self.high_water = mark;
+            Taken::Bytes(intake.taken)
+        } else {
+            Taken::Refused(self.stopped())
+        };
         Taking {
             runner: self,
             taken,
@@ -379,10 +414,19 @@ impl Runner {
     }
 
     // The workload took so many bytes of its input.
+    #[tactic(auto, unfolding(crate::specs::Calls::inputWritten, crate::specs::Streams::writtenNext, crate::specs::Streams::writtenLengths, crate::specs::RangeLaws::stopIf), using(crate::proofs::Guards::tested_stop))]
     pub fn input_written(mut self, lengths: &mut [u32], bytes: usize) -> Noting
         ensures { writtenAfter result lengths.new ≡ inputWritten self bytes lengths.old }
     {
-        let reply = self.input_written_mut(lengths, bytes);
+        let limits = self.limits;
+        let enough = lengths_do(limits, lengths.len());
+        let good = self.agrees(enough) & self.stands();
+        let reply = self.reply(good);
+        if good {
+            let held = self.input;
+            let input = held.written(limits, lengths, bytes);
+            self.input = input;
+        }
         Noting {
             runner: self,
             reply,
@@ -481,10 +525,28 @@ impl Runner {
 
     // Fires the timers whose instants `now` has reached. They are handed a copy, and what they do not move is left in its place, so
     // that a tick with nothing due copies nothing.
+    #[tactic(auto, unfolding(crate::specs::Calls::tick, crate::specs::RangeLaws::stopIf), using(crate::proofs::Guards::tested_stop, crate::proofs::Quiet::ticked_is, crate::proofs::Quiet::in_fire))]
     pub fn tick(mut self, now: u64) -> Noting
         ensures { result ≡ tick self now }
     {
-        let reply = self.tick_mut(now);
+        let good = self.agrees(true) & self.stands();
+        let reply = self.reply(good);
+        if good & self.any_due(now) {
+            let before = self;
+            let after = before.fire(now);
+            let fired = after.clocks;
+            let clocks = fired.again();
+            let lived = after.life;
+            let life = lived.again();
+            let flags = after.flags;
+            let input = after.input;
+            let outputs = after.outputs;
+            self.clocks = clocks;
+            self.life = life;
+            self.flags = flags;
+            self.input = input;
+            self.outputs = outputs;
+        }
         Noting {
             runner: self,
             reply,

@@ -13,7 +13,7 @@ use Rattle.runner.specs.Calls.{hearing, credit, accountingOf}
 use Rattle.runner.specs.Range.{stop}
 use Rattle.runner.specs.State.{withFlow}
 use Rattle.runner.specs.Streams.{creditAnswer, creditNext}
-use Rattle.runner.proofs.runner.Runner.credit_mut.Goals as goal
+use Rattle.runner.proofs.runner.Runner.credit.Goals as goal
 
 credit-back : (r : Runner) (k : Key) (p : Pool) (units : ℕ) (a : Accounting) → a ≡ accountingOf (credit r k p units)
     → ◌≡◌ {A = Hearing} (record { runner = withFlow a.credits r.turn r.flags r.high_water r; received = a.received }) (credit r k p units)
