@@ -36,3 +36,9 @@ letter = (refl, refl, refl, refl)
 neither : (get_or digits 65 0 ≡ 255) × (get_or digits 255 0 ≡ 255)
 unfolding digits
 neither = (refl, refl)
+
+-- ---- all sixteen digits
+every-digit : unhex (48 ∷ 49 ∷ 50 ∷ 51 ∷ 52 ∷ 53 ∷ 54 ∷ 55 ∷ 56 ∷ 57 ∷ 97 ∷ 98 ∷ 99 ∷ 100 ∷ 101 ∷ 102 ∷ [])
+    ≡ some (1 ∷ 35 ∷ 69 ∷ 103 ∷ 137 ∷ 171 ∷ 205 ∷ 239 ∷ [])
+unfolding unhex arePairs areHex pairs hexValue
+every-digit = refl

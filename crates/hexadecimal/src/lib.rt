@@ -3,7 +3,7 @@
 
 ghost use Rattle.std.specs.Prelude.{◌≡◌, true, ◌++◌, ◌+◌, ◌*◌, ◌/◌, ◌≤◌, ◌<◌, length, drop};
 ghost use Rattle.ring.specs.Runs.{copied};
-ghost use Rattle.hexadecimal.specs.Hexadecimal.{isHex, areHex, arePairs, hexValue, hexDigit, hexOf, pairs, unhex};
+ghost use Rattle.hexadecimal.specs.Hexadecimal.{isHex, areHex, arePairs, digitOf, hexDigit, hexOf, pairs, unhex};
 ghost use Rattle.hexadecimal.specs.Answers.{maybeLength, unhexInto};
 
 #[derive(Clone, Copy)]
@@ -64,8 +64,7 @@ static DIGITS: [u8; 256] = [
 ];
 
 fn value(c: u8) -> u8
-    requires { isHex c ≡ true }
-    ensures { (result ≡ hexValue c) × (result < 16) }
+    ensures { result ≡ digitOf c }
 {
     DIGITS[c as usize]
 }

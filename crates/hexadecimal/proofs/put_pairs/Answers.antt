@@ -1,21 +1,35 @@
 -- A turn writes the byte of one pair.
-use Rattle.std.proofs.Common.{◌≡◌, ℕ, ◌+◌, ◌*◌, refl, ap₂, ◌∙◌, arith, length-set}
+use Rattle.std.proofs.Common.{◌≡◌, true, ℕ, ◌+◌, ◌*◌, ◌<◌, List, refl, ap₂, ◌∙◌, arith, get_or, length, length-set}
 use Rattle.ring.specs.Runs.{copied-zero}
+use Rattle.hexadecimal.specs.Hexadecimal.{areHex, digitOf}
+use Rattle.hexadecimal.specs.Digits.{digit-value, digit-below}
 use Rattle.hexadecimal.specs.HexadecimalLaws.{hex-at, unhex-turn, unhex-end}
 use Rattle.hexadecimal.proofs.put_pairs.Goals as goal
 
 pub loop-j-init : goal.loop-j-init
 loop-j-init c = (omega arith, copied-zero _ _ _ _, refl)
 
-pub value-requires : goal.value-requires
-value-requires c = hex-at _ _ c.requires.0 (omega arith)
+-- the value of a digit of the text is below 16
+small : (s : List ℕ) (i : ℕ) → areHex s ≡ true → i < length s → digitOf (get_or s i 0) < 16
+small s i h l = digit-below _ (hex-at s i h l)
 
-pub value-requires-in-loop-j : goal.value-requires-in-loop-j
-value-requires-in-loop-j c = hex-at _ _ c.requires.0 (omega arith)
+pub overflow_mul-out : goal.overflow_mul-out
+overflow_mul-out c =
+    let t = c.args.text.now in
+    let h = c.requires.0 in
+    omega (arith, c.value.ensures, small t (2 * c.loop-j.j) h (omega arith), small t (2 * c.loop-j.j + 1) h (omega arith))
+
+pub overflow_add-out : goal.overflow_add-out
+overflow_add-out c =
+    let t = c.args.text.now in
+    let h = c.requires.0 in
+    omega (arith, c.value.ensures, c.value-in-loop-j.ensures, small t (2 * c.loop-j.j) h (omega arith), small t (2 * c.loop-j.j + 1) h (omega arith))
 
 pub loop-j-preserved : goal.loop-j-preserved
 loop-j-preserved c =
-    let both = ap₂ (λ (x : ℕ) (y : ℕ). x * 16 + y) c.value.ensures.0 c.value-in-loop-j.ensures.0 in (
+    let high = c.value.ensures ∙ digit-value _ (hex-at _ _ c.requires.0 (omega arith)) in
+    let low = c.value-in-loop-j.ensures ∙ digit-value _ (hex-at _ _ c.requires.0 (omega arith)) in
+    let both = ap₂ (λ (x : ℕ) (y : ℕ). x * 16 + y) high low in (
       omega arith,
       rw c.loop-j.invariant.1 (unhex-turn _ _ _ _ (omega arith) (omega arith) both),
       simp length-set c.loop-j.invariant.2,
