@@ -3,6 +3,7 @@ use Rattle.std.proofs.Common.{◌≡◌, refl, true, ℕ, List, length}
 use Rattle.choice.specs.declared.Choice.{Choice}
 use Rattle.exec.specs.declared.Key.{Key}
 use Rattle.exec.specs.declared.Pool.{Pool}
+use Rattle.exec.specs.declared.Received.{Received}
 use Rattle.exec.specs.declared.Reply.{Reply}
 use Rattle.exec.specs.declared.Stream.{Stream}
 use Rattle.exec.specs.Key.{admits}
@@ -14,13 +15,21 @@ use Rattle.runner.specs.Range.{bytesDo, lengthsDo, stop}
 use Rattle.runner.specs.State.{withInput, withOutputs, withFlow}
 use Rattle.runner.specs.Streams.{creditAnswer, creditNext, received, inputNext, outputTook, outputNext, writtenNext}
 
-pub credit_kept : (r : Runner) (k : Key) (p : Pool) (units : ℕ)
-    → (credit r k p units).runner ≡ withFlow (credit r k p units).runner.credits r.turn r.flags r.high_water r
+-- the accounts
+abbrev creditOf : (r next : Runner) → Runner
+creditOf r next = withFlow next.credits r.turn r.flags r.high_water r
+
+pub credit_kept : (r : Runner) (k : Key) (p : Pool) (units : ℕ) → (credit r k p units).runner ≡ creditOf r (credit r k p units).runner
 unfolding credit creditNext
 credit_kept r k p units = by (stop r true)
   where
-    by : (x : Reply) → (hearing x (creditAnswer (admits r.key k) (outputPool r.limits.shared p) r units) (creditNext (admits r.key k) (outputPool r.limits.shared p) r units) r).runner
-        ≡ withFlow (hearing x (creditAnswer (admits r.key k) (outputPool r.limits.shared p) r units) (creditNext (admits r.key k) (outputPool r.limits.shared p) r units) r).runner.credits r.turn r.flags r.high_water r
+    next : Runner
+    next = creditNext (admits r.key k) (outputPool r.limits.shared p) r units
+
+    answer : Received
+    answer = creditAnswer (admits r.key k) (outputPool r.limits.shared p) r units
+
+    by : (x : Reply) → (hearing x answer next r).runner ≡ creditOf r (hearing x answer next r).runner
     by Reply.Ok = refl
     by (Reply.Refused x) = refl
 
