@@ -62,13 +62,18 @@ fn heard(runner: &mut Runner, hearing: Hearing) -> Answer
 }
 
 // ---- the calls that change the runner. Each stands alone (inline(never)): as parts of `make` they would all be set up for each call.
+// Of what a call that moves bytes or credit hands back only the parts that it can move are taken over, so that the rest is not copied.
 
-#[tactic(auto, unfolding(account::specs::Step::next, account::specs::Step::answer))]
+#[tactic(auto, unfolding(account::specs::Step::next, account::specs::Step::answer), using(crate::proofs::Kept::credit_kept))]
 #[inline(never)]
 fn credit(runner: &mut Runner, key: Key, pool: Pool, units: u32) -> Answer
     ensures { Moves runner.old (Calls.credit key pool units) runner.new result }
 {
-    answering::received(runner.credit_mut(key, pool, units))
+    let hearing = runner.credit(key, pool, units);
+    let next = hearing.runner;
+    let credits = next.credits;
+    runner.credits = credits;
+    answering::received(hearing.received)
 }
 
 #[inline(never)]
@@ -83,8 +88,11 @@ fn input(
     ensures { InputMade runner.new result store.new lengths.new (Runs.input runner.old key (take n work.now) store.old lengths.old) }
 {
     let k = smaller(n, work.len());
-    let received = runner.input_mut(key, store, lengths, &work[0..k]);
-    answering::received(received)
+    let hearing = runner.input(key, store, lengths, &work[0..k]);
+    let next = hearing.runner;
+    runner.input = next.input;
+    runner.high_water = next.high_water;
+    answering::received(hearing.received)
 }
 
 #[tactic(auto, unfolding(account::specs::Step::next, account::specs::Step::answer))]
@@ -119,8 +127,12 @@ fn output(runner: &mut Runner, stream: Stream, n: usize, store: &mut [u8], work:
     ensures { OutputMade runner.new result store.new (Runs.output runner.old stream (take n work.now) store.old) }
 {
     let k = smaller(n, work.len());
-    let taken = runner.output_mut(stream, store, &work[0..k]);
-    answering::took(taken)
+    let taking = runner.output(stream, store, &work[0..k]);
+    let next = taking.runner;
+    let outputs = next.outputs;
+    runner.outputs = outputs;
+    runner.high_water = next.high_water;
+    answering::took(taking.taken)
 }
 
 #[tactic(auto, unfolding(account::specs::Step::next, account::specs::Step::answer))]
@@ -160,12 +172,15 @@ fn output_hung_up(runner: &mut Runner, stream: Stream) -> Answer
 }
 
 // (The store of bytes is not lent.)
-#[tactic(auto, unfolding(account::specs::Step::next, account::specs::Step::answer))]
+#[tactic(auto, unfolding(account::specs::Step::next, account::specs::Step::answer), using(crate::proofs::Kept::written_kept))]
 #[inline(never)]
 fn input_written(runner: &mut Runner, lengths: &mut [u32], n: usize) -> Answer
     ensures { (bytes work : List ℕ) → Made (stateOf runner.old bytes lengths.old) (Calls.inputWritten n) runner.new result bytes lengths.new work }
 {
-    answering::replied(runner.input_written_mut(lengths, n))
+    let noting = runner.input_written(lengths, n);
+    let next = noting.runner;
+    runner.input = next.input;
+    answering::replied(noting.reply)
 }
 
 #[tactic(auto, unfolding(account::specs::Step::next, account::specs::Step::answer))]
@@ -260,8 +275,16 @@ fn next_message(runner: &mut Runner, n: usize, store: &[u8], work: &mut [u8]) ->
     ensures { MessageMade runner.new result work.new (Runs.nextMessage runner.old store.now (zeros n)) }
 {
     clear(work, n);
-    let said = runner.next_message_mut(store, &mut work[0..n]);
-    answering::said(said)
+    let saying = runner.next_message(store, &mut work[0..n]);
+    let next = saying.runner;
+    let outputs = next.outputs;
+    let credits = next.credits;
+    runner.flags = next.flags;
+    runner.input = next.input;
+    runner.outputs = outputs;
+    runner.credits = credits;
+    runner.turn = next.turn;
+    answering::said(saying.said)
 }
 
 fn wide(n: u16) -> usize

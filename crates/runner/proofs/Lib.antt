@@ -3,4 +3,3 @@ pub mod Quiet
 pub mod Guards
 pub mod Flows
 pub mod Says
-pub mod Kept

@@ -27,9 +27,7 @@ use Rattle.runner.specs.declared.answer.KeyAnswer.{KeyAnswer}
 use Rattle.runner.specs.declared.answer.LimitsAnswer.{LimitsAnswer}
 use Rattle.runner.specs.declared.answer.Noting.{Noting}
 use Rattle.runner.specs.declared.answer.Said.{Said}
-use Rattle.runner.specs.declared.answer.Saying.{Saying}
 use Rattle.runner.specs.declared.answer.Taken.{Taken}
-use Rattle.runner.specs.declared.answer.Taking.{Taking}
 use Rattle.runner.specs.declared.answer.Truth.{Truth}
 use Rattle.runner.specs.declared.answer.When.{When}
 use Rattle.choice.specs.declared.Choice.{Choice}
@@ -43,19 +41,6 @@ use Rattle.runner.specs.State as State
 use Rattle.runner.specs.Streams.{OutputAfter, outputAfter, outputTook, InputAfter, inputAfter, received, readAllowanceOf, discardedNext, closedNext, failedNext, hungUpNext, creditAnswer, creditNext, endAnswer, endNext, pendingOf, writtenNext, writtenLengths}
 
 -- ---- answers: what a call gives that meets no stop, or the refusal, which leaves the runner as it was
-
--- a runner, and the answer beside it
-abbrev pub notedBy : Runner → Reply → Noting
-notedBy r x = record { runner = r; reply = x }
-
-abbrev pub heardBy : Runner → Received → Hearing
-heardBy r x = record { runner = r; received = x }
-
-abbrev pub tookBy : Runner → Taken → Taking
-tookBy r x = record { runner = r; taken = x }
-
-abbrev pub saidBy : Runner → Said → Saying
-saidBy r x = record { runner = r; said = x }
 
 abbrev pub noting : Reply → (next r : Runner) → Noting
 noting Reply.Ok next r = record { runner = next; reply = Reply.Ok }

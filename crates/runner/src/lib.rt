@@ -3,7 +3,6 @@
 #![tactic(auto)]
 
 pub mod answer;
-mod in_place;
 mod life;
 pub mod message;
 mod pairs;

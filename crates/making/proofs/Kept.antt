@@ -1,4 +1,4 @@
--- Which parts of a runner the calls that move bytes and credit leave.
+-- Which parts of a runner the calls that move bytes and credit move: the others stay.
 use Rattle.std.proofs.Common.{◌≡◌, refl, true, ℕ, List, length}
 use Rattle.choice.specs.declared.Choice.{Choice}
 use Rattle.exec.specs.declared.Key.{Key}
@@ -16,10 +16,10 @@ use Rattle.runner.specs.State.{withInput, withOutputs, withFlow}
 use Rattle.runner.specs.Streams.{creditAnswer, creditNext, received, inputNext, outputTook, outputNext, writtenNext}
 
 -- the accounts
-abbrev creditOf : (r next : Runner) → Runner
-creditOf r next = withFlow next.credits r.turn r.flags r.high_water r
+abbrev pub creditMoved : (r next : Runner) → Runner
+creditMoved r next = withFlow next.credits r.turn r.flags r.high_water r
 
-pub credit_kept : (r : Runner) (k : Key) (p : Pool) (units : ℕ) → (credit r k p units).runner ≡ creditOf r (credit r k p units).runner
+pub credit_kept : (r : Runner) (k : Key) (p : Pool) (units : ℕ) → (credit r k p units).runner ≡ creditMoved r (credit r k p units).runner
 unfolding credit creditNext
 credit_kept r k p units = by (stop r true)
   where
@@ -29,31 +29,31 @@ credit_kept r k p units = by (stop r true)
     answer : Received
     answer = creditAnswer (admits r.key k) (outputPool r.limits.shared p) r units
 
-    by : (x : Reply) → (hearing x answer next r).runner ≡ creditOf r (hearing x answer next r).runner
+    by : (x : Reply) → (hearing x answer next r).runner ≡ creditMoved r (hearing x answer next r).runner
     by Reply.Ok = refl
     by (Reply.Refused x) = refl
 
 -- input, and what was held at once
-abbrev inputOf : (r next : Runner) → Runner
-inputOf r next = withFlow r.credits r.turn r.flags next.high_water (withInput next.input r)
+abbrev pub inputMoved : (r next : Runner) → Runner
+inputMoved r next = withFlow r.credits r.turn r.flags next.high_water (withInput next.input r)
 
-pub input_kept : (r : Runner) (k : Key) (bytes store lengths : List ℕ) → (input r k bytes store lengths).hearing.runner ≡ inputOf r (input r k bytes store lengths).hearing.runner
+pub input_kept : (r : Runner) (k : Key) (bytes store lengths : List ℕ) → (input r k bytes store lengths).hearing.runner ≡ inputMoved r (input r k bytes store lengths).hearing.runner
 unfolding input received inputNext
 input_kept r k bytes store lengths = by (stop r (storesDo r store lengths))
   where
-    by : (x : Reply) → (inputBy x (admits r.key k) r bytes store lengths).hearing.runner ≡ inputOf r (inputBy x (admits r.key k) r bytes store lengths).hearing.runner
+    by : (x : Reply) → (inputBy x (admits r.key k) r bytes store lengths).hearing.runner ≡ inputMoved r (inputBy x (admits r.key k) r bytes store lengths).hearing.runner
     by Reply.Ok = refl
     by (Reply.Refused x) = refl
 
 -- the outputs, and what was held at once
-abbrev outputOf : (r next : Runner) → Runner
-outputOf r next = withFlow r.credits r.turn r.flags next.high_water (withOutputs next.outputs r)
+abbrev pub outputMoved : (r next : Runner) → Runner
+outputMoved r next = withFlow r.credits r.turn r.flags next.high_water (withOutputs next.outputs r)
 
-pub output_kept : (r : Runner) (x : Stream) (bytes store : List ℕ) → (output r x bytes store).taking.runner ≡ outputOf r (output r x bytes store).taking.runner
+pub output_kept : (r : Runner) (x : Stream) (bytes store : List ℕ) → (output r x bytes store).taking.runner ≡ outputMoved r (output r x bytes store).taking.runner
 unfolding output outputTook outputNext
 output_kept r x bytes store = by (stop r (bytesDo r.limits store))
   where
-    by : (z : Reply) → (outputBy z r x bytes store).taking.runner ≡ outputOf r (outputBy z r x bytes store).taking.runner
+    by : (z : Reply) → (outputBy z r x bytes store).taking.runner ≡ outputMoved r (outputBy z r x bytes store).taking.runner
     by Reply.Ok = refl
     by (Reply.Refused z) = refl
 
@@ -66,10 +66,10 @@ written_kept r count lengths = by (stop r (lengthsDo r.limits lengths))
     by (Reply.Refused x) = refl
 
 -- all that a message moves
-abbrev saidOf : (r next : Runner) → Runner
-saidOf r next = withFlow next.credits next.turn next.flags r.high_water (withInput next.input (withOutputs next.outputs r))
+abbrev pub saidMoved : (r next : Runner) → Runner
+saidMoved r next = withFlow next.credits next.turn next.flags r.high_water (withInput next.input (withOutputs next.outputs r))
 
-effect-kept : (c : Choice) (r : Runner) → effect c r ≡ saidOf r (effect c r)
+effect-kept : (c : Choice) (r : Runner) → effect c r ≡ saidMoved r (effect c r)
 unfolding effect outputSent outputPaid
 effect-kept Choice.None r = refl
 effect-kept Choice.Credit r = refl
@@ -79,10 +79,10 @@ effect-kept (Choice.End x) r = refl
 effect-kept (Choice.Output x n) r = refl
 effect-kept Choice.Terminal r = refl
 
-pub said_kept : (r : Runner) (store buffer : List ℕ) → (nextMessage r store buffer).saying.runner ≡ saidOf r (nextMessage r store buffer).saying.runner
+pub said_kept : (r : Runner) (store buffer : List ℕ) → (nextMessage r store buffer).saying.runner ≡ saidMoved r (nextMessage r store buffer).saying.runner
 unfolding nextMessage say
 said_kept r store buffer = by (stop r (bytesDo r.limits store))
   where
-    by : (x : Reply) → (messageBy x r store buffer).saying.runner ≡ saidOf r (messageBy x r store buffer).saying.runner
+    by : (x : Reply) → (messageBy x r store buffer).saying.runner ≡ saidMoved r (messageBy x r store buffer).saying.runner
     by Reply.Ok = effect-kept (choose r (length buffer)) r
     by (Reply.Refused x) = refl
