@@ -1,7 +1,6 @@
 -- What an answer of the code stands for.
-use Rattle.std.specs.Prelude.{Bool, List, ◌≡◌, ℕ, take}
+use Rattle.std.specs.Prelude.{List, ◌≡◌, ℕ, take}
 use Rattle.calls.specs.Call as Call
-use Rattle.calls.specs.Call.{isRefused}
 use Rattle.account.specs.Step.{messageOf, requestOf}
 use Rattle.answering.specs.declared.Answer.{Answer}
 
@@ -24,6 +23,3 @@ answerIs Answer.Nothing work = Call.Nothing
 -- whatever stands in `work`
 abbrev pub AnswerIs : Answer → ((work : List ℕ) → Call.Answer) → Type 0
 AnswerIs a f = (work : List ℕ) → answerIs a work ≡ f work
-
-abbrev pub RefusedIs : Bool → Answer → Type 0
-RefusedIs b a = (work : List ℕ) → b ≡ isRefused (answerIs a work)

@@ -17,7 +17,7 @@ ghost use Rattle.account.specs.Step.{
 };
 ghost use Rattle.syntax.specs.Answers.{answerText, lineText};
 ghost use Rattle.printing.specs.Written.{Wrote};
-ghost use Rattle.answering.specs.Answering.{answerIs, AnswerIs, RefusedIs};
+ghost use Rattle.answering.specs.Answering.{answerIs, AnswerIs};
 
 use exec::{Deadline, Receipt, Received, Reply};
 use printing::{
@@ -127,26 +127,6 @@ pub fn said(said: Said) -> Answer
         Said::None => Answer::Nothing,
         Said::Message(m) => Answer::Says(m),
         Said::Refused(x) => Answer::Refused(x.number()),
-    }
-}
-
-pub fn is_refused(answer: Answer) -> bool
-    ensures { RefusedIs result answer }
-{
-    match answer {
-        Answer::Ok => false,
-        Answer::Applied => false,
-        Answer::Stale => false,
-        Answer::Late => false,
-        Answer::Refused(_) => true,
-        Answer::Taken(_) => false,
-        Answer::Pending(_) => false,
-        Answer::Value(_) => false,
-        Answer::Time(_) => false,
-        Answer::Truth(_) => false,
-        Answer::Asks(_) => false,
-        Answer::Says(_) => false,
-        Answer::Nothing => false,
     }
 }
 

@@ -6,16 +6,16 @@ use mathlib.Core.Option.{Option, none, some}
 use lib.Dec.{eqb, leb}
 use lib.ListN.{length}
 use Prim.Native.Nat.{ℕ}
-use Rattle.calls.specs.Call.{Call, timeOf}
+use Rattle.calls.specs.Call.{Call}
 use Rattle.account.specs.Step.{State}
 use Rattle.syntax.specs.Lines.{lineCall}
-use Rattle.grammar.specs.Feed.{Session, isBack, later, answered, tooLong, answerOf, lineEnds, hold, eat, feeds}
+use Rattle.grammar.specs.Feed.{Session, later, answered, tooLong, answerOf, lineEnds, hold, eat, feeds}
 use Rattle.grammar.specs.Feed as Feed
 use Rattle.standing.specs.Standing.{Place, placed}
 
 abbrev isOpen : Feed.Stage → Bool
 isOpen Feed.First = false
-isOpen (Feed.Running s last) = true
+isOpen (Feed.Running s) = true
 isOpen Feed.Over = false
 
 abbrev chosen : Bool → (x y : Feed.Answered) → Feed.Answered
@@ -25,15 +25,15 @@ either : (b : Bool) (x y : Feed.Answered) → isOpen x.stage ≡ true → isOpen
 either true x y h k = h
 either false x y h k = k
 
-later-open : (c : Option Call) (s : State) (last : ℕ) → isOpen (later c s last).stage ≡ true
+later-open : (c : Option Call) (s : State) → isOpen (later c s).stage ≡ true
 unfolding later
-later-open none s last = refl
-later-open (some c) s last = either (isBack (timeOf c) last) _ _ refl refl
+later-open none s = refl
+later-open (some c) s = refl
 
 answer-open : (x : Feed.Stage) (line : List ℕ) → isOpen x ≡ true → isOpen (answerOf x line).stage ≡ true
 unfolding answerOf answered tooLong
 answer-open Feed.First line h = absurd (true≢false (sym h))
-answer-open (Feed.Running s last) line h = either (leb (length line) 65535) _ _ (later-open (lineCall line) s last) refl
+answer-open (Feed.Running s) line h = either (leb (length line) 65535) _ _ (later-open (lineCall line) s) refl
 answer-open Feed.Over line h = absurd (true≢false (sym h))
 
 abbrev stepIf : Bool → (x y : Feed.Step) → Feed.Step
@@ -56,13 +56,13 @@ feeds-open s (b ∷ bs) h = feeds-open (eat s b).session bs (eat-open s b h)
 placed-twice : (x y : Feed.Stage) (p : Place) → (isOpen x ≡ true → isOpen y ≡ true) → placed y (placed x p) ≡ placed y p
 unfolding placed
 placed-twice Feed.First Feed.First p h = refl
-placed-twice Feed.First (Feed.Running s last) p h = refl
+placed-twice Feed.First (Feed.Running s) p h = refl
 placed-twice Feed.First Feed.Over p h = refl
-placed-twice (Feed.Running s last) Feed.First p h = absurd (true≢false (sym (h refl)))
-placed-twice (Feed.Running s last) (Feed.Running t last') p h = refl
-placed-twice (Feed.Running s last) Feed.Over p h = absurd (true≢false (sym (h refl)))
+placed-twice (Feed.Running s) Feed.First p h = absurd (true≢false (sym (h refl)))
+placed-twice (Feed.Running s) (Feed.Running t) p h = refl
+placed-twice (Feed.Running s) Feed.Over p h = absurd (true≢false (sym (h refl)))
 placed-twice Feed.Over Feed.First p h = refl
-placed-twice Feed.Over (Feed.Running s last) p h = refl
+placed-twice Feed.Over (Feed.Running s) p h = refl
 placed-twice Feed.Over Feed.Over p h = refl
 
 pub placed_on : (s : Session) (bs : List ℕ) (p : Place) → placed (feeds s bs).session.stage (placed s.stage p) ≡ placed (feeds s bs).session.stage p

@@ -14,13 +14,13 @@ use Rattle.ring.specs.Runs.{copied-zero}
 use Rattle.card.specs.declared.feed.Card.{Card}
 use Rattle.standing.specs.declared.Standing.{Standing}
 use Rattle.card.specs.declared.feed.Turn.{Turn}
-use Rattle.grammar.specs.Feed.{Session, lineEnds, feeds, pieces, ends}
+use Rattle.grammar.specs.Feed.{Session, lineEnds, feeds, pieces, ended, ends}
 use Rattle.card.specs.Feeding.{eaten, goesOn, lineLength, holdAll, line-feeds, to-line-end, feeds-end, all_held, line-answered, line-stopped}
 use Rattle.search.specs.SearchLaws.{index-most}
 use Rattle.card.specs.Laying.{laid, laid-pieces, laid_end, line-lays}
 use Rattle.card.specs.Holding.{Lent, placeIn, sessionOf, Stands, Holds, EndsLine}
 use Rattle.standing.specs.Standing.{Place, placeOf, placed}
-use Rattle.card.specs.Turning.{If, Answered, Stopped, Passes, Feeds, toEat, Goes, canEat, ended, Ended}
+use Rattle.card.specs.Turning.{If, Answered, Stopped, Passes, Feeds, toEat, Goes, canEat, Ended}
 use Rattle.standing.specs.Standing.{placed-own}
 use Rattle.card.proofs.Opens.{placed_on}
 use Rattle.printing.specs.Written.{Wrote, same_text, joined}

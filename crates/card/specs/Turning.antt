@@ -8,7 +8,7 @@ use Rattle.exec.specs.Key.{newKey}
 use Rattle.exec.specs.Time.{newTimers}
 use Rattle.runner.specs.Calls as Calls
 use Rattle.exec.specs.Limits.{noLimits}
-use Rattle.grammar.specs.Feed.{Session, start, lineEnds, feeds, ends}
+use Rattle.grammar.specs.Feed.{Session, start, lineEnds, feeds, ended, ends}
 use Rattle.card.specs.Holding.{Lent, sessionOf, placeIn, Stands, EndsLine}
 use Rattle.card.specs.Feeding.{goesOn, eaten}
 use Rattle.card.specs.Laying.{laid}
@@ -63,7 +63,6 @@ newCard = record {
   standing = record {
     stage = Stage.First;
     runner = (Calls.«open» (newKey 0 0) noLimits (newTimers 0 0) 0 [] []).runner;
-    last = 0;
   };
   lines = 0;
   held = 0;
@@ -94,10 +93,6 @@ abbrev pub Eats : (piece : List ℕ) → Card → (before : Lent) → Eaten → 
 Eats piece c before r after = If (canEat c before) (Fed piece c before r after) (Left c before r after)
 
 -- ---- the end of the input
-
--- the session after it: it ends a line that has begun
-unfoldable pub ended : Session → Session
-ended s = cond (eqb (length s.held) 0) s (lineEnds s).session
 
 -- what it prints stands at the start of the output area
 pub record Ended (c : Card) (before : Lent) (r : Eaten) (after : Lent) : Type 0 where

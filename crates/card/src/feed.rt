@@ -142,7 +142,6 @@ impl Card {
             standing: Standing {
                 stage: Stage::First,
                 runner,
-                last: 0,
             },
             lines: 0,
             held: 0,

@@ -3,7 +3,7 @@ use Rattle.std.specs.Prelude.{ℕ, ◌≡◌, refl, Bool, true, false, cond, Lis
 use Rattle.std.proofs.Common.{arith, eqb-true}
 use Rattle.std.proofs.Math.Option.{Option, none, some}
 use Rattle.exec.specs.declared.Refusal.{Refusal}
-use Rattle.exec.specs.declared.Refusal.TheVariants.{Key, Pool, Credit, Chunk, Window, Ended, NoLimits, StoreShort, StateOutOfRange, NotAChannel, BadLength, UnknownKind, OtherChannel, BadType, NotInbound, BufferShort, BadLine, TimeBack, UntoldStatus, BadRequest}
+use Rattle.exec.specs.declared.Refusal.TheVariants.{Key, Pool, Credit, Chunk, Window, Ended, NoLimits, StoreShort, StateOutOfRange, NotAChannel, BadLength, UnknownKind, OtherChannel, BadType, NotInbound, BufferShort, BadLine, UntoldStatus, BadRequest}
 
 abbrev pub number : Refusal → ℕ
 number Key = 1
@@ -23,7 +23,6 @@ number BadType = 23
 number NotInbound = 24
 number BufferShort = 25
 number BadLine = 30
-number TimeBack = 31
 number UntoldStatus = 40
 number BadRequest = 41
 
@@ -31,7 +30,7 @@ number BadRequest = 41
 abbrev pub stops : List Refusal
 stops =
     Key ∷ Pool ∷ Credit ∷ Chunk ∷ Window ∷ Ended ∷ NoLimits ∷ StoreShort ∷ StateOutOfRange ∷ NotAChannel ∷ BadLength ∷ UnknownKind
-    ∷ OtherChannel ∷ BadType ∷ NotInbound ∷ BufferShort ∷ BadLine ∷ TimeBack ∷ UntoldStatus ∷ BadRequest ∷ []
+    ∷ OtherChannel ∷ BadType ∷ NotInbound ∷ BufferShort ∷ BadLine ∷ UntoldStatus ∷ BadRequest ∷ []
 
 unfoldable pub find : ℕ → List Refusal → Option Refusal
 find n [] = none
@@ -60,7 +59,6 @@ refusal-number BadType = refl
 refusal-number NotInbound = refl
 refusal-number BufferShort = refl
 refusal-number BadLine = refl
-refusal-number TimeBack = refl
 refusal-number UntoldStatus = refl
 refusal-number BadRequest = refl
 
@@ -77,3 +75,8 @@ find-number n x (y ∷ ys) h = found (eqb (number y) n) n x y (find n ys) refl (
 
 pub number-refusal : (n : ℕ) (x : Refusal) → refusal n ≡ some x → number x ≡ n
 number-refusal n x h = find-number n x stops h
+
+-- 31 was the card's, for times that fall; 02's A5 retired it: never given again
+pub retired : refusal 31 ≡ none
+unfolding find
+retired = refl

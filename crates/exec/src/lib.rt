@@ -573,7 +573,6 @@ pub enum Refusal {
     NotInbound,
     BufferShort,
     BadLine,
-    TimeBack,
     UntoldStatus,
     BadRequest,
 }
@@ -601,7 +600,6 @@ impl Refusal {
             Refusal::NotInbound => 24,
             Refusal::BufferShort => 25,
             Refusal::BadLine => 30,
-            Refusal::TimeBack => 31,
             Refusal::UntoldStatus => 40,
             Refusal::BadRequest => 41,
         }

@@ -1,13 +1,14 @@
--- A card is answered line by line.
-use Rattle.std.specs.Prelude.{Bool, true, false, cond, not, ◌≡◌, refl, List, [], ◌∷◌, ◌++◌, ℕ, ◌+◌, eqb, length, take}
-use Rattle.std.proofs.lemmas.Bool.{false≢true, lt-leb}
+-- A card is answered line by line, its last line too where no 0a ends it.
+use Rattle.std.specs.Prelude.{Bool, true, false, cond, ◌≡◌, refl, List, [], ◌∷◌, ◌++◌, ℕ, suc, ◌+◌, eqb, length, take}
+use Rattle.std.proofs.lemmas.Bool.{lt-leb}
 use Rattle.std.proofs.Common.{sym, ap, ◌∙◌, append_assoc, append-nil, arith, lt-ltb, le-ltb, length-append, take_all, length-take-le}
 use Rattle.std.proofs.Math.Decide.{dec_lt}
 use Rattle.std.proofs.lemmas.List.{take-append-le}
-use Rattle.ring.specs.Flags.{and_l, and_r}
+use borrow.Author.Tests.{ne_eqb}
+use mathlib.Core.Path.{subst}
 use Rattle.syntax.specs.Answers.{lineText}
-use Rattle.grammar.specs.Feed.{Stage, First, Session, Step, Answered, answerOf, lineEnds, hold, eat, feeds, ends, prints}
-use Rattle.grammar.specs.ByLine.{cardOf, isLine, areLines, answersFrom, textFrom, ByLine}
+use Rattle.grammar.specs.Feed.{Stage, First, Session, Step, Answered, answerOf, lineEnds, hold, eat, feeds, ended, ends, prints}
+use Rattle.grammar.specs.ByLine.{startWith, linesIn, stageAfter, answersFrom, textFrom, ByLine}
 
 -- ---- a line
 
@@ -47,20 +48,6 @@ kept : (x : Stage) (n b : ℕ) (p rest : List ℕ) → eqb b 10 ≡ false
 unfolding feeds eat
 kept x n b p rest h = rw h (ap (λ (q : List ℕ). feeds (holding x n q) rest) (hold-on b p))
 
--- and so are the bytes of a line
-fed : (x : Stage) (n : ℕ) (p l rest : List ℕ) → isLine l ≡ true
-    → feeds (holding x n (held_of p)) (l ++ rest) ≡ feeds (holding x n (held_of (p ++ l))) rest
-unfolding isLine
-fed x n p [] rest h = ap (λ (q : List ℕ). feeds (holding x n (held_of q)) rest) (sym (append-nil p))
-fed x n p (b ∷ l) rest h =
-    kept x n b p (l ++ rest) (unless (eqb b 10) (and_l (not (eqb b 10)) (isLine l) h))
-    ∙ fed x n (p ++ (b ∷ [])) l rest (and_r (not (eqb b 10)) (isLine l) h)
-    ∙ ap (λ (q : List ℕ). feeds (holding x n (held_of q)) rest) (append_assoc p (b ∷ []) l)
-  where
-    unless : (e : Bool) → not e ≡ true → e ≡ false
-    unless true h = absurd (false≢true h)
-    unless false h = refl
-
 -- its end answers it
 abbrev answeredOn : (n : ℕ) → Answered → (rest : List ℕ) → Step
 answeredOn n a rest = record {
@@ -68,23 +55,73 @@ answeredOn n a rest = record {
   printed = lineText (n + 1) a.answer ++ (feeds (holding a.stage (n + 1) []) rest).printed;
 }
 
-ended : (x : Stage) (n : ℕ) (l rest : List ℕ) → feeds (holding x n (held_of l)) (10 ∷ rest) ≡ answeredOn n (answerOf x l) rest
+line-ended : (x : Stage) (n b : ℕ) (l rest : List ℕ) → eqb b 10 ≡ true → feeds (holding x n (held_of l)) (b ∷ rest) ≡ answeredOn n (answerOf x l) rest
 unfolding feeds eat lineEnds
-ended x n l rest = ap (λ (a : Answered). answeredOn n a rest) (held-answer x l)
+line-ended x n b l rest h = rw h (ap (λ (a : Answered). answeredOn n a rest) (held-answer x l))
 
 -- ---- a card
 
-lines-fed : (x : Stage) (n : ℕ) (ls : List (List ℕ)) → areLines ls ≡ true
-    → ((feeds (holding x n []) (cardOf ls)).session.held ≡ []) × ((feeds (holding x n []) (cardOf ls)).printed ≡ textFrom n (answersFrom x ls))
-unfolding feeds
-lines-fed x n [] h = (refl, refl)
-lines-fed x n (l ∷ ls) h =
-    let line = fed x n [] l (10 ∷ cardOf ls) (and_l (isLine l) (areLines ls) h) ∙ ended x n l (cardOf ls) in
-    let rest = lines-fed (answerOf x l).stage (n + 1) ls (and_r (isLine l) (areLines ls) h) in (
-      ap (λ (t : Step). t.session.held) line ∙ rest.0,
-      ap (λ (t : Step). t.printed) line ∙ ap (λ (t : List ℕ). lineText (n + 1) (answerOf x l).answer ++ t) rest.1,
-    )
+-- the lines of a text, of whose first a part was held before
+abbrev behind : (p : List ℕ) (lines : List (List ℕ)) → List (List ℕ)
+behind p [] = cond (eqb (length p) 0) [] (p ∷ [])
+behind p (l ∷ ls) = (p ++ l) ∷ ls
 
-pub by-line : ByLine
-unfolding prints ends
-by-line ls h = let f = lines-fed First 0 ls h in rw (f.0, f.1) (append-nil (textFrom 0 (answersFrom First ls)))
+behind-none : (ls : List (List ℕ)) → behind [] ls ≡ ls
+behind-none [] = refl
+behind-none (l ∷ ls) = refl
+
+behind-more : (p : List ℕ) (b : ℕ) (ls : List (List ℕ)) → behind (p ++ (b ∷ [])) ls ≡ behind p (startWith b ls)
+behind-more p b [] =
+    let n : length (p ++ (b ∷ [])) ≡ length p + 1 = length-append p (b ∷ []) in
+    rw (n, ne_eqb (length p + 1) 0 (λ z. absurd (omega arith))) refl
+behind-more p b (l ∷ ls) = ap (λ (q : List ℕ). q ∷ ls) (append_assoc p (b ∷ []) l)
+
+-- what is printed of a text and its end, and the stage behind them
+abbrev printedOf : Step → List ℕ
+printedOf t = t.printed ++ ends t.session
+
+abbrev stageOf : Step → Stage
+stageOf t = (ended t.session).stage
+
+abbrev Lines : (x : Stage) (n : ℕ) → Step → (lines : List (List ℕ)) → Type 0
+Lines x n t ls = (printedOf t ≡ textFrom n (answersFrom x ls)) × (stageOf t ≡ stageAfter x ls)
+
+some : (n : ℕ) → eqb (suc n) 0 ≡ false
+some n = ne_eqb (suc n) 0 (λ z. absurd (omega arith))
+
+empty-take : (n : ℕ) (p : List ℕ) → eqb (length (take (suc n) p)) 0 ≡ eqb (length p) 0
+empty-take n [] = refl
+empty-take n (b ∷ p) = some (length (take n p)) ∙ sym (some (length p))
+
+empty-held : (p : List ℕ) → eqb (length (held_of p)) 0 ≡ eqb (length p) 0
+empty-held p = empty-take 65535 p
+
+lines-end : (x : Stage) (n : ℕ) (p : List ℕ) → Lines x n (feeds (holding x n (held_of p)) []) (behind p [])
+unfolding feeds ends ended lineEnds
+lines-end x n p = subst (λ (e : Bool). Lines x n (feeds (holding x n (held_of p)) []) (cond e [] (p ∷ []))) (empty-held p) (by (eqb (length (held_of p)) 0))
+  where
+    by : (e : Bool) → (cond e [] (lineText (n + 1) (answerOf x (held_of p)).answer) ≡ textFrom n (answersFrom x (cond e [] (p ∷ []))))
+        × ((cond {A = Session} e (holding x n (held_of p)) (holding (answerOf x (held_of p)).stage (n + 1) [])).stage ≡ stageAfter x (cond e [] (p ∷ [])))
+    by true = (refl, refl)
+    by false = rw (held-answer x p) (sym (append-nil _), refl)
+
+lines-more : (x : Stage) (n : ℕ) (p text : List ℕ) → Lines x n (feeds (holding x n (held_of p)) text) (behind p (linesIn text))
+unfolding linesIn
+lines-more x n p [] = lines-end x n p
+lines-more x n p (b ∷ text) = by (eqb b 10) refl (λ y m q. lines-more y m q text)
+  where
+    by : (e : Bool) → eqb b 10 ≡ e → ((y : Stage) (m : ℕ) (q : List ℕ) → Lines y m (feeds (holding y m (held_of q)) text) (behind q (linesIn text)))
+        → Lines x n (feeds (holding x n (held_of p)) (b ∷ text)) (behind p (cond e ([] ∷ linesIn text) (startWith b (linesIn text))))
+    by true q more =
+        let a = answerOf x p in
+        let h = rw (behind-none (linesIn text)) at (more a.stage (n + 1) []) in
+        let s = feeds (holding a.stage (n + 1) []) text in
+        let line = lineText (n + 1) a.answer in
+        rw (line-ended x n b p text q, append-nil p) (append_assoc line s.printed (ends s.session) ∙ ap (λ (t : List ℕ). line ++ t) h.0, h.1)
+    by false q more = rw (kept x n b p text q, ← behind-more p b (linesIn text)) (more x n (p ++ (b ∷ [])))
+
+pub by-line : (card : List ℕ) → ByLine card
+unfolding prints
+by-line card =
+    let h = rw (behind-none (linesIn card)) at (lines-more First 0 [] card) in
+    record { printed = h.0; stage = h.1 }

@@ -38,7 +38,7 @@ use Rattle.opening.specs.Timeout.{number-else, number-itself, line-bad, line-ope
 use Rattle.opening.specs.Only.{line-says}
 use Rattle.grammar.specs.Feed.{First, Running, Over, Answered, bad, prints, isShort, answerOf, answered, openedBy, first, later, tooLong}
 use Rattle.grammar.specs.LeftOpen.{asked, Starts, EveryCard}
-use Rattle.grammar.specs.ByLine.{cardOf, isLine, areLines, answersFrom, textFrom}
+use Rattle.grammar.specs.ByLine.{linesIn, answersFrom, textFrom}
 use Rattle.grammar.proofs.ByLine.{by-line}
 
 -- ---- the first line
@@ -68,7 +68,7 @@ opened-so line = by (isShort line) refl (lineOpen line) refl
 
 -- leaves the runner that open gives
 first-line : (line : List ℕ) (x : Opened line)
-    → answerOf First line ≡ record { stage = Running (Step.opened x.given.conf x.given.now (zeros 65536) (zeros 1024)) x.given.now; answer = Call.Ok }
+    → answerOf First line ≡ record { stage = Running (Step.opened x.given.conf x.given.now (zeros 65536) (zeros 1024)); answer = Call.Ok }
 unfolding answerOf answered first
 first-line line x = rw (x.short, x.reads) (ap (λ (r : Reply). openedBy r x.given) x.opens)
 
@@ -83,15 +83,15 @@ fresh-deadline : (conf : Conf) (now : ℕ) (bs lengths : List ℕ) → Plain.ans
 unfolding Plain.answer Range.fresh Life.deadlineOf
 fresh-deadline conf now bs lengths = ap Call.Time (still (timeoutAt conf.timers.timeout now))
 
-deadline-line : (s : State) (last : ℕ) → (answerOf (Running s last) (bytes "deadline")).answer ≡ Step.answer s Call.deadline
+deadline-line : (s : State) → (answerOf (Running s) (bytes "deadline")).answer ≡ Step.answer s Call.deadline
 unfolding calls answerOf answered later
-deadline-line s last = refl
+deadline-line s = refl
 
 asked_is : (line : List ℕ) (x : Opened line) → asked line ≡ Call.Ok ∷ Call.Time (timeoutAt x.given.conf.timers.timeout x.given.now) ∷ []
 asked_is line x =
     let conf : Conf = x.given.conf in let now : ℕ = x.given.now in
     ap (λ (a : Answered). a.answer ∷ answersFrom a.stage (bytes "deadline" ∷ [])) (first-line line x)
-    ∙ ap (λ (a : Answer). Call.Ok ∷ a ∷ []) (deadline-line (Step.opened conf now (zeros 65536) (zeros 1024)) now
+    ∙ ap (λ (a : Answer). Call.Ok ∷ a ∷ []) (deadline-line (Step.opened conf now (zeros 65536) (zeros 1024))
     ∙ same_answer conf now (zeros 65536) (zeros 1024) x.opens [] Call.deadline
     ∙ fresh-deadline conf now (zeros 65536) (zeros 1024))
 
@@ -130,13 +130,14 @@ everyCard = record {
 -- ---- cards
 
 -- what it prints, where its further lines are answered so whatever the stores hold
-opened-card : (line : List ℕ) (conf : Conf) (now : ℕ) (ls : List (List ℕ)) (answers : List Answer) → isShort line ≡ true → lineOpen line ≡ some (record { conf = conf; now = now })
-    → Opens conf now (zeros 65536) (zeros 1024) → areLines (line ∷ ls) ≡ true
-    → ((bs lengths : List ℕ) → answersFrom (Running (begun conf now bs lengths) now) ls ≡ answers) → prints (cardOf (line ∷ ls)) ≡ textFrom 0 (Call.Ok ∷ answers)
-opened-card line conf now ls answers h e o a f =
-    by-line (line ∷ ls) a
+opened-card : (card line : List ℕ) (conf : Conf) (now : ℕ) (ls : List (List ℕ)) (answers : List Answer) → linesIn card ≡ line ∷ ls → isShort line ≡ true
+    → lineOpen line ≡ some (record { conf = conf; now = now }) → Opens conf now (zeros 65536) (zeros 1024)
+    → ((bs lengths : List ℕ) → answersFrom (Running (begun conf now bs lengths)) ls ≡ answers) → prints card ≡ textFrom 0 (Call.Ok ∷ answers)
+opened-card card line conf now ls answers l h e o f =
+    (by-line card).printed
+    ∙ ap (λ (x : List (List ℕ)). textFrom 0 (answersFrom First x)) l
     ∙ ap (λ (x : Answered). textFrom 0 (x.answer ∷ answersFrom x.stage ls)) (first-line line (record { given = record { conf = conf; now = now }; short = h; reads = e; opens = o }))
-    ∙ ap (λ (s : State). textFrom 0 (Call.Ok ∷ answersFrom (Running s now) ls)) (open-same conf now (zeros 65536) (zeros 1024) o)
+    ∙ ap (λ (s : State). textFrom 0 (Call.Ok ∷ answersFrom (Running s) ls)) (open-same conf now (zeros 65536) (zeros 1024) o)
     ∙ ap (λ (x : List Answer). textFrom 0 (Call.Ok ∷ x)) (f (zeros 65536) (zeros 1024))
 
 abbrev hour : MaybeDuration
@@ -207,14 +208,14 @@ timesOut = Call.Ok
     ∷ Call.Time (At 3600000000015)
     ∷ []
 
-hung-answers : (bs lengths : List ℕ) → answersFrom (Running (begun (timed hour) 5 bs lengths) 5) hung ≡ timesOut
+hung-answers : (bs lengths : List ℕ) → answersFrom (Running (begun (timed hour) 5 bs lengths)) hung ≡ timesOut
 unfolding hung calls answerOf answered later Step.next Step.answer Calls.launched Calls.tick Calls.deadline Calls.nextRequest Range.fresh Range.stop Range.inRange bytesWith outputFits Life.closeRunnerInput Life.endGrace Life.beginTermination Life.terminate Life.passGrace Life.passTimeout Life.passSettlement Life.giveUpUnlessClean Life.passGiveUp Life.dropLaunch Life.dropStreams Life.passAbandonment Life.fire Life.ticked Life.deadlineOf Life.noteStarted Life.noteLaunch Life.launchedNext Message.wishFor Message.wish Message.wishEffect
 hung-answers bs lengths = refl
 
 left_open : prints (bytes "open,5,7,2,4,B,8,B,8,0,-,10,5\nlaunched,0,-,-\ndeadline\ntick,3600000000004\nrequest\ntick,3600000000005\nrequest\ndeadline\n")
     ≡ textFrom 0 (Call.Ok ∷ timesOut)
-unfolding hung calls timeout openOf isOpen openingOf limitsOf timersOf isLine
-left_open = opened-card (bytes "open,5,7,2,4,B,8,B,8,0,-,10,5") (timed hour) 5 hung timesOut refl refl (opens hour 5) refl hung-answers
+unfolding hung calls timeout openOf isOpen openingOf limitsOf timersOf linesIn bytes
+left_open = opened-card _ (bytes "open,5,7,2,4,B,8,B,8,0,-,10,5") (timed hour) 5 hung timesOut refl refl refl (opens hour 5) hung-answers
 
 -- ---- never: no limit, not the largest number either
 
@@ -230,14 +231,14 @@ overnight = bytes "launched,0,-,-"
 abbrev goesOn : List Answer
 goesOn = Call.Ok ∷ Call.Time Never ∷ Call.Ok ∷ Call.Nothing ∷ Call.Time Never ∷ []
 
-overnight-answers : (bs lengths : List ℕ) → answersFrom (Running (begun (timed MaybeDuration.None) 0 bs lengths) 0) overnight ≡ goesOn
+overnight-answers : (bs lengths : List ℕ) → answersFrom (Running (begun (timed MaybeDuration.None) 0 bs lengths)) overnight ≡ goesOn
 unfolding overnight calls answerOf answered later Step.next Step.answer Calls.launched Calls.tick Calls.deadline Calls.nextRequest Range.fresh Range.stop Range.inRange bytesWith outputFits Life.passGrace Life.passTimeout Life.passSettlement Life.passGiveUp Life.passAbandonment Life.fire Life.ticked Life.deadlineOf Life.noteStarted Life.noteLaunch Life.launchedNext Message.wishFor Message.wish Message.wishEffect
 overnight-answers bs lengths = refl
 
 no-limit : prints (bytes "open,0,7,2,4,B,8,B,8,0,never,10,5\nlaunched,0,-,-\ndeadline\ntick,18446744073709551615\nrequest\ndeadline\n")
     ≡ textFrom 0 (Call.Ok ∷ goesOn)
-unfolding overnight calls timeout openOf isOpen openingOf limitsOf timersOf isLine
-no-limit = opened-card (bytes "open,0,7,2,4,B,8,B,8,0,never,10,5") (timed MaybeDuration.None) 0 overnight goesOn refl refl (opens MaybeDuration.None 0) refl overnight-answers
+unfolding overnight calls timeout openOf isOpen openingOf limitsOf timersOf linesIn bytes
+no-limit = opened-card _ (bytes "open,0,7,2,4,B,8,B,8,0,never,10,5") (timed MaybeDuration.None) 0 overnight goesOn refl refl refl (opens MaybeDuration.None 0) overnight-answers
 
 -- ---- opened at the last instant from which the hour ends, and one later
 
@@ -252,21 +253,21 @@ abbrev neverEnds : List Answer
 neverEnds = Call.Ok ∷ Call.Time Never ∷ Call.Ok ∷ Call.Nothing ∷ []
 
 latest-answers : (bs lengths : List ℕ)
-    → (answersFrom (Running (begun (timed hour) 18446740473709551615 bs lengths) 18446740473709551615) latest ≡ justEnds)
-    × (answersFrom (Running (begun (timed hour) 18446740473709551616 bs lengths) 18446740473709551616) latest ≡ neverEnds)
+    → (answersFrom (Running (begun (timed hour) 18446740473709551615 bs lengths)) latest ≡ justEnds)
+    × (answersFrom (Running (begun (timed hour) 18446740473709551616 bs lengths)) latest ≡ neverEnds)
 unfolding latest calls answerOf answered later Step.next Step.answer Calls.launched Calls.tick Calls.deadline Calls.nextRequest Range.fresh Range.stop Range.inRange bytesWith outputFits Life.closeRunnerInput Life.endGrace Life.beginTermination Life.terminate Life.passGrace Life.passTimeout Life.passSettlement Life.giveUpUnlessClean Life.passGiveUp Life.dropLaunch Life.dropStreams Life.passAbandonment Life.fire Life.ticked Life.deadlineOf Life.noteStarted Life.noteLaunch Life.launchedNext Message.wishFor Message.wish Message.wishEffect
 latest-answers bs lengths = (refl, refl)
 
 last-hour : (prints (bytes "open,18446740473709551615,7,2,4,B,8,B,8,0,-,10,5\nlaunched,0,-,-\ndeadline\ntick,18446744073709551615\nrequest\n") ≡ textFrom 0 (Call.Ok ∷ justEnds))
     × (prints (bytes "open,18446740473709551616,7,2,4,B,8,B,8,0,-,10,5\nlaunched,0,-,-\ndeadline\ntick,18446744073709551615\nrequest\n") ≡ textFrom 0 (Call.Ok ∷ neverEnds))
-unfolding latest calls timeout openOf isOpen openingOf limitsOf timersOf isLine
+unfolding latest calls timeout openOf isOpen openingOf limitsOf timersOf linesIn bytes
 last-hour = (
-  opened-card (bytes "open,18446740473709551615,7,2,4,B,8,B,8,0,-,10,5") (timed hour) 18446740473709551615 latest justEnds refl refl (opens hour 18446740473709551615) refl (λ bs lengths. (latest-answers bs lengths).0),
-  opened-card (bytes "open,18446740473709551616,7,2,4,B,8,B,8,0,-,10,5") (timed hour) 18446740473709551616 latest neverEnds refl refl (opens hour 18446740473709551616) refl (λ bs lengths. (latest-answers bs lengths).1),
+  opened-card _ (bytes "open,18446740473709551615,7,2,4,B,8,B,8,0,-,10,5") (timed hour) 18446740473709551615 latest justEnds refl refl refl (opens hour 18446740473709551615) (λ bs lengths. (latest-answers bs lengths).0),
+  opened-card _ (bytes "open,18446740473709551616,7,2,4,B,8,B,8,0,-,10,5") (timed hour) 18446740473709551616 latest neverEnds refl refl refl (opens hour 18446740473709551616) (λ bs lengths. (latest-answers bs lengths).1),
 )
 
 -- ---- any other text opens nothing
 
 misspelt : prints (bytes "open,5,7,2,4,B,8,B,8,0,Never,10,5\ndeadline\n") ≡ textFrom 0 (Call.Refused 30 ∷ Call.Refused 30 ∷ [])
-unfolding calls timeout openOf isOpen openingOf limitsOf timersOf isLine answerOf answered first
-misspelt = by-line (bytes "open,5,7,2,4,B,8,B,8,0,Never,10,5" ∷ bytes "deadline" ∷ []) refl
+unfolding calls timeout openOf isOpen openingOf limitsOf timersOf linesIn bytes answerOf answered first
+misspelt = (by-line (bytes "open,5,7,2,4,B,8,B,8,0,Never,10,5\ndeadline\n")).printed

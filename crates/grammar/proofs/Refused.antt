@@ -9,7 +9,7 @@ use Rattle.exec.specs.Limits.{isValid}
 use Rattle.runner.specs.Calls as Calls
 use Rattle.runner.specs.Range.{bytesDo, lengthsDo}
 use Rattle.calls.specs.Call as Call
-use Rattle.calls.specs.Call.{Call, Answer, timeOf, isRefused}
+use Rattle.calls.specs.Call.{Call, Answer, isRefused}
 use Rattle.account.specs.Step.{State, replied}
 use Rattle.account.specs.Records.{among}
 use Rattle.account.specs.Refused.{openAnswer}
@@ -17,20 +17,20 @@ use Rattle.account.proofs.Refused.{refusals}
 use Rattle.account.proofs.Flags.{either}
 use Rattle.opening.specs.Open.{Opening, lineOpen}
 use Rattle.syntax.specs.Lines.{lineCall, zeros}
-use Rattle.grammar.specs.Feed.{Running, Over, Answered, bad, isBack, openedBy, first, later, answered, tooLong, isShort, answerOf}
+use Rattle.grammar.specs.Feed.{Running, Over, Answered, bad, openedBy, first, later, answered, tooLong, isShort, answerOf}
 use Rattle.grammar.specs.Refused.{RefusedLines}
 use Rattle.grammar.proofs.Called.{Safe, own, called}
 
 -- ---- once a runner is open
 
-later-safe : (c : Option Call) (s : State) (last : ℕ) → Safe s last (later c s last)
+later-safe : (c : Option Call) (s : State) → Safe s (later c s)
 unfolding later
-later-safe none s last = own s last 30 refl
-later-safe (some c) s last = either (Safe s last) (isBack (timeOf c) last) _ _ (own s last 31 refl) (called s last c)
+later-safe none s = own s
+later-safe (some c) s = called s c
 
-line-safe : (s : State) (last : ℕ) (line : List ℕ) → Safe s last (answerOf (Running s last) line)
+line-safe : (s : State) (line : List ℕ) → Safe s (answerOf (Running s) line)
 unfolding answerOf answered tooLong
-line-safe s last line = either (Safe s last) (isShort line) _ _ (later-safe (lineCall line) s last) (own s last 30 refl)
+line-safe s line = either (Safe s) (isShort line) _ _ (later-safe (lineCall line) s) (own s)
 
 -- ---- the first line
 
@@ -73,8 +73,8 @@ first-safe (some o) =
 pub refused-lines : RefusedLines
 unfolding answerOf answered tooLong
 refused-lines = record {
-  kept = λ s last line n e. (line-safe s last line n e).0;
-  numbered = λ s last line n e. (line-safe s last line n e).1;
+  kept = λ s line n e. (line-safe s line n e).0;
+  numbered = λ s line n e. (line-safe s line n e).1;
   unopened = λ line. either Unopened (isShort line) _ _ (first-safe (lineOpen line)) bad-first;
   over = λ line. either (λ (x : Answered). x ≡ bad Over) (isShort line) _ _ refl refl;
 }

@@ -1,21 +1,20 @@
 -- A session that is fed bytes: each line is answered where it ends. The program lends 65,536 bytes and 1,024 lengths.
-use Rattle.std.specs.Prelude.{Bool, true, false, cond, ◌≡◌, refl, List, [], ◌∷◌, ◌++◌, ℕ, ◌+◌, eqb, ltb, leb, length}
+use Rattle.std.specs.Prelude.{Bool, cond, ◌≡◌, refl, List, [], ◌∷◌, ◌++◌, ℕ, ◌+◌, eqb, ltb, leb, length}
 use Rattle.std.proofs.Common.{sym, ap, ◌∙◌, append_assoc}
 use Rattle.std.proofs.Math.Option.{Option, none, some}
 use Rattle.exec.specs.declared.Reply.{Reply}
 use Rattle.runner.specs.Calls as Calls
 use Rattle.calls.specs.Call as Call
-use Rattle.calls.specs.Call.{Call, Answer, timeOf, isRefused}
+use Rattle.calls.specs.Call.{Call, Answer}
 use Rattle.account.specs.Step.{State, replied, next, answer, opened}
 use Rattle.opening.specs.Open.{Opening, lineOpen}
 use Rattle.syntax.specs.Lines.{lineCall, zeros}
 use Rattle.syntax.specs.Answers.{lineText}
 
--- where a session stands: before its first line; with a runner, and the last time that is remembered; or without one, where
--- every line is 30
+-- where a session stands: before its first line; with a runner; or without one, where every line is 30
 pub data Stage : Type 0 where
   First : Stage
-  Running : State → (last : ℕ) → Stage
+  Running : State → Stage
   Over : Stage
 
 pub record Session : Type 0 where
@@ -33,16 +32,6 @@ pub record Step : Type 0 where
 
 -- ---- a line
 
-abbrev pub isBack : Option ℕ → (last : ℕ) → Bool
-isBack none last = false
-isBack (some now) last = ltb now last
-
--- a refused line's NOW is not remembered
-abbrev pub remembered : (refused : Bool) → Option ℕ → (last : ℕ) → ℕ
-remembered true now last = last
-remembered false none last = last
-remembered false (some now) last = now
-
 -- what a line makes of the stage, and its answer
 pub record Answered : Type 0 where
   pub stage : Stage
@@ -54,7 +43,7 @@ bad x = record { stage = x; answer = Call.Refused 30 }
 -- open is first and only first; where line 1 opened no runner, every later line is 30
 abbrev pub openedBy : Reply → Opening → Answered
 openedBy Reply.Ok o =
-    record { stage = Running (opened o.conf o.now (zeros 65536) (zeros 1024)) o.now; answer = Call.Ok }
+    record { stage = Running (opened o.conf o.now (zeros 65536) (zeros 1024)); answer = Call.Ok }
 openedBy (Reply.Refused x) o = record { stage = Over; answer = replied (Reply.Refused x) }
 
 unfoldable pub first : Option Opening → Answered
@@ -62,23 +51,20 @@ first none = bad Over
 first (some o) =
     openedBy (Calls.«open» o.conf.key o.conf.limits o.conf.timers o.now (zeros 65536) (zeros 1024)).reply o
 
--- 30 before 31 before the runner's own
-unfoldable pub later : Option Call → State → (last : ℕ) → Answered
-later none s last = bad (Running s last)
-later (some c) s last =
-    cond (isBack (timeOf c) last)
-    (record { stage = Running s last; answer = Call.Refused 31 })
-    (record { stage = Running (next s c) (remembered (isRefused (answer s c)) (timeOf c) last); answer = answer s c })
+-- 30 before the runner's own; a call's time may be any
+unfoldable pub later : Option Call → State → Answered
+later none s = bad (Running s)
+later (some c) s = record { stage = Running (next s c); answer = answer s c }
 
 unfoldable pub answered : Stage → (line : List ℕ) → Answered
 answered First line = first (lineOpen line)
-answered (Running s last) line = later (lineCall line) s last
+answered (Running s) line = later (lineCall line) s
 answered Over line = bad Over
 
 -- a line that is too long is refused whole; it is the first line where it stands first
 unfoldable pub tooLong : Stage → Answered
 tooLong First = bad Over
-tooLong (Running s last) = bad (Running s last)
+tooLong (Running s) = bad (Running s)
 tooLong Over = bad Over
 
 -- a line has at most 65,535 bytes
@@ -114,7 +100,10 @@ feeds s (b ∷ rest) = record {
   printed = (eat s b).printed ++ (feeds (eat s b).session rest).printed;
 }
 
--- the end of the input ends a line that has begun
+-- the end of the input ends a line that has begun: the session after it, and what it prints
+unfoldable pub ended : Session → Session
+ended s = cond (eqb (length s.held) 0) s (lineEnds s).session
+
 unfoldable pub ends : Session → List ℕ
 ends s = cond (eqb (length s.held) 0) [] (lineEnds s).printed
 

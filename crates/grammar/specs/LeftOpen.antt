@@ -25,7 +25,7 @@ Starts line now = ((answerOf First line).answer ≡ Call.Ok) × (u64 (get_or (fi
 pub record EveryCard : Type 0 where
   -- a first line that says all that open needs, where open accepts it, is answered ok and leaves the runner that open gives
   pub opens : (line : List ℕ) (o : Opening) → isShort line ≡ true → Says line o → Opens o.conf o.now (zeros 65536) (zeros 1024)
-      → answerOf First line ≡ record { stage = Running (opened o.conf o.now (zeros 65536) (zeros 1024)) o.now; answer = Call.Ok }
+      → answerOf First line ≡ record { stage = Running (opened o.conf o.now (zeros 65536) (zeros 1024)); answer = Call.Ok }
   -- and one that is answered ok says it: no other line opens a runner
   pub only : (line : List ℕ) → (answerOf First line).answer ≡ Call.Ok → (o : Opening) × Says line o
   -- a missing TIMEOUT is 3,600,000,000,000 ns from open (none, where that is past 2^64 - 1)

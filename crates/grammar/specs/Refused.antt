@@ -1,20 +1,17 @@
 -- Demand 1, of the lines of a card: once a runner is open, a line that is refused changes nothing; where the first is refused there
 -- is none.
-use Rattle.std.specs.Prelude.{true, ◌||◌, ◌≡◌, List, [], ◌∷◌, ℕ}
+use Rattle.std.specs.Prelude.{true, ◌||◌, ◌≡◌, List, [], ◌∷◌, ℕ, eqb}
 use Rattle.calls.specs.Call as Call
 use Rattle.account.specs.Step.{State}
 use Rattle.account.specs.Records.{among}
 use Rattle.account.specs.Refused.{ofCalls}
 use Rattle.grammar.specs.Feed.{First, Running, Over, bad, answerOf}
-use Rattle.grammar.specs.Calls.{ofLines}
 
--- for every runner, stores and last time, line, and number
+-- for every runner and stores, line, and number
 pub record RefusedLines : Type 0 where
-  -- once a runner is open, a line that is refused, by the card or by its call, leaves runner, stores and last time as they were
-  pub kept : (s : State) (last : ℕ) (line : List ℕ) (n : ℕ) → (answerOf (Running s last) line).answer ≡ Call.Refused n
-      → (answerOf (Running s last) line).stage ≡ Running s last
-  pub numbered : (s : State) (last : ℕ) (line : List ℕ) (n : ℕ) → (answerOf (Running s last) line).answer ≡ Call.Refused n
-      → (among n ofCalls || among n ofLines) ≡ true
+  -- once a runner is open, a line that is refused, by the card or by its call, leaves runner and stores as they were
+  pub kept : (s : State) (line : List ℕ) (n : ℕ) → (answerOf (Running s) line).answer ≡ Call.Refused n → (answerOf (Running s) line).stage ≡ Running s
+  pub numbered : (s : State) (line : List ℕ) (n : ℕ) → (answerOf (Running s) line).answer ≡ Call.Refused n → (among n ofCalls || eqb n 30) ≡ true
   -- a first line that is refused leaves no runner
   pub unopened : (line : List ℕ) (n : ℕ) → (answerOf First line).answer ≡ Call.Refused n
       → ((answerOf First line).stage ≡ Over) × (among n (10 ∷ 11 ∷ 30 ∷ []) ≡ true)

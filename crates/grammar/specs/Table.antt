@@ -1,30 +1,39 @@
--- Lines by where a session stands: times that fall, open, lines that are too long; and what is remembered of a refused one.
-use Rattle.std.specs.Prelude.{true, false, ◌≡◌, refl, List, ℕ, length}
-use Rattle.std.proofs.Math.Option.{some}
-use Rattle.calls.specs.Call as Call
+-- Texts as their lines, and lines by where a session stands: open, and lines that are too long.
+use Rattle.std.specs.Prelude.{◌≡◌, refl, List, [], ◌∷◌, ℕ, length}
 use Rattle.calls.specs.Call.{Call}
 use Rattle.syntax.specs.Table.{calls}
 use Rattle.syntax.specs.Words.{bytes}
 use Rattle.opening.specs.Open.{openOf, isOpen}
-use Rattle.account.specs.Step.{State}
-use Rattle.grammar.specs.Feed.{First, Running, Over, bad, remembered, first, later, answered, tooLong, answerOf}
+use Rattle.account.specs.Step.{State, next, answer}
+use Rattle.grammar.specs.Feed.{First, Running, Over, bad, first, later, answered, tooLong, answerOf}
+use Rattle.grammar.specs.ByLine.{linesIn}
 
--- a session's lines: a time below the last is 31, and leaves all as it was; open is first and only first; where line 1 opened no
--- runner, every later line is 30
+-- 0a alone ends a line; a last line needs none, and behind a last 0a there is none
+texts : (linesIn [] ≡ [])
+    × (linesIn (bytes "\n") ≡ [] ∷ [])
+    × (linesIn (bytes "ab") ≡ bytes "ab" ∷ [])
+    × (linesIn (bytes "ab\n") ≡ bytes "ab" ∷ [])
+    × (linesIn (bytes "ab\n\nc\r") ≡ bytes "ab" ∷ [] ∷ bytes "c\r" ∷ [])
+unfolding linesIn bytes
+texts = (refl, refl, refl, refl, refl)
+
+-- a session's lines: open is first and only first; where line 1 opened no runner, every later line is 30
 session-lines : (s : State)
-    → (answered (Running s 9) (bytes "tick,8") ≡ record { stage = Running s 9; answer = Call.Refused 31 })
-    × (answered (Running s 9) (bytes "tick,x") ≡ bad (Running s 9))
-    × (answered (Running s 9) (bytes "open,9,7,2,4,B,8,B,8,0,-,10,5") ≡ bad (Running s 9))
+    → (answered (Running s) (bytes "tick,x") ≡ bad (Running s))
+    × (answered (Running s) (bytes "open,9,7,2,4,B,8,B,8,0,-,10,5") ≡ bad (Running s))
     × (answered First (bytes "tick,8") ≡ bad Over)
     × (answered Over (bytes "tick,9") ≡ bad Over)
 unfolding calls openOf isOpen answered first later
-session-lines s = (refl, refl, refl, refl, refl)
+session-lines s = (refl, refl, refl, refl)
+
+-- of times no line remembers any: a tick at 8 behind a tick at 9 is the runner's own affair
+times-fall : (s : State)
+    → (answered (Running s) (bytes "tick,9") ≡ record { stage = Running (next s (Call.tick 9)); answer = answer s (Call.tick 9) })
+    × (answered (Running (next s (Call.tick 9))) (bytes "tick,8") ≡ record { stage = Running (next (next s (Call.tick 9)) (Call.tick 8)); answer = answer (next s (Call.tick 9)) (Call.tick 8) })
+unfolding calls answered later
+times-fall s = (refl, refl)
 
 -- a line of 65,536 bytes is refused whole, whatever it says
-long-line : (s : State) (last : ℕ) (line : List ℕ) → length line ≡ 65536 → answerOf (Running s last) line ≡ bad (Running s last)
+long-line : (s : State) (line : List ℕ) → length line ≡ 65536 → answerOf (Running s) line ≡ bad (Running s)
 unfolding answerOf tooLong
-long-line s last line e = rw e refl
-
--- a refused line's NOW is not remembered, another's is
-times : (now last : ℕ) → (remembered true (some now) last ≡ last) × (remembered false (some now) last ≡ now)
-times now last = (refl, refl)
+long-line s line e = rw e refl

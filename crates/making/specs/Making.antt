@@ -1,7 +1,6 @@
 -- What a call that the code makes leaves and answers.
 use Rattle.std.specs.Prelude.{Bool, true, false, cond, ◌≡◌, refl, List, [], ◌∷◌, ◌++◌, ℕ, zero, suc, ◌+◌, ◌-◌, ◌≤◌, min, length, take, drop}
 use Rattle.std.proofs.Common.{sym, ap, ◌∙◌, arith, length-take, length-drop, take_at}
-use Rattle.std.proofs.Math.Option.{Option, none, some}
 use Rattle.syntax.specs.Lines.{zeros}
 use Rattle.syntax.specs.Zeros.{zeros-length}
 use Rattle.exec.specs.declared.Stream.{Stream}
@@ -27,20 +26,8 @@ use Rattle.calls.specs.Call.{Call}
 use Rattle.account.specs.Step.{State, next, answer, says, took, receivedAs}
 use Rattle.ring.specs.Runs.{copied}
 use Rattle.ring.specs.Lent.{copied-back}
-use Rattle.making.specs.declared.MaybeTime.{MaybeTime}
-use Rattle.syntax.specs.declared.Call as Calls
-use Rattle.calls.specs.Call.{timeOf}
-use Rattle.syntax.specs.Meaning.{callIs}
 use Rattle.answering.specs.Answering.{answerIs, AnswerIs}
 use Rattle.answering.specs.declared.Answer.{Answer}
-
-abbrev pub timeIs : MaybeTime → Option ℕ
-timeIs MaybeTime.None = none
-timeIs (MaybeTime.At now) = some now
-
--- (a call's time does not stand in `work`)
-abbrev pub TimeIs : MaybeTime → Calls.Call → Type 0
-TimeIs r c = (work : List ℕ) → timeIs r ≡ timeOf (callIs c work)
 
 abbrev pub stateOf : Runner → (bytes lengths : List ℕ) → State
 stateOf r bytes lengths = record { runner = r; bytes = bytes; lengths = lengths }

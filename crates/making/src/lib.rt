@@ -8,7 +8,7 @@ ghost use Rattle.runner.specs.Calls as Runs;
 ghost use Rattle.syntax.specs.Lines.{zeros};
 ghost use Rattle.syntax.specs.Meaning.{timedIs, questionIs, callIs};
 ghost use Rattle.answering.specs.Answering.{answerIs, AnswerIs};
-ghost use Rattle.making.specs.Making.{TimeIs, stateOf, OutputMade, InputMade, MessageMade, Made, Moves, Tells};
+ghost use Rattle.making.specs.Making.{stateOf, OutputMade, InputMade, MessageMade, Made, Moves, Tells};
 
 use answering::Answer;
 use exec::{Cause, Key, LaunchResult, MaybeStatus, Pool, Settlement, Stream};
@@ -16,36 +16,6 @@ use ring::{copy_in, smaller};
 use runner::answer::{Hearing, Noting};
 use runner::runner::Runner;
 use syntax::{Call, Question, Timed};
-
-// A call's own time, if it has one.
-#[derive(Clone, Copy)]
-pub enum MaybeTime {
-    None,
-    At(u64),
-}
-
-pub fn time_of(call: Call) -> MaybeTime
-    ensures { TimeIs result call }
-{
-    match call {
-        Call::Credit(_key, _pool, _units) => MaybeTime::None,
-        Call::Input(_key, _n) => MaybeTime::None,
-        Call::EndInput(_key) => MaybeTime::None,
-        Call::Launched(_result) => MaybeTime::None,
-        Call::Output(_stream, _n) => MaybeTime::None,
-        Call::Discarded(_stream, _n) => MaybeTime::None,
-        Call::OutputClosed(_stream) => MaybeTime::None,
-        Call::OutputFailed(_stream) => MaybeTime::None,
-        Call::OutputHungUp(_stream) => MaybeTime::None,
-        Call::InputWritten(_n) => MaybeTime::None,
-        Call::InputClosed => MaybeTime::None,
-        Call::Settled(_result) => MaybeTime::None,
-        Call::NextRequest => MaybeTime::None,
-        Call::NextMessage(_n) => MaybeTime::None,
-        Call::At(now, _timed) => MaybeTime::At(now),
-        Call::Ask(_question) => MaybeTime::None,
-    }
-}
 
 fn noted(runner: &mut Runner, noting: Noting) -> Answer
     ensures { (runner.new ≡ noting.runner) × AnswerIs result (λ w. replied noting.reply) }

@@ -4,11 +4,11 @@ use Rattle.std.proofs.Common.{ap, ◌∙◌}
 use Rattle.std.proofs.Math.Option.{Option}
 use Rattle.exec.specs.declared.Reply.{Reply}
 use Rattle.runner.specs.declared.runner.Runner.{Runner}
-use Rattle.calls.specs.Call.{Call, isRefused, timeOf}
-use Rattle.account.specs.Step.{State, next, answer, replied}
+use Rattle.calls.specs.Call.{Call}
+use Rattle.account.specs.Step.{State, replied}
 use Rattle.standing.specs.declared.Standing.{Standing}
 use Rattle.syntax.specs.Lines.{zeros}
-use Rattle.grammar.specs.Feed.{first, later, answered, tooLong, answerOf, remembered}
+use Rattle.grammar.specs.Feed.{first, later, answered, tooLong, answerOf}
 use Rattle.opening.specs.Meaning.{openingIs}
 use Rattle.answering.specs.Answering.{answerIs}
 use Rattle.making.specs.Making.{stateOf}
@@ -28,42 +28,41 @@ pub record Stores : Type 0 where
 abbrev pub stores : (bytes lengths : List ℕ) → Stores
 stores bytes lengths = record { bytes = bytes; lengths = lengths }
 
--- the stage, the runner with its stores, and the last time
+-- the stage, and the runner with its stores
 pub record Place : Type 0 where
   pub stage : Stages.Stage
   pub state : State
-  pub last : ℕ
 
 abbrev pub placeOf : Standing → Stores → Place
-placeOf s x = record { stage = s.stage; state = stateOf s.runner x.bytes x.lengths; last = s.last }
+placeOf s x = record { stage = s.stage; state = stateOf s.runner x.bytes x.lengths }
 
 -- the stage of the session
-abbrev pub stageIs : Stages.Stage → State → (last : ℕ) → Feed.Stage
-stageIs Stage.First s last = Feed.First
-stageIs Stage.Running s last = Feed.Running s last
-stageIs Stage.Over s last = Feed.Over
+abbrev pub stageIs : Stages.Stage → State → Feed.Stage
+stageIs Stage.First s = Feed.First
+stageIs Stage.Running s = Feed.Running s
+stageIs Stage.Over s = Feed.Over
 
 abbrev pub stageAt : Place → Feed.Stage
-stageAt p = stageIs p.stage p.state p.last
+stageAt p = stageIs p.stage p.state
 
--- the place after a session came to a stage: the runner, its stores and the last time are the stage's; while no runner is open they
--- are as they were
+-- the place after a session came to a stage: the runner and its stores are the stage's; while no runner is open they are as they
+-- were
 unfoldable pub placed : Feed.Stage → (was : Place) → Place
-placed Feed.First was = record { stage = Stage.First; state = was.state; last = was.last }
-placed (Feed.Running s last) was = record { stage = Stage.Running; state = s; last = last }
-placed Feed.Over was = record { stage = Stage.Over; state = was.state; last = was.last }
+placed Feed.First was = record { stage = Stage.First; state = was.state }
+placed (Feed.Running s) was = record { stage = Stage.Running; state = s }
+placed Feed.Over was = record { stage = Stage.Over; state = was.state }
 
 -- ---- laws of places
 
-abbrev pub place : Stages.Stage → State → (last : ℕ) → Place
-place x s last = record { stage = x; state = s; last = last }
+abbrev pub place : Stages.Stage → State → Place
+place x s = record { stage = x; state = s }
 
 -- a place is that of its own stage
 pub placed-own : (p : Place) → p ≡ placed (stageAt p) p
 unfolding placed
 placed-own p = by p.stage
   where
-    by : (x : Stages.Stage) → place x p.state p.last ≡ placed (stageIs x p.state p.last) (place x p.state p.last)
+    by : (x : Stages.Stage) → place x p.state ≡ placed (stageIs x p.state) (place x p.state)
     by Stage.First = refl
     by Stage.Running = refl
     by Stage.Over = refl
@@ -72,7 +71,7 @@ placed-own p = by p.stage
 stage-placed : (x : Feed.Stage) (p : Place) → stageAt (placed x p) ≡ x
 unfolding placed
 stage-placed Feed.First p = refl
-stage-placed (Feed.Running s last) p = refl
+stage-placed (Feed.Running s) p = refl
 stage-placed Feed.Over p = refl
 
 pub placed-is : (q : Place) (x : Feed.Stage) (p : Place) → q ≡ placed x p → stageAt q ≡ x
@@ -97,23 +96,16 @@ abbrev pub AnswersAny : (f : Place → Feed.Answered) → Standing → Standing 
 AnswersAny f s s' a = (x : Stores) (work : List ℕ) → Answers f s x s' a x work
 
 -- what open made, from its reply
-abbrev pub openedAs : Reply → Runner → (now : ℕ) → Feed.Answered
-openedAs Reply.Ok r now = record { stage = Feed.Running (stateOf r (zeros 65536) (zeros 1024)) now; answer = Account.Ok }
-openedAs (Reply.Refused x) r now = record { stage = Feed.Over; answer = replied (Reply.Refused x) }
+abbrev pub openedAs : Reply → Runner → Feed.Answered
+openedAs Reply.Ok r = record { stage = Feed.Running (stateOf r (zeros 65536) (zeros 1024)); answer = Account.Ok }
+openedAs (Reply.Refused x) r = record { stage = Feed.Over; answer = replied (Reply.Refused x) }
 
 abbrev pub firstOf : Openings.Opening → Feed.Answered
 firstOf o = first (openingIs (MaybeOpening.Some o))
 
--- a call that is not refused by 31
-abbrev pub madeAt : Call → Place → Feed.Answered
-madeAt c p = record {
-  stage = Feed.Running (next p.state c) (remembered (isRefused (answer p.state c)) (timeOf c) p.last);
-  answer = answer p.state c;
-}
-
 -- a line, at a place
 abbrev pub laterAt : Option Call → Place → Feed.Answered
-laterAt c p = later c p.state p.last
+laterAt c p = later c p.state
 
 abbrev pub answeredAt : (line : List ℕ) → Place → Feed.Answered
 answeredAt line p = answered (stageAt p) line

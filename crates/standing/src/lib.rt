@@ -5,15 +5,14 @@ ghost use Rattle.std.specs.Prelude.{◌≡◌, false, ◌+◌, ◌-◌, ◌≤�
 ghost use Rattle.std.proofs.Math.Option.{some};
 ghost use Rattle.syntax.specs.Lines.{zeros, lineCall};
 ghost use Rattle.opening.specs.Open.{lineOpen};
-ghost use Rattle.grammar.specs.Feed.{isBack, remembered, first};
+ghost use Rattle.grammar.specs.Feed.{first};
 ghost use Rattle.syntax.specs.Meaning.{callIs};
-ghost use Rattle.making.specs.Making.{timeIs, TimeIs};
 ghost use Rattle.answering.specs.declared.Answer.TheVariants as Answer;
-ghost use Rattle.standing.specs.Standing.{stores, Answers, AnswersFirst, AnswersAny, openedAs, firstOf, madeAt, laterAt, answeredAt, tooLongAt, answerAt};
+ghost use Rattle.standing.specs.Standing.{stores, Answers, AnswersFirst, AnswersAny, openedAs, firstOf, laterAt, answeredAt, tooLongAt, answerAt};
 
 use answering::Answer;
 use exec::Reply;
-use making::{MaybeTime, clear, make, time_of};
+use making::{clear, make};
 use opening::{MaybeOpening, Opening, open_of};
 use reading::lines::{Line, call_of};
 use runner::runner::Runner;
@@ -31,38 +30,6 @@ pub enum Stage {
 pub struct Standing {
     pub stage: Stage,
     pub runner: Runner,
-    // The last time that is remembered.
-    pub last: u64,
-}
-
-// ---- times
-
-fn is_back(time: MaybeTime, last: u64) -> bool
-    ensures { result ≡ isBack (timeIs time) last }
-{
-    match time {
-        MaybeTime::None => false,
-        MaybeTime::At(now) => now < last,
-    }
-}
-
-fn latest(time: MaybeTime, last: u64) -> u64
-    ensures { result ≡ remembered false (timeIs time) last }
-{
-    match time {
-        MaybeTime::None => last,
-        MaybeTime::At(now) => now,
-    }
-}
-
-// A refused line's time is not remembered.
-fn remember(refused: bool, time: MaybeTime, last: u64) -> u64
-    ensures { result ≡ remembered refused (timeIs time) last }
-{
-    if refused {
-        return last;
-    }
-    latest(time, last)
 }
 
 fn clear_lengths(lengths: &mut [u32])
@@ -79,7 +46,7 @@ fn clear_lengths(lengths: &mut [u32])
 impl Standing {
     // Nothing changes but the stage.
     fn bad(&mut self, stage: Stage) -> Answer
-        ensures { (self.new ≡ record { stage = stage; runner = self.old.runner; last = self.old.last }) × (result ≡ Answer.Refused 30) }
+        ensures { (self.new ≡ record { stage = stage; runner = self.old.runner }) × (result ≡ Answer.Refused 30) }
     {
         self.stage = stage;
         Answer::Refused(30)
@@ -93,12 +60,11 @@ impl Standing {
         &mut self,
         runner: Runner,
         reply: Reply,
-        time: u64,
         store: &mut [u8],
         lengths: &mut [u32],
     ) -> Answer
         requires { (length store.old ≡ 65536) × (length lengths.old ≡ 1024) }
-        ensures { AnswersFirst (openedAs reply runner time) self.old (stores store.old lengths.old)
+        ensures { AnswersFirst (openedAs reply runner) self.old (stores store.old lengths.old)
             self.new result (stores store.new lengths.new) }
     {
         match reply {
@@ -107,7 +73,6 @@ impl Standing {
                 clear_lengths(lengths);
                 self.stage = Stage::Running;
                 self.runner = runner;
-                self.last = time;
                 Answer::Ok
             }
             Reply::Refused(refusal) => {
@@ -128,7 +93,7 @@ impl Standing {
         let noting = Runner::open(key, limits, timers, opening.now, store, lengths);
         let runner = noting.runner;
         let reply = noting.reply;
-        self.opened_by(runner, reply, opening.now, store, lengths)
+        self.opened_by(runner, reply, store, lengths)
     }
 
     fn first(&mut self, line: &[u8], store: &mut [u8], lengths: &mut [u32]) -> Answer
@@ -144,36 +109,14 @@ impl Standing {
 
     // ---- a later line
 
-    fn make(
-        &mut self,
-        call: Call,
-        time: MaybeTime,
-        store: &mut [u8],
-        lengths: &mut [u32],
-        work: &mut [u8],
-    ) -> Answer
-        requires { (length store.old ≡ 65536) × (length work.old ≡ 65536) × TimeIs time call }
-        ensures { Answers (madeAt (callIs call work.old)) self.old (stores store.old lengths.old)
-            self.new result (stores store.new lengths.new) work.new }
-    {
-        let answer = make(&mut self.runner, call, store, lengths, work);
-        self.stage = Stage::Running;
-        self.last = remember(answering::is_refused(answer), time, self.last);
-        answer
-    }
-
     #[tactic(auto, unfolding(grammar::specs::Feed::later, crate::specs::Standing::placed))]
     fn call(&mut self, call: Call, store: &mut [u8], lengths: &mut [u32], work: &mut [u8]) -> Answer
         requires { (length store.old ≡ 65536) × (length work.old ≡ 65536) }
         ensures { Answers (laterAt (some (callIs call work.old))) self.old (stores store.old lengths.old)
             self.new result (stores store.new lengths.new) work.new }
     {
-        let time = time_of(call);
-        if is_back(time, self.last) {
-            self.stage = Stage::Running;
-            return Answer::Refused(31);
-        }
-        self.make(call, time, store, lengths, work)
+        self.stage = Stage::Running;
+        make(&mut self.runner, call, store, lengths, work)
     }
 
     fn later(
