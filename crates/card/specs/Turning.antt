@@ -8,7 +8,7 @@ use Rattle.exec.specs.Key.{newKey}
 use Rattle.exec.specs.Time.{newTimers}
 use Rattle.runner.specs.Calls as Calls
 use Rattle.exec.specs.Limits.{noLimits}
-use Rattle.grammar.specs.Feed.{Session, start, lineEnds, feeds, ended, ends}
+use Rattle.grammar.specs.Feed.{start, feeds, ended, ends}
 use Rattle.card.specs.Holding.{Lent, sessionOf, placeIn, Stands, EndsLine}
 use Rattle.card.specs.Feeding.{goesOn, eaten}
 use Rattle.card.specs.Laying.{laid}
