@@ -14,7 +14,7 @@ use Rattle.grammar.specs.Feed.{Session, feeds, pieces, prints}
 use Rattle.card.specs.Feeding.{eaten}
 use Rattle.card.specs.Holding.{Lent, sessionOf}
 use Rattle.card.specs.Turning.{If, newCard, new-starts, canEat, canFinish, Fed, Left, Eats}
-use Rattle.cards.specs.Host.{Meal, lending, AllEat, cardAfter, lentAfter, eatenBy, printedBy, Room, Hosted}
+use Rattle.cards.specs.Host.{EatCall, lending, AllEat, cardAfter, lentAfter, eatenBy, printedBy, Room, Hosted}
 
 -- a text that was written at the start of an area stands there
 at-start : {most to : ℕ} {out then text : List ℕ} → Wrote most out then 0 to text → take to then ≡ text
@@ -41,7 +41,7 @@ one-eats piece c x r after = by (canEat c x)
     by false h = rw (h.0, h.1) (none-eaten c x)
 
 -- and by all
-all-eat : (ms : List Meal) (c : Card) (x : Lent) → AllEat c x ms → Ate (eatenBy ms) (printedBy ms) c x (cardAfter c ms) (lentAfter x ms)
+all-eat : (ms : List EatCall) (c : Card) (x : Lent) → AllEat c x ms → Ate (eatenBy ms) (printedBy ms) c x (cardAfter c ms) (lentAfter x ms)
 all-eat [] c x h = none-eaten c x
 all-eat (m ∷ ms) c x h =
     let f = one-eats m.piece c (lending x m.out) m.result m.after h.0 in

@@ -1,2 +1,5 @@
--- That it makes no difference how a host feeds a card.
+-- What every card prints, by the definitions and by the code.
+pub mod Lines
+pub mod Runs
 pub mod Host
+pub mod Program

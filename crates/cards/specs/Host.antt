@@ -10,7 +10,7 @@ use Rattle.card.specs.Turning.{newCard, Eats, Finishes}
 -- ---- calls of eat
 
 -- a call: the piece and the output area that it is given, its result, and what was lent as it stands after the call
-pub record Meal : Type 0 where
+pub record EatCall : Type 0 where
   pub piece : List ℕ
   pub out : List ℕ
   pub result : Eaten
@@ -21,25 +21,25 @@ abbrev pub lending : Lent → (out : List ℕ) → Lent
 lending x out = record { line = x.line; stores = x.stores; out = out }
 
 -- calls one after the other, by what eat promises: each gets the card, the line area and the stores as the last one left them
-abbrev pub AllEat : Card → Lent → List Meal → Type 0
+abbrev pub AllEat : Card → Lent → List EatCall → Type 0
 AllEat c x [] = Unit
 AllEat c x (m ∷ ms) = Eats m.piece c (lending x m.out) m.result m.after × AllEat m.result.card m.after ms
 
 -- the card, and what is lent, after them
-abbrev pub cardAfter : Card → List Meal → Card
+abbrev pub cardAfter : Card → List EatCall → Card
 cardAfter c [] = c
 cardAfter c (m ∷ ms) = cardAfter m.result.card ms
 
-abbrev pub lentAfter : Lent → List Meal → Lent
+abbrev pub lentAfter : Lent → List EatCall → Lent
 lentAfter x [] = x
 lentAfter x (m ∷ ms) = lentAfter m.after ms
 
 -- the bytes that they have eaten, of each piece as many as the result says; and those that they have printed, at the start of each output area
-abbrev pub eatenBy : List Meal → List ℕ
+abbrev pub eatenBy : List EatCall → List ℕ
 eatenBy [] = []
 eatenBy (m ∷ ms) = take m.result.used m.piece ++ eatenBy ms
 
-abbrev pub printedBy : List Meal → List ℕ
+abbrev pub printedBy : List EatCall → List ℕ
 printedBy [] = []
 printedBy (m ∷ ms) = take m.result.printed m.after.out ++ printedBy ms
 
@@ -54,16 +54,16 @@ pub record Room (c : Card) (x : Lent) : Type 0 where
   pub number : c.lines < 18446744073709551615
 
 -- after these calls from a new card, which left the card c and what is lent as x
-pub record AfterMeals (ms : List Meal) (c : Card) (x : Lent) : Type 0 where
+pub record AfterCalls (ms : List EatCall) (c : Card) (x : Lent) : Type 0 where
   -- what they have printed depends on the bytes that they have eaten, and on nothing else
   pub so-far : printedBy ms ≡ (feeds start (eatenBy ms)).printed
   -- with the end of the input, where there is room, it is what the card prints
   pub whole : (out : List ℕ) (r : Eaten) (after : Lent) → Room c (lending x out) → Finishes c (lending x out) r after
       → printedBy ms ++ take r.printed after.out ≡ prints (eatenBy ms)
   -- and where there is room, one more call eats a byte at least: so a host that goes on with the rest of a piece comes to its end
-  pub further : (m : Meal) → Room c (lending x m.out) → Eats m.piece c (lending x m.out) m.result m.after → 0 < length m.piece
+  pub further : (m : EatCall) → Room c (lending x m.out) → Eats m.piece c (lending x m.out) m.result m.after → 0 < length m.piece
       → 0 < m.result.used
 
 -- HOW A HOST FEEDS A CARD MAKES NO DIFFERENCE, for a line area and stores of any length and content at first, and every list of calls
 abbrev pub Hosted : Type 0
-Hosted = (x : Lent) (ms : List Meal) → AllEat newCard x ms → AfterMeals ms (cardAfter newCard ms) (lentAfter x ms)
+Hosted = (x : Lent) (ms : List EatCall) → AllEat newCard x ms → AfterCalls ms (cardAfter newCard ms) (lentAfter x ms)

@@ -1,8 +1,8 @@
 -- 02's A3, of every card; and as whole cards, their bytes in and their answers out, computed from the definitions on each side of every number.
-use mathlib.Core.Bool.{Bool, true, false, cond, true≢false}
+use mathlib.Core.Bool.{Bool, true, false, cond}
 use mathlib.Core.Path.{◌≡◌, refl, sym, ap, ◌∙◌}
 use mathlib.Core.List.{List, [], ◌∷◌}
-use mathlib.Core.Option.{Option, none, some, map, some-injective}
+use mathlib.Core.Option.{none, some, map, some-injective}
 use Prim.Native.Nat.{ℕ, ◌≤◌}
 use native.Mathlib.Omega.{arith}
 use borrow.Author.Tests.{le-leb}
@@ -11,9 +11,7 @@ use Rattle.exec.specs.declared.Cause.TheVariants as Cause
 use Rattle.exec.specs.declared.Deadline.{Deadline}
 use Rattle.exec.specs.declared.Deadline.TheVariants.{At, Never}
 use Rattle.exec.specs.declared.MaybeDuration.{MaybeDuration}
-use Rattle.exec.specs.declared.Reply.{Reply}
 use Rattle.exec.specs.Key.{newKey}
-use Rattle.exec.specs.Refusal.{number}
 use Rattle.exec.specs.Time.{after, earliest, timeoutAt}
 use Rattle.exec.specs.Limits.{bytesWith, bytesWindow, limitsFor}
 use Rattle.output.specs.Output.{outputFits}
@@ -36,41 +34,11 @@ use Rattle.syntax.specs.Zeros.{zeros-length}
 use Rattle.opening.specs.Open.{Opening, lineOpen, timeout, openOf, isOpen, openingOf, limitsOf, timersOf}
 use Rattle.opening.specs.Timeout.{number-else, number-itself, line-bad, line-opens}
 use Rattle.opening.specs.Only.{line-says}
-use Rattle.grammar.specs.Feed.{First, Running, Over, Answered, bad, prints, isShort, answerOf, answered, openedBy, first, later, tooLong}
+use Rattle.grammar.specs.Feed.{First, Running, Over, Answered, bad, prints, isShort, answerOf, answered, first, later, tooLong}
 use Rattle.grammar.specs.LeftOpen.{asked, Starts, EveryCard}
 use Rattle.grammar.specs.ByLine.{linesIn, answersFrom, textFrom}
 use Rattle.grammar.proofs.ByLine.{by-line}
-
--- ---- the first line
-
--- a first line that is answered ok
-record Opened (line : List ℕ) : Type 0 where
-  pub given : Opening
-  pub short : isShort line ≡ true
-  pub reads : lineOpen line ≡ some given
-  pub opens : Opens given.conf given.now (zeros 65536) (zeros 1024)
-
-not-refused : (n : ℕ) → Call.Refused n ≡ Call.Ok → ⊥
-not-refused n e = true≢false (ap isRefused e)
-
-accepted : (r : Reply) (o : Opening) → (openedBy r o).answer ≡ Call.Ok → r ≡ Reply.Ok
-accepted Reply.Ok o e = refl
-accepted (Reply.Refused x) o e = absurd (not-refused (number x) e)
-
-opened-so : (line : List ℕ) → (answerOf First line).answer ≡ Call.Ok → Opened line
-unfolding answerOf answered first tooLong
-opened-so line = by (isShort line) refl (lineOpen line) refl
-  where
-    by : (b : Bool) → isShort line ≡ b → (x : Option Opening) → lineOpen line ≡ x → (cond {A = Answered} b (first x) (tooLong First)).answer ≡ Call.Ok → Opened line
-    by true h none r e = absurd (not-refused 30 e)
-    by true h (some o) r e = record { given = o; short = h; reads = r; opens = accepted _ o e }
-    by false h x r e = absurd (not-refused 30 e)
-
--- leaves the runner that open gives
-first-line : (line : List ℕ) (x : Opened line)
-    → answerOf First line ≡ record { stage = Running (Step.opened x.given.conf x.given.now (zeros 65536) (zeros 1024)); answer = Call.Ok }
-unfolding answerOf answered first
-first-line line x = rw (x.short, x.reads) (ap (λ (r : Reply). openedBy r x.given) x.opens)
+use Rattle.grammar.proofs.Opened.{Opened, opened-so, first-line}
 
 -- ---- its deadline
 

@@ -2,4 +2,6 @@
 pub mod Called
 pub mod Refused
 pub mod ByLine
+pub mod Later
+pub mod Opened
 pub mod LeftOpen

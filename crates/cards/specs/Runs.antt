@@ -1,0 +1,113 @@
+-- A card that opens a runner makes one of demand 3's lists, and prints its answers: so demand 3 and the turn hold of what is printed.
+use Rattle.std.specs.Prelude.{true, false, ◌≡◌, List, [], ◌∷◌, ◌++◌, ℕ, ◌+◌, ◌^◌, ◌≤◌, ◌<◌}
+use Rattle.std.proofs.Math.Option.{none, some}
+use Rattle.exec.specs.declared.Cause.{Cause}
+use Rattle.exec.specs.declared.Key.{Key}
+use Rattle.exec.specs.declared.Outcome.{Outcome}
+use Rattle.exec.specs.declared.Stream.{Stream}
+use Rattle.exec.specs.Outcome.{isTruncated}
+use Rattle.calls.specs.Call as Call
+use Rattle.calls.specs.Call.{Call, Answer, Done}
+use Rattle.account.specs.Account as Accounts
+use Rattle.account.specs.Account.{Account, account, tallyOf, cut, tickA}
+use Rattle.account.specs.Claim.{Opens, IsPrefix, isMessage, isTerminal, anyTerminal, messages}
+use Rattle.account.specs.Records.{EntryDone, call, consCall, consDone, among}
+use Rattle.account.specs.Step.{State, opened, after, run}
+use Rattle.account.specs.TurnClaim.{Has, closing, takenIn, sentIn}
+use Rattle.syntax.specs.Lines.{zeros}
+use Rattle.opening.specs.Open.{Opening, lineOpen}
+use Rattle.grammar.specs.Feed.{First, Running, answerOf, start, feeds, ended}
+use Rattle.grammar.specs.ByLine.{Line, linesIn, linesFrom, answersOf, textFrom}
+
+-- ---- lines
+
+-- the calls that they make
+abbrev pub callsOf : List Line → List Call
+callsOf [] = []
+callsOf (l ∷ ls) = consCall l.call (callsOf ls)
+
+-- each with its line's answer
+abbrev pub donesOf : List Line → List Done
+donesOf [] = []
+donesOf (l ∷ ls) = consDone l.call l.answer (donesOf ls)
+
+-- and as entries of a list of calls and records
+abbrev pub entriesOf : List Done → List EntryDone
+entriesOf [] = []
+entriesOf (d ∷ ds) = record { entry = call d.call; answer = d.answer } ∷ entriesOf ds
+
+-- ---- a runner that a first line opened
+
+-- with the stores that the program lends, cleared
+abbrev pub openedBy : Opening → State
+openedBy o = opened o.conf o.now (zeros 65536) (zeros 1024)
+
+-- the account after lines, from their calls and what is printed of them
+abbrev pub accountAfter : Opening → List Line → Account
+accountAfter o ls = account (Accounts.start o.conf o.now) (donesOf ls)
+
+-- ---- what holds of the lines behind the first one, as many as there are so far
+
+-- demand 3
+pub record Demand (o : Opening) (lines : List Line) : Type 0 where
+  pub joined : (x : Stream) → IsPrefix (tallyOf x (accountAfter o lines)).sent (tallyOf x (accountAfter o lines)).taken
+  pub once : (xs ys zs : List Line) (l m : Line) → lines ≡ xs ++ (l ∷ (ys ++ (m ∷ zs))) → isTerminal l.answer ≡ true → isMessage m.answer ≡ false
+  pub marks : (xs ys : List Line) (l : Line) (u : Outcome) → lines ≡ xs ++ (l ∷ ys) → l.answer ≡ Call.Says (Call.Terminal u)
+      → (x : Stream) → isTruncated u x ≡ cut (tallyOf x (accountAfter o xs))
+  pub first : (xs ys : List Line) (l : Line) (t : ℕ) (k : Key) (c : Cause) → lines ≡ xs ++ (l ∷ ys) → l.call ≡ some (Call.cancel t k c) → l.answer ≡ Call.Applied
+      → (tickA t (accountAfter o xs)).rep.begun ≡ false
+  pub late : (xs ys zs : List Line) (l m : Line) (t n : ℕ) (k : Key) (c : Cause) → lines ≡ xs ++ (l ∷ (ys ++ (m ∷ zs)))
+      → l.call ≡ some (Call.cancel t k c) → l.answer ≡ Call.Applied → m.call ≡ some (Call.tick n)
+      → t + o.conf.timers.grace + o.conf.timers.settlement < 2 ^ 64 → t + o.conf.timers.grace + o.conf.timers.settlement ≤ n → 5 ≤ messages (callsOf zs)
+      → anyTerminal (donesOf lines) ≡ true
+  -- and a line that is refused is so by 1 to 6 or 30
+  pub numbers : (xs ys : List Line) (l : Line) (n : ℕ) → lines ≡ xs ++ (l ∷ ys) → l.answer ≡ Call.Refused n → among n (1 ∷ 2 ∷ 3 ∷ 4 ∷ 5 ∷ 6 ∷ 30 ∷ []) ≡ true
+
+-- the turn, of a line that is answered by Terminal: by one that reports a stream untruncated ..
+pub record Turn (lines : List Line) : Type 0 where
+  pub rows : (xs ys : List Line) (l : Line) (u : Outcome) (x : Stream) → lines ≡ xs ++ (l ∷ ys) → l.answer ≡ Call.Says (Call.Terminal u) → isTruncated u x ≡ false
+      → sentIn x (entriesOf (donesOf xs)) ≡ takenIn x (entriesOf (donesOf xs))
+  pub own : (xs ys : List Line) (l : Line) (u : Outcome) (x : Stream) → lines ≡ xs ++ (l ∷ ys) → l.answer ≡ Call.Says (Call.Terminal u) → isTruncated u x ≡ false
+      → Has (closing x) (entriesOf (donesOf xs))
+  pub undropped : (xs ys : List Line) (l : Line) (u : Outcome) (x : Stream) (n : ℕ) → lines ≡ xs ++ (l ∷ ys) → l.answer ≡ Call.Says (Call.Terminal u) → isTruncated u x ≡ false
+      → 0 < n → Has (Call.discarded x n) (callsOf xs) → ⊥
+  pub unfailed : (xs ys : List Line) (l : Line) (u : Outcome) (x : Stream) → lines ≡ xs ++ (l ∷ ys) → l.answer ≡ Call.Says (Call.Terminal u) → isTruncated u x ≡ false
+      → Has (Call.outputFailed x) (callsOf xs) → ⊥
+  -- .. and by any
+  pub final : (xs ys : List Line) (l : Line) (x : Stream) → lines ≡ xs ++ (l ∷ ys) → isTerminal l.answer ≡ true
+      → (takenIn x (entriesOf (donesOf lines)) ≡ takenIn x (entriesOf (donesOf xs)))
+      × (sentIn x (entriesOf (donesOf lines)) ≡ sentIn x (entriesOf (donesOf xs)))
+
+-- ---- the claim
+
+-- its first line is answered ok
+abbrev pub StartsOk : (lines : List (List ℕ)) → Type 0
+StartsOk [] = ⊥
+StartsOk (line ∷ lines) = (answerOf First line).answer ≡ Call.Ok
+
+-- EACH CARD THAT OPENS A RUNNER MAKES ONE OF DEMAND 3'S LISTS AND PRINTS ITS ANSWERS
+pub record CardRuns (card printed : List ℕ) : Type 0 where
+  -- what its first line gives to open, which answers ok
+  pub line : List ℕ
+  pub later : List (List ℕ)
+  pub split : linesIn card ≡ line ∷ later
+  pub opening : Opening
+  pub reads : lineOpen line ≡ some opening
+  pub opens : Opens opening.conf opening.now (zeros 65536) (zeros 1024)
+  -- the others: what is printed is ok and, line by line, their answers
+  pub rest : List Line
+  pub lines : linesFrom First (linesIn card) ≡ record { call = none; answer = Call.Ok } ∷ rest
+  pub text : printed ≡ textFrom 0 (Call.Ok ∷ answersOf rest)
+  -- these are the answers of the list of their calls, from the runner that was opened, which the end of the card leaves as the list does
+  pub answers : donesOf rest ≡ run (openedBy opening) (callsOf rest)
+  pub leaves : (ended (feeds start card).session).stage ≡ Running (after (openedBy opening) (callsOf rest))
+  -- and a line that makes no call is 30
+  pub uncalled : (xs ys : List Line) (l : Line) → rest ≡ xs ++ (l ∷ ys) → l.call ≡ none → l.answer ≡ Call.Refused 30
+  -- so demand 3 and the turn hold of what is printed, up to any line
+  pub demand : (ls ms : List Line) → rest ≡ ls ++ ms → Demand opening ls
+  pub turn : (ls ms : List Line) → rest ≡ ls ++ ms → Turn ls
+
+-- WHAT THE LINES OF ANY CARD ARE REFUSED BY: 1 to 6, 10, 11 or 30
+abbrev pub Numbers : (card : List ℕ) → Type 0
+Numbers card = (xs ys : List Line) (l : Line) (n : ℕ) → linesFrom First (linesIn card) ≡ xs ++ (l ∷ ys) → l.answer ≡ Call.Refused n
+    → among n (1 ∷ 2 ∷ 3 ∷ 4 ∷ 5 ∷ 6 ∷ 10 ∷ 11 ∷ 30 ∷ []) ≡ true
