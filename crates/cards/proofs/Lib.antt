@@ -3,3 +3,4 @@ pub mod Lines
 pub mod Runs
 pub mod Host
 pub mod Program
+pub mod Session

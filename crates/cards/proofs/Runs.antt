@@ -7,6 +7,7 @@ use mathlib.Core.Option.{Option, none, some}
 use Prim.Native.Nat.{ℕ}
 use native.Mathlib.Omega.{arith}
 use lib.Dec.{eqb}
+use Rattle.exec.specs.declared.Stream.{Stream}
 use Rattle.calls.specs.Call as Call
 use Rattle.calls.specs.Call.{Call, Answer, Done}
 use Rattle.account.specs.Claim.{Demand3, Opens, isMessage, isTerminal, isStop}
@@ -25,7 +26,7 @@ use Rattle.grammar.specs.ByLine.{Line, linesIn, linesFrom}
 use Rattle.grammar.proofs.ByLine.{by-line}
 use Rattle.grammar.proofs.Opened.{opened-so, first-line, first-either}
 use Rattle.grammar.proofs.Refused.{refused-lines}
-use Rattle.cards.specs.Runs.{callsOf, donesOf, entriesOf, openedBy, Demand, Turn, StartsOk, CardRuns, Numbers}
+use Rattle.cards.specs.Runs.{callsOf, donesOf, entriesOf, openedBy, Demand, Untruncated, Turn, StartsOk, CardRuns, Numbers}
 use Rattle.cards.proofs.Lines.{Follow, follow, leaves, dones, calls-append, parts, no-call, its-call, Said, bad, made, said, terminal-call, last-silent, entered, entered-append, entries-run, entry-answer, has-entered}
 
 -- ---- numbers
@@ -96,25 +97,29 @@ module _ (o : Opening) (op : Opens o.conf o.now (zeros 65536) (zeros 1024)) wher
   told ls f = entries-run s (callsOf ls) ∙ ap entriesOf (sym (dones s ls f))
 
   -- a line that is answered by Terminal, as an entry
-  pub record Ends (ls xs : List Line) (l : Line) : Type 0 where
+  record Ends (xs : List Line) (l : Line) : Type 0 where
     pub c : Call
     pub is : l.call ≡ some c
     pub before : runEntries s (entered (callsOf xs)) ≡ entriesOf (donesOf xs)
     pub says : TurnClaim.answerAfter o.conf o.now (zeros 65536) (zeros 1024) (entered (callsOf xs)) (call c) ≡ l.answer
 
-  ends : (ls xs ys : List Line) (l : Line) → Follow s ls → ls ≡ xs ++ (l ∷ ys) → isTerminal l.answer ≡ true → Ends ls xs l
-  ends ls xs ys l f e h =
-      let p = parts s xs (l ∷ ys) (rw e at f) in
+  ends : (xs ys : List Line) (l : Line) → Follow s (xs ++ (l ∷ ys)) → isTerminal l.answer ≡ true → Ends xs l
+  ends xs ys l f h =
+      let p = parts s xs (l ∷ ys) f in
       let q = terminal-call (at xs) l p.1.0 h in
       record { c = q.0; is = q.1; before = told xs p.0; says = entry-answer s (callsOf xs) q.0 ∙ sym q.2 }
 
+  whole : (ls xs : List Line) (x : Stream) → Follow s ls → (u : Untruncated x ls xs) → Ends xs u.line
+  whole ls xs x f u = ends xs u.behind u.line (rw u.stands at f) (ap isTerminal u.says)
+
   pub of-turn : (ls : List Line) → Follow s ls → Turn ls
   of-turn ls f = record {
-    rows = λ xs ys l u x e h t. (let z = ends ls xs ys l f e (ap isTerminal h) in rw (← z.before) (t3.rows (entered (callsOf xs)) (call z.c) u x (z.says ∙ h) t));
-    own = λ xs ys l u x e h t. (let z = ends ls xs ys l f e (ap isTerminal h) in rw (← z.before) (t3.own (entered (callsOf xs)) (call z.c) u x (z.says ∙ h) t));
-    undropped = λ xs ys l u x n e h t p d. (let z = ends ls xs ys l f e (ap isTerminal h) in t3.undropped (entered (callsOf xs)) (call z.c) u x n (z.says ∙ h) t p (has-entered _ (callsOf xs) d));
-    unfailed = λ xs ys l u x e h t d. (let z = ends ls xs ys l f e (ap isTerminal h) in t3.unfailed (entered (callsOf xs)) (call z.c) u x (z.says ∙ h) t (has-entered _ (callsOf xs) d));
-    final = λ xs ys l x e h. (let z = ends ls xs ys l f e h in
+    rows = λ x xs u. (let z = whole ls xs x f u in rw (← z.before) (t3.rows (entered (callsOf xs)) (call z.c) u.outcome x (z.says ∙ u.says) u.reports));
+    own = λ x xs u. (let z = whole ls xs x f u in rw (← z.before) (t3.own (entered (callsOf xs)) (call z.c) u.outcome x (z.says ∙ u.says) u.reports));
+    undropped = λ x xs n u p d. (let z = whole ls xs x f u in
+        t3.undropped (entered (callsOf xs)) (call z.c) u.outcome x n (z.says ∙ u.says) u.reports p (has-entered _ (callsOf xs) d));
+    unfailed = λ x xs u d. (let z = whole ls xs x f u in t3.unfailed (entered (callsOf xs)) (call z.c) u.outcome x (z.says ∙ u.says) u.reports (has-entered _ (callsOf xs) d));
+    final = λ x xs ys l e h. (let z = ends xs ys l (rw e at f) h in
         let calls = ap callsOf e ∙ calls-append xs (l ∷ ys) ∙ ap (λ (k : Option Call). callsOf xs ++ consCall k (callsOf ys)) z.is in
         let all : entered (callsOf ls) ≡ entered (callsOf xs) ++ (call z.c ∷ entered (callsOf ys)) = ap entered calls ∙ entered-append (callsOf xs) (z.c ∷ callsOf ys) in
         rw (← told ls f, ← z.before, all) (t3.final (entered (callsOf xs)) (call z.c) (entered (callsOf ys)) x (ap isTerminal z.says ∙ h)));

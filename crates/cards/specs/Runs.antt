@@ -50,33 +50,46 @@ accountAfter o ls = account (Accounts.start o.conf o.now) (donesOf ls)
 
 -- demand 3
 pub record Demand (o : Opening) (lines : List Line) : Type 0 where
+  -- on each stream what was sent is a prefix of what was taken
   pub joined : (x : Stream) → IsPrefix (tallyOf x (accountAfter o lines)).sent (tallyOf x (accountAfter o lines)).taken
+  -- behind Terminal no line is answered by a message
   pub once : (xs ys zs : List Line) (l m : Line) → lines ≡ xs ++ (l ∷ (ys ++ (m ∷ zs))) → isTerminal l.answer ≡ true → isMessage m.answer ≡ false
+  -- Terminal marks a stream exactly when the account before it does
   pub marks : (xs ys : List Line) (l : Line) (u : Outcome) → lines ≡ xs ++ (l ∷ ys) → l.answer ≡ Call.Says (Call.Terminal u)
       → (x : Stream) → isTruncated u x ≡ cut (tallyOf x (accountAfter o xs))
+  -- an Applied cancel is the first of the three events
   pub first : (xs ys : List Line) (l : Line) (t : ℕ) (k : Key) (c : Cause) → lines ≡ xs ++ (l ∷ ys) → l.call ≡ some (Call.cancel t k c) → l.answer ≡ Call.Applied
       → (tickA t (accountAfter o xs)).rep.begun ≡ false
+  -- and Terminal has come by the fifth message asked for after a tick at or past t + grace + settlement
   pub late : (xs ys zs : List Line) (l m : Line) (t n : ℕ) (k : Key) (c : Cause) → lines ≡ xs ++ (l ∷ (ys ++ (m ∷ zs)))
       → l.call ≡ some (Call.cancel t k c) → l.answer ≡ Call.Applied → m.call ≡ some (Call.tick n)
       → t + o.conf.timers.grace + o.conf.timers.settlement < 2 ^ 64 → t + o.conf.timers.grace + o.conf.timers.settlement ≤ n → 5 ≤ messages (callsOf zs)
       → anyTerminal (donesOf lines) ≡ true
-  -- and a line that is refused is so by 1 to 6 or 30
+  -- no line is refused by 10, 11 or 12, nor by any number but these
   pub numbers : (xs ys : List Line) (l : Line) (n : ℕ) → lines ≡ xs ++ (l ∷ ys) → l.answer ≡ Call.Refused n → among n (1 ∷ 2 ∷ 3 ∷ 4 ∷ 5 ∷ 6 ∷ 30 ∷ []) ≡ true
 
--- the turn, of a line that is answered by Terminal: by one that reports a stream untruncated ..
+-- behind the lines `before` stands one that is answered by a Terminal which reports the stream x untruncated
+pub record Untruncated (x : Stream) (lines before : List Line) : Type 0 where
+  pub line : Line
+  pub behind : List Line
+  pub outcome : Outcome
+  pub stands : lines ≡ before ++ (line ∷ behind)
+  pub says : line.answer ≡ Call.Says (Call.Terminal outcome)
+  pub reports : isTruncated outcome x ≡ false
+
+-- the turn
 pub record Turn (lines : List Line) : Type 0 where
-  pub rows : (xs ys : List Line) (l : Line) (u : Outcome) (x : Stream) → lines ≡ xs ++ (l ∷ ys) → l.answer ≡ Call.Says (Call.Terminal u) → isTruncated u x ≡ false
-      → sentIn x (entriesOf (donesOf xs)) ≡ takenIn x (entriesOf (donesOf xs))
-  pub own : (xs ys : List Line) (l : Line) (u : Outcome) (x : Stream) → lines ≡ xs ++ (l ∷ ys) → l.answer ≡ Call.Says (Call.Terminal u) → isTruncated u x ≡ false
-      → Has (closing x) (entriesOf (donesOf xs))
-  pub undropped : (xs ys : List Line) (l : Line) (u : Outcome) (x : Stream) (n : ℕ) → lines ≡ xs ++ (l ∷ ys) → l.answer ≡ Call.Says (Call.Terminal u) → isTruncated u x ≡ false
-      → 0 < n → Has (Call.discarded x n) (callsOf xs) → ⊥
-  pub unfailed : (xs ys : List Line) (l : Line) (u : Outcome) (x : Stream) → lines ≡ xs ++ (l ∷ ys) → l.answer ≡ Call.Says (Call.Terminal u) → isTruncated u x ≡ false
-      → Has (Call.outputFailed x) (callsOf xs) → ⊥
-  -- .. and by any
-  pub final : (xs ys : List Line) (l : Line) (x : Stream) → lines ≡ xs ++ (l ∷ ys) → isTerminal l.answer ≡ true
-      → (takenIn x (entriesOf (donesOf lines)) ≡ takenIn x (entriesOf (donesOf xs)))
-      × (sentIn x (entriesOf (donesOf lines)) ≡ sentIn x (entriesOf (donesOf xs)))
+  -- then the bytes sent of it before are the bytes taken of it, all of them
+  pub rows : (x : Stream) (before : List Line) → Untruncated x lines before → sentIn x (entriesOf (donesOf before)) ≡ takenIn x (entriesOf (donesOf before))
+  -- and the program itself closed it
+  pub own : (x : Stream) (before : List Line) → Untruncated x lines before → Has (closing x) (entriesOf (donesOf before))
+  -- and it reported no byte of it discarded, and no failure to read it, whatever that was answered
+  pub undropped : (x : Stream) (before : List Line) (n : ℕ) → Untruncated x lines before → 0 < n → Has (Call.discarded x n) (callsOf before) → ⊥
+  pub unfailed : (x : Stream) (before : List Line) → Untruncated x lines before → Has (Call.outputFailed x) (callsOf before) → ⊥
+  -- and behind any Terminal no line adds to the bytes taken or sent of a stream
+  pub final : (x : Stream) (before behind : List Line) (l : Line) → lines ≡ before ++ (l ∷ behind) → isTerminal l.answer ≡ true
+      → (takenIn x (entriesOf (donesOf lines)) ≡ takenIn x (entriesOf (donesOf before)))
+      × (sentIn x (entriesOf (donesOf lines)) ≡ sentIn x (entriesOf (donesOf before)))
 
 -- ---- the claim
 

@@ -112,10 +112,10 @@ abbrev hour : MaybeDuration
 hour = MaybeDuration.Some 3600000000000
 
 -- 01's limits, with a timeout
-abbrev timed : MaybeDuration → Conf
+abbrev pub timed : MaybeDuration → Conf
 timed x = record { key = newKey 7 2; limits = limitsFor 4 (bytesWindow 8) (bytesWindow 8) false; timers = record { timeout = x; grace = 10; settlement = 5 } }
 
-opens : (x : MaybeDuration) (now : ℕ) → Opens (timed x) now (zeros 65536) (zeros 1024)
+pub opens : (x : MaybeDuration) (now : ℕ) → Opens (timed x) now (zeros 65536) (zeros 1024)
 unfolding Calls.«open» bytesWith
 opens x now =
     let b : 16 ≤ length (zeros 65536) = rw (zeros-length 65536) (omega arith) in
@@ -124,7 +124,7 @@ opens x now =
 
 -- ---- each of the claims of every card is met, on both sides of every number
 
-met : (line : List ℕ) (x : MaybeDuration) (now : ℕ) → isShort line ≡ true → lineOpen line ≡ some (record { conf = timed x; now = now }) → (answerOf First line).answer ≡ Call.Ok
+pub met : (line : List ℕ) (x : MaybeDuration) (now : ℕ) → isShort line ≡ true → lineOpen line ≡ some (record { conf = timed x; now = now }) → (answerOf First line).answer ≡ Call.Ok
 met line x now h e =
     let o : Opening = record { conf = timed x; now = now } in
     ap (λ (a : Answered). a.answer) (everyCard.opens line o h (line-says line o e) (opens x now))
