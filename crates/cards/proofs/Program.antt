@@ -5,4 +5,4 @@ use Rattle.cards.proofs.Runs.{card-runs}
 
 -- BYTES IN, BYTES OUT
 pub program : Program
-program x cs out r after h room f ok = rw ((hosted x cs h).whole out r after room f) (card-runs _ ok)
+program x ms out r after h room f ok = rw ((hosted x ms h).whole out r after room f) (card-runs _ ok)
