@@ -26,20 +26,20 @@ use Rattle.grammar.specs.ByLine.{Line, linesIn, linesFrom}
 use Rattle.grammar.proofs.ByLine.{by-line}
 use Rattle.grammar.proofs.Opened.{opened-so, first-line, first-either}
 use Rattle.grammar.proofs.Refused.{refused-lines}
-use Rattle.cards.specs.Runs.{callsOf, donesOf, entriesOf, openedBy, Demand, Untruncated, Turn, StartsOk, CardRuns, Numbers}
+use Rattle.cards.specs.Runs.{callsOf, donesOf, entriesOf, justOpened, ofLines, ofCards, Demand, Untruncated, Turn, StartsOk, CardRuns, Numbers}
 use Rattle.cards.proofs.Lines.{Follow, follow, leaves, dones, calls-append, parts, no-call, its-call, Said, bad, made, said, terminal-call, last-silent, entered, entered-append, entries-run, entry-answer, has-entered}
 
 -- ---- numbers
 
 -- 10, 11 and 12 left out
-but-stops : (n : ℕ) → among n ofCalls ≡ true → ((eqb n 10 || eqb n 11) || eqb n 12) ≡ false → among n (1 ∷ 2 ∷ 3 ∷ 4 ∷ 5 ∷ 6 ∷ 30 ∷ []) ≡ true
+but-stops : (n : ℕ) → among n ofCalls ≡ true → ((eqb n 10 || eqb n 11) || eqb n 12) ≡ false → among n ofLines ≡ true
 but-stops n h k = grind (arith, h, k)
 
 -- 10 and 11 put in
-with-stops : (n : ℕ) → among n (1 ∷ 2 ∷ 3 ∷ 4 ∷ 5 ∷ 6 ∷ 30 ∷ []) ≡ true → among n (1 ∷ 2 ∷ 3 ∷ 4 ∷ 5 ∷ 6 ∷ 10 ∷ 11 ∷ 30 ∷ []) ≡ true
+with-stops : (n : ℕ) → among n ofLines ≡ true → among n ofCards ≡ true
 with-stops n h = grind (arith, h)
 
-of-first : (n : ℕ) → among n (10 ∷ 11 ∷ 30 ∷ []) ≡ true → among n (1 ∷ 2 ∷ 3 ∷ 4 ∷ 5 ∷ 6 ∷ 10 ∷ 11 ∷ 30 ∷ []) ≡ true
+of-first : (n : ℕ) → among n (10 ∷ 11 ∷ 30 ∷ []) ≡ true → among n ofCards ≡ true
 of-first n h = grind (arith, h)
 
 -- ---- of lines from a runner that open answered ok
@@ -52,7 +52,7 @@ module _ (o : Opening) (op : Opens o.conf o.now (zeros 65536) (zeros 1024)) wher
   t3 = turn o.conf o.now (zeros 65536) (zeros 1024) op
 
   abbrev s : State
-  s = openedBy o
+  s = justOpened o
 
   -- the state before a line
   abbrev at : List Line → State
@@ -69,11 +69,11 @@ module _ (o : Opening) (op : Opens o.conf o.now (zeros 65536) (zeros 1024)) wher
       by b h (bad e a) = ap isMessage a
       by b h (made c e a) = ap isMessage a ∙ last-silent (next (at xs) b) (callsOf ys) c (d3.once (callsOf xs) b (callsOf ys ++ (c ∷ [])) h)
 
-  refused-by : (xs ys : List Line) (l : Line) (n : ℕ) → Follow s (xs ++ (l ∷ ys)) → l.answer ≡ Call.Refused n → among n (1 ∷ 2 ∷ 3 ∷ 4 ∷ 5 ∷ 6 ∷ 30 ∷ []) ≡ true
+  refused-by : (xs ys : List Line) (l : Line) (n : ℕ) → Follow s (xs ++ (l ∷ ys)) → l.answer ≡ Call.Refused n → among n ofLines ≡ true
   refused-by xs ys l n f h = by (said (at xs) l (parts s xs (l ∷ ys) f).1.0)
     where
-      by : Said (at xs) l → among n (1 ∷ 2 ∷ 3 ∷ 4 ∷ 5 ∷ 6 ∷ 30 ∷ []) ≡ true
-      by (bad e a) = let k : 30 ≡ n = (let z : Call.Refused 30 ≡ Call.Refused n = sym a ∙ h in cc) in subst (λ (k : ℕ). among k (1 ∷ 2 ∷ 3 ∷ 4 ∷ 5 ∷ 6 ∷ 30 ∷ []) ≡ true) k refl
+      by : Said (at xs) l → among n ofLines ≡ true
+      by (bad e a) = let k : 30 ≡ n = (let z : Call.Refused 30 ≡ Call.Refused n = sym a ∙ h in cc) in subst (λ (k : ℕ). among k ofLines ≡ true) k refl
       by (made c e a) =
           let k : answer (at xs) c ≡ Call.Refused n = sym a ∙ h in
           but-stops n (refusals.call-number (at xs) c n k) (sym (ap isStop k) ∙ d3.ranged (callsOf xs) c)
@@ -136,7 +136,7 @@ card-runs card = by (linesIn card) refl
     by (line ∷ later) e h =
         let x = opened-so line h in
         let first = first-line line x in
-        let s = openedBy x.given in
+        let s = justOpened x.given in
         let rest = linesFrom (Running s) later in
         let f : Follow s rest = follow s later in
         record {
@@ -171,25 +171,25 @@ over-lines (x ∷ ls) (a ∷ xs) ys l e =
 pub numbers : (card : List ℕ) → Numbers card
 numbers card xs ys l n e h = by (linesIn card) xs e
   where
-    first : (line : List ℕ) (later : List (List ℕ)) → l ≡ record { call = none; answer = (answerOf First line).answer } → among n (1 ∷ 2 ∷ 3 ∷ 4 ∷ 5 ∷ 6 ∷ 10 ∷ 11 ∷ 30 ∷ []) ≡ true
+    first : (line : List ℕ) (later : List (List ℕ)) → l ≡ record { call = none; answer = (answerOf First line).answer } → among n ofCards ≡ true
     first line later k = of-first n (refused-lines.unopened line n (sym (ap (λ (m : Line). m.answer) k) ∙ h)).1
 
     behind : (line : List ℕ) (later : List (List ℕ)) (zs : List Line) → linesFrom (answerOf First line).stage later ≡ zs ++ (l ∷ ys)
-        → among n (1 ∷ 2 ∷ 3 ∷ 4 ∷ 5 ∷ 6 ∷ 10 ∷ 11 ∷ 30 ∷ []) ≡ true
+        → among n ofCards ≡ true
     behind line later zs k = choose (first-either line)
       where
-        choose : ((answerOf First line).answer ≡ Call.Ok) ⊎ ((m : ℕ) × ((answerOf First line).answer ≡ Call.Refused m)) → among n (1 ∷ 2 ∷ 3 ∷ 4 ∷ 5 ∷ 6 ∷ 10 ∷ 11 ∷ 30 ∷ []) ≡ true
+        choose : ((answerOf First line).answer ≡ Call.Ok) ⊎ ((m : ℕ) × ((answerOf First line).answer ≡ Call.Refused m)) → among n ofCards ≡ true
         choose (inl o) =
             let x = opened-so line o in
-            let f = follow (openedBy x.given) later in
-            let q : linesFrom (Running (openedBy x.given)) later ≡ zs ++ (l ∷ ys) = rw (first-line line x) at k in
+            let f = follow (justOpened x.given) later in
+            let q : linesFrom (Running (justOpened x.given)) later ≡ zs ++ (l ∷ ys) = rw (first-line line x) at k in
             with-stops n (refused-by x.given x.opens zs ys l n (rw q at f) h)
         choose (inr r) =
             let q : linesFrom Over later ≡ zs ++ (l ∷ ys) = rw (refused-lines.unopened line r.0 r.1).0 at k in
             let z : 30 ≡ n = (let w : Call.Refused 30 ≡ Call.Refused n = sym (over-lines later zs ys l q) ∙ h in cc) in
-            subst (λ (m : ℕ). among m (1 ∷ 2 ∷ 3 ∷ 4 ∷ 5 ∷ 6 ∷ 10 ∷ 11 ∷ 30 ∷ []) ≡ true) z refl
+            subst (λ (m : ℕ). among m ofCards ≡ true) z refl
 
-    by : (ls : List (List ℕ)) (zs : List Line) → linesFrom First ls ≡ zs ++ (l ∷ ys) → among n (1 ∷ 2 ∷ 3 ∷ 4 ∷ 5 ∷ 6 ∷ 10 ∷ 11 ∷ 30 ∷ []) ≡ true
+    by : (ls : List (List ℕ)) (zs : List Line) → linesFrom First ls ≡ zs ++ (l ∷ ys) → among n ofCards ≡ true
     by [] [] k = let z : ◌≡◌ {A = ℕ} 0 1 = cc in absurd (omega arith)
     by [] (a ∷ zs) k = let z : ◌≡◌ {A = ℕ} 0 1 = cc in absurd (omega arith)
     by (line ∷ later) [] k = first line later (let q : record { call = none; answer = (answerOf First line).answer } ∷ linesFrom (answerOf First line).stage later ≡ l ∷ ys = k in cc)

@@ -34,7 +34,7 @@ use Rattle.grammar.proofs.ByLine.{by-line}
 use Rattle.grammar.proofs.Later.{later-line}
 use Rattle.grammar.proofs.LeftOpen.{everyCard, timed, opens}
 use Rattle.opening.specs.Only.{line-says}
-use Rattle.cards.specs.Runs.{StartsOk, openedBy}
+use Rattle.cards.specs.Runs.{StartsOk, justOpened}
 
 -- ---- lines that are all calls
 
@@ -105,7 +105,7 @@ computed bs lengths = refl
 abbrev opening : Opening
 opening = record { conf = timed MaybeDuration.None; now = 1000 }
 
-first : answerOf First (bytes "open,1000,7,2,4,B,8,B,8,0,never,10,5") ≡ record { stage = Running (openedBy opening); answer = Call.Ok }
+first : answerOf First (bytes "open,1000,7,2,4,B,8,B,8,0,never,10,5") ≡ record { stage = Running (justOpened opening); answer = Call.Ok }
 unfolding calls timeout openOf isOpen openingOf limitsOf timersOf
 first =
     let line = bytes "open,1000,7,2,4,B,8,B,8,0,never,10,5" in
@@ -125,4 +125,4 @@ prints-answers =
     (by-line _).printed
     ∙ ap (λ (a : Answered). textFrom 0 (a.answer ∷ answersFrom a.stage lines)) first
     ∙ ap (λ (rest : List Answer). textFrom 0 (Call.Ok ∷ rest))
-    (as-calls lines made (openedBy opening) are-calls ∙ ap Session.answersOf (same-run (timed MaybeDuration.None) 1000 (zeros 65536) (zeros 1024) (opens MaybeDuration.None 1000) made) ∙ computed (zeros 65536) (zeros 1024))
+    (as-calls lines made (justOpened opening) are-calls ∙ ap Session.answersOf (same-run (timed MaybeDuration.None) 1000 (zeros 65536) (zeros 1024) (opens MaybeDuration.None 1000) made) ∙ computed (zeros 65536) (zeros 1024))

@@ -39,12 +39,19 @@ entriesOf (d ∷ ds) = record { entry = call d.call; answer = d.answer } ∷ ent
 -- ---- a runner that a first line opened
 
 -- with the stores that the program lends, cleared
-abbrev pub openedBy : Opening → State
-openedBy o = opened o.conf o.now (zeros 65536) (zeros 1024)
+abbrev pub justOpened : Opening → State
+justOpened o = opened o.conf o.now (zeros 65536) (zeros 1024)
 
 -- the account after lines, from their calls and what is printed of them
 abbrev pub accountAfter : Opening → List Line → Account
 accountAfter o ls = account (Accounts.start o.conf o.now) (donesOf ls)
+
+-- what a line is refused by: of those behind the first one, and on any card
+abbrev pub ofLines : List ℕ
+ofLines = 1 ∷ 2 ∷ 3 ∷ 4 ∷ 5 ∷ 6 ∷ 30 ∷ []
+
+abbrev pub ofCards : List ℕ
+ofCards = 1 ∷ 2 ∷ 3 ∷ 4 ∷ 5 ∷ 6 ∷ 10 ∷ 11 ∷ 30 ∷ []
 
 -- ---- what holds of the lines behind the first one, as many as there are so far
 
@@ -66,7 +73,7 @@ pub record Demand (o : Opening) (lines : List Line) : Type 0 where
       → t + o.conf.timers.grace + o.conf.timers.settlement < 2 ^ 64 → t + o.conf.timers.grace + o.conf.timers.settlement ≤ n → 5 ≤ messages (callsOf zs)
       → anyTerminal (donesOf lines) ≡ true
   -- no line is refused by 10, 11 or 12, nor by any number but these
-  pub numbers : (xs ys : List Line) (l : Line) (n : ℕ) → lines ≡ xs ++ (l ∷ ys) → l.answer ≡ Call.Refused n → among n (1 ∷ 2 ∷ 3 ∷ 4 ∷ 5 ∷ 6 ∷ 30 ∷ []) ≡ true
+  pub numbers : (xs ys : List Line) (l : Line) (n : ℕ) → lines ≡ xs ++ (l ∷ ys) → l.answer ≡ Call.Refused n → among n ofLines ≡ true
 
 -- behind the lines `before` stands one that is answered by a Terminal which reports the stream x untruncated
 pub record Untruncated (x : Stream) (lines before : List Line) : Type 0 where
@@ -112,8 +119,8 @@ pub record CardRuns (card printed : List ℕ) : Type 0 where
   pub lines : linesFrom First (linesIn card) ≡ record { call = none; answer = Call.Ok } ∷ rest
   pub text : printed ≡ textFrom 0 (Call.Ok ∷ answersOf rest)
   -- these are the answers of the list of their calls, from the runner that was opened, which the end of the card leaves as the list does
-  pub answers : donesOf rest ≡ run (openedBy opening) (callsOf rest)
-  pub leaves : (ended (feeds start card).session).stage ≡ Running (after (openedBy opening) (callsOf rest))
+  pub answers : donesOf rest ≡ run (justOpened opening) (callsOf rest)
+  pub leaves : (ended (feeds start card).session).stage ≡ Running (after (justOpened opening) (callsOf rest))
   -- and a line that makes no call is 30
   pub uncalled : (xs ys : List Line) (l : Line) → rest ≡ xs ++ (l ∷ ys) → l.call ≡ none → l.answer ≡ Call.Refused 30
   -- so demand 3 and the turn hold of what is printed, up to any line
@@ -123,4 +130,4 @@ pub record CardRuns (card printed : List ℕ) : Type 0 where
 -- WHAT THE LINES OF ANY CARD ARE REFUSED BY: 1 to 6, 10, 11 or 30
 abbrev pub Numbers : (card : List ℕ) → Type 0
 Numbers card = (xs ys : List Line) (l : Line) (n : ℕ) → linesFrom First (linesIn card) ≡ xs ++ (l ∷ ys) → l.answer ≡ Call.Refused n
-    → among n (1 ∷ 2 ∷ 3 ∷ 4 ∷ 5 ∷ 6 ∷ 10 ∷ 11 ∷ 30 ∷ []) ≡ true
+    → among n ofCards ≡ true
