@@ -60,18 +60,6 @@ pub enum Call<'a> {
     HighWater,
 }
 
-impl Call<'_> {
-    /// The call's time, if it has one.
-    pub fn now(&self) -> Option<u64> {
-        match *self {
-            Call::Cancel(now, ..) | Call::Exited(now, _) => Some(now),
-            Call::Dropped(now) | Call::Reset(now) => Some(now),
-            Call::Disconnect(now) | Call::Tick(now) => Some(now),
-            _ => None,
-        }
-    }
-}
-
 /// Reads the line that opens a session.
 pub fn open(line: &[u8]) -> Option<Open> {
     let mut fields = Fields::of(line)?;

@@ -20,7 +20,7 @@ const SEPARATOR: &[u8] = b"----";
 /// The longest line of a card.
 const LONGEST: u64 = 65_535;
 
-const REFUSALS: [&str; 10] = ["1", "2", "3", "4", "5", "6", "10", "11", "30", "31"];
+const REFUSALS: [&str; 9] = ["1", "2", "3", "4", "5", "6", "10", "11", "30"];
 const CAUSES: [&str; 5] = ["Cancelled", "Dropped", "TimedOut", "Reset", "Disconnected"];
 const STREAMS: [&str; 2] = ["Stdout", "Stderr"];
 

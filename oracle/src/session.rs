@@ -18,8 +18,6 @@ const NONE: &str = "none,-,-";
 
 pub struct Session {
     runner: Runner,
-    /// The last time that was not refused.
-    last: u64,
     /// The input as our store would hold it, and whether pending shows that.
     ring: Ring,
     as_ring: bool,
@@ -41,21 +39,14 @@ impl Session {
         }
         Ok(Self {
             runner: Runner::new(open.key, limits, timers(&open), at(open.now)),
-            last: open.now,
             ring: Ring::new(area as usize),
             as_ring,
         })
     }
 
-    /// Answers a call, or gives the number that refuses it, and then nothing is written. Only an
-    /// answered call's time is remembered.
+    /// Answers a call, or gives the number that refuses it, and then nothing is written.
     pub fn call(&mut self, call: Call, answers: &mut Answers) -> Result<(), u32> {
-        let now = call.now().unwrap_or(self.last);
-        if now < self.last {
-            return Err(31);
-        }
         self.run(call, answers).map_err(refusal)?;
-        self.last = now;
         if self.ring.waiting() > 0 && self.runner.pending_input().is_empty() {
             self.ring.clear();
         }
