@@ -1,6 +1,7 @@
-# What the scripts here share. They run in the folder oracle.
+# What the scripts here share. They run in the folder oracle and build in its folder target.
 # The published sources stand in the folder NVX_SRC (default: shared/docs/src beside the repository).
 cd "$(dirname "$0")"
+mkdir -p target
 exec_rs="$(cd "${NVX_SRC:-../../shared/docs/src}" && pwd)/nvx-rs/src/exec"
 
 # Lays out the library in target/$1: the published files as they are, ours beside them, with the
