@@ -10,7 +10,7 @@ lines="$1" seed="$2" program="$3"
 shift 3
 # The program is named from where the script was started.
 case "$program" in */*) program="$(cd "$from" && realpath "$program")" ;; esac
-[ -x target/oracle64 ] || ./build.sh
+./build.sh
 for name in generate fuzz; do tool "$name"; done
 {
     target/generate "$seed" 5000
