@@ -2,7 +2,7 @@
 //! that a card can be had again by its own seed. The times and time sums of a card stay below
 //! 2^62; with --far, each card has some past it. A rough model of the runner steers the lines
 //! into deep states; weights of its own for each card, and lines that are plainly wrong, see to
-//! it that no order is missed.
+//! it that no order is missed. Two counters stamp the lines, so that times fall in half the cards.
 
 mod model;
 mod random;
@@ -10,7 +10,7 @@ mod random;
 use std::fmt::Write as _;
 use std::io::{self, Write as _};
 
-use model::{HOUR, Model, Open, Timeout, Window};
+use model::{HOUR, Model, Open, Stream, Timeout, Window};
 use random::Random;
 
 /// The line that ends a card.
@@ -68,6 +68,9 @@ struct Card {
     random: Random,
     far: bool,
     model: Model,
+    /// The counters that stamp the lines, which go on alike: the second one stamps one line in
+    /// four. Where they are apart, times fall.
+    counters: [u64; 2],
     /// How much this card heeds, for each call, what its state asks for: 0 is not at all.
     moods: Vec<u64>,
     /// How rarely it makes calls that lead to its end.
@@ -104,6 +107,7 @@ impl Card {
             random,
             far,
             model: Model::default(),
+            counters: [0; 2],
             text: Vec::new(),
         };
         card.write();
@@ -116,7 +120,13 @@ impl Card {
             true => self.random.pick(&[6, 20, 40, 60, 80]),
             false => 4,
         };
-        for _ in 0..self.random.from_to(lines / 3, lines) {
+        let lines = self.random.from_to(lines / 3, lines);
+        // Where times fall they do so here, if nowhere else.
+        let fall = self.random.below(lines);
+        for line in 0..lines {
+            if opened && line == fall {
+                self.tick_by_both();
+            }
             self.any_line();
         }
         if opened {
@@ -158,6 +168,7 @@ impl Card {
         let stores = u128::from(area) + 2 * u128::from(open.chunk) <= BYTES.into();
         let good = open.chunk > 0 && open.input.size > 0 && open.output.size > 0;
         self.model = Model::new(open);
+        self.start_counters();
         if self.random.once_in(150) {
             let bad = self.spoil(text);
             self.text.extend(bad);
@@ -233,6 +244,23 @@ impl Card {
         }
     }
 
+    /// Both counters start at open's NOW; in eleven cards of twenty, one of them is ahead or behind.
+    fn start_counters(&mut self) {
+        let open = &self.model.open;
+        self.counters = [open.now; 2];
+        let random = &mut self.random;
+        if random.below(20) >= 11 {
+            return;
+        }
+        let both = open.grace.saturating_add(open.settlement);
+        let apart = random.to_one_of(&[3, both.max(1), open.now.max(1)]);
+        let counter = &mut self.counters[random.below(2) as usize];
+        *counter = match *counter == 0 || random.once_in(2) {
+            true => counter.saturating_add(apart),
+            false => counter.saturating_sub(apart),
+        };
+    }
+
     /// One line of any kind, and then perhaps one that asks.
     fn any_line(&mut self) {
         let calls: Vec<&str> = CALLS.split(' ').collect();
@@ -262,7 +290,7 @@ impl Card {
     fn weight(&self, call: &str) -> u64 {
         let model = &self.model;
         let when = |due: bool, often: u64, seldom: u64| if due { often } else { seldom };
-        let all = |test: fn(&model::Stream) -> bool| model.streams.iter().all(test);
+        let all = |test: fn(&Stream) -> bool| model.streams.iter().all(test);
         let closed = all(|stream| stream.closed);
         let room = |pool: usize| model.streams[pool].credit < model.open.output.size;
         let ending = model.begun || model.exited;
@@ -287,7 +315,7 @@ impl Card {
             "discarded" => when(all(|stream| !stream.discarding), 1, 8),
             "cancel" => return end(when(model.begun, 2, 5)),
             "dropped" | "reset" | "disconnect" => return end(when(model.detached, 1, 2)),
-            "end_input" => return end(when(model.input_closed || model.peer_ended, 1, 6)),
+            "end_input" => return end(when(model.input_closed || model.peer_ended, 1, 8)),
             "input_closed" => return end(when(model.input_closed, 1, 2)),
             _ => 1,
         }
@@ -317,10 +345,15 @@ impl Card {
                 format!("end_input,{key}")
             }
             "cancel" => {
+                let counters = self.counters;
                 let now = self.time();
                 let (key, own) = self.key();
-                if own && self.model.tick(now) {
+                if own {
+                    self.model.tick(now);
                     self.model.terminate();
+                } else {
+                    // It ticks nothing, so times go on from before it.
+                    self.counters = counters;
                 }
                 let cause = self.random.pick(&CAUSES);
                 format!("cancel,{now},{key},{cause}")
@@ -339,7 +372,14 @@ impl Card {
             }
             "read_allowance" => format!("{call},{name}"),
             "output" => {
-                let room = self.model.open.chunk - self.model.streams[stream].queued;
+                let Stream {
+                    queued, discarding, ..
+                } = self.model.streams[stream];
+                // What is discarded is often nothing.
+                let room = match discarding && self.random.once_in(4) {
+                    true => 0,
+                    false => self.model.open.chunk - queued,
+                };
                 let length = self.length(slip, room, self.model.open.chunk);
                 self.model.output(stream, length);
                 format!("output,{name},{}", self.hex(stream, length))
@@ -372,9 +412,8 @@ impl Card {
             }
             "exited" => {
                 let now = self.time();
-                if self.model.tick(now) {
-                    self.model.exit();
-                }
+                self.model.tick(now);
+                self.model.exit();
                 let statuses = [
                     "E0",
                     "E0",
@@ -394,9 +433,8 @@ impl Card {
             }
             "dropped" | "reset" | "disconnect" => {
                 let now = self.time();
-                if self.model.tick(now) {
-                    self.model.detach();
-                }
+                self.model.tick(now);
+                self.model.detach();
                 format!("{call},{now}")
             }
             "tick" => {
@@ -488,21 +526,20 @@ impl Card {
         text
     }
 
-    /// A time: often one that is due, or beside it, or the last again; seldom a fallen one.
+    /// A time, from one of the counters: often one that is due, or beside it, or the last again.
     fn time(&mut self) -> u64 {
-        let (now, deadlines) = (self.model.now, self.model.deadlines());
+        let counter = self.counter();
+        let (now, deadlines) = (self.counters[counter], self.model.deadlines());
         let (grace, settlement) = (self.model.open.grace, self.model.open.settlement);
         let random = &mut self.random;
         let begun = self.model.begun || self.model.exited;
         let early = !begun && !random.once_in(self.patience);
         let time = match random.below(20) {
             _ if early => now.saturating_add(random.below(2)),
-            0..=4 => now,
-            5..=8 => now.saturating_add(random.from_to(1, 3)),
-            9 => now.saturating_add(random.from_to(0, grace.saturating_add(settlement))),
-            10 => now.saturating_add(grace),
-            11 if random.once_in(2) => random.from_to(now.saturating_sub(3), now),
-            11 => random.from_to(0, now),
+            0..=5 => now,
+            6..=9 => now.saturating_add(random.from_to(1, 3)),
+            10 => now.saturating_add(random.from_to(0, grace.saturating_add(settlement))),
+            11 => now.saturating_add(grace),
             12 if self.far => random.pick(&[FAR, 1 << 63, u64::MAX - 1, u64::MAX]),
             _ => match deadlines[..] {
                 [] => now,
@@ -514,7 +551,36 @@ impl Card {
                 }
             },
         };
-        if self.far { time } else { time.min(LATEST) }
+        self.stamp(counter, time)
+    }
+
+    /// The counter that stamps the next line.
+    fn counter(&mut self) -> usize {
+        usize::from(self.random.once_in(4))
+    }
+
+    /// A tick by each counter, where they are apart: the later time first, so that the other falls.
+    fn tick_by_both(&mut self) {
+        let [one, other] = self.counters;
+        if one == other {
+            return;
+        }
+        for now in [one.max(other), one.min(other)] {
+            self.model.tick(now);
+            self.line(format!("tick,{now}"));
+        }
+    }
+
+    /// Lets both counters go on until one of them is at a time, unless it is past it already. Gives
+    /// what it stamps.
+    fn stamp(&mut self, counter: usize, time: u64) -> u64 {
+        let now = self.counters[counter];
+        let latest = if self.far { u64::MAX } else { LATEST };
+        let time = time.min(latest).max(now);
+        for counter in &mut self.counters {
+            *counter = counter.saturating_add(time - now).min(latest);
+        }
+        time
     }
 
     /// Reports what is missing, in any order, with other lines between.
@@ -543,6 +609,7 @@ impl Card {
         }
         if !self.model.settled {
             self.call("settled");
+            self.ask();
         }
     }
 
@@ -556,11 +623,11 @@ impl Card {
             let Some(&first) = self.model.deadlines().first() else {
                 break;
             };
-            let early = self.random.once_in(6);
-            let first = first.saturating_sub(u64::from(early)).max(self.model.now);
-            let first = if self.far { first } else { first.min(LATEST) };
-            self.model.tick(first);
-            self.line(format!("tick,{first}"));
+            let early = u64::from(self.random.once_in(6));
+            let counter = self.counter();
+            let now = self.stamp(counter, first.saturating_sub(early));
+            self.model.tick(now);
+            self.line(format!("tick,{now}"));
             while self.random.once_in(2) {
                 self.ask();
             }

@@ -130,11 +130,8 @@ impl Model {
         if self.open.shared { 0 } else { stream }
     }
 
-    /// A call at a time: false if the time is refused.
-    pub fn tick(&mut self, now: u64) -> bool {
-        if now < self.now {
-            return false;
-        }
+    /// A call at a time, which may be below the last.
+    pub fn tick(&mut self, now: u64) {
         self.now = now;
         let due = |at: &mut Option<u64>| at.take_if(|at| now >= *at).is_some();
         if due(&mut self.timeout_at) {
@@ -162,7 +159,6 @@ impl Model {
                 .iter_mut()
                 .for_each(|stream| stream.closed |= !stream.hung_up);
         }
-        true
     }
 
     pub fn terminate(&mut self) {
