@@ -1,7 +1,7 @@
 -- Lines behind the first one: each is answered as its call is, or by 30 where it makes none.
 use mathlib.Core.Bool.{true, false, true≢false}
 use mathlib.Core.Path.{◌≡◌, refl, sym, ap, ◌∙◌}
-use mathlib.Core.List.{List, [], ◌∷◌, ◌++◌}
+use mathlib.Core.List.{List, [], ◌∷◌, ◌++◌, map}
 use mathlib.Core.Logic.{inl, inr}
 use mathlib.Core.Option.{Option, none, some}
 use Prim.Native.Nat.{ℕ}
@@ -12,8 +12,8 @@ use Rattle.account.specs.Records.{Entry, EntryDone, call, consCall, consDone, ne
 use Rattle.account.specs.TurnClaim.{Has}
 use Rattle.account.specs.Step.{State, next, answer, after, run}
 use Rattle.grammar.specs.Feed.{Running}
-use Rattle.grammar.specs.ByLine.{Line, callIn, linesFrom, stageAfter}
-use Rattle.grammar.proofs.Later.{nextBy, answerBy, later-line}
+use Rattle.grammar.specs.ByLine.{Line, callSaid, nextBy, answerBy, linesFrom, stageAfter}
+use Rattle.grammar.proofs.Later.{later-line}
 use Rattle.cards.specs.Runs.{callsOf, donesOf, entriesOf}
 
 -- a line is answered as its call is, or by 30 where it makes none
@@ -35,12 +35,17 @@ cons-append (some c) xs ys = refl
 -- from a stage with a runner on
 pub follow : (s : State) (ls : List (List ℕ)) → Follow s (linesFrom (Running s) ls)
 follow s [] = tt
-follow s (l ∷ ls) = let h = later-line s l in rw h (refl, follow (nextBy s (callIn (Running s) l)) ls)
+follow s (l ∷ ls) = let h = later-line s l in rw h (refl, follow (nextBy s (callSaid l)) ls)
 
 pub leaves : (s : State) (ls : List (List ℕ)) → stageAfter (Running s) ls ≡ Running (after s (callsOf (linesFrom (Running s) ls)))
 leaves s [] = refl
 leaves s (l ∷ ls) =
-    rw (later-line s l) (leaves (nextBy s (callIn (Running s) l)) ls ∙ ap Running (sym (after-cons (callIn (Running s) l) s (callsOf (linesFrom (Running (nextBy s (callIn (Running s) l))) ls)))))
+    rw (later-line s l) (leaves (nextBy s (callSaid l)) ls ∙ ap Running (sym (after-cons (callSaid l) s (callsOf (linesFrom (Running (nextBy s (callSaid l))) ls)))))
+
+-- their calls are those that they say
+pub called : (s : State) (ls : List (List ℕ)) → map (λ (l : Line). l.call) (linesFrom (Running s) ls) ≡ map callSaid ls
+called s [] = refl
+called s (l ∷ ls) = rw (later-line s l) (ap (λ (rest : List (Option Call)). callSaid l ∷ rest) (called (nextBy s (callSaid l)) ls))
 
 -- their answers are those of the list of their calls
 pub dones : (s : State) (ls : List Line) → Follow s ls → donesOf ls ≡ run s (callsOf ls)

@@ -27,7 +27,7 @@ use Rattle.grammar.proofs.ByLine.{by-line}
 use Rattle.grammar.proofs.Opened.{opened-so, first-line, first-either}
 use Rattle.grammar.proofs.Refused.{refused-lines}
 use Rattle.cards.specs.Runs.{callsOf, donesOf, entriesOf, justOpened, ofLines, ofCards, Demand, Untruncated, Turn, StartsOk, CardRuns, Numbers}
-use Rattle.cards.proofs.Lines.{Follow, follow, leaves, dones, calls-append, parts, no-call, its-call, Said, bad, made, said, terminal-call, last-silent, entered, entered-append, entries-run, entry-answer, has-entered}
+use Rattle.cards.proofs.Lines.{Follow, follow, called, leaves, dones, calls-append, parts, no-call, its-call, Said, bad, made, said, terminal-call, last-silent, entered, entered-append, entries-run, entry-answer, has-entered}
 
 -- ---- numbers
 
@@ -149,6 +149,7 @@ card-runs card = by (linesIn card) refl
           rest = rest;
           lines = rw (e, first) refl;
           text = (by-line card).printed ∙ rw (e, first) refl;
+          called = called s later;
           answers = dones s rest f;
           leaves = (by-line card).stage ∙ rw (e, first) (leaves s later);
           uncalled = λ xs ys l k. no-call _ l (parts s xs (l ∷ ys) (rw k at f)).1.0;

@@ -1,5 +1,6 @@
 -- Bytes in and bytes out: what the calls Card::new, eat and finish make of a card that opens a runner.
-use Rattle.std.specs.Prelude.{List, ◌++◌, ℕ, take}
+use Rattle.std.specs.Prelude.{◌≡◌, List, [], ◌∷◌, ◌++◌, ℕ, take}
+use Rattle.card.specs.declared.feed.Card.{Card}
 use Rattle.card.specs.declared.feed.Eaten.{Eaten}
 use Rattle.grammar.specs.ByLine.{linesIn}
 use Rattle.card.specs.Holding.{Lent}
@@ -7,9 +8,15 @@ use Rattle.card.specs.Turning.{newCard, Finishes}
 use Rattle.cards.specs.Host.{EatCall, lending, AllEat, cardAfter, lentAfter, eatenBy, printedBy, Room}
 use Rattle.cards.specs.Runs.{StartsOk, CardRuns}
 
--- HOWEVER A HOST FEEDS A CARD WHOSE FIRST LINE IS ANSWERED OK, WHAT IT IS GIVEN ARE THE ANSWERS OF ONE OF DEMAND 3'S LISTS, BY PROMISE OF
--- THE CODE: for a line area and stores of any content at first, every list of calls of eat, and an end of the input with room for an answer
-abbrev pub Program : Type 0
-Program = (x : Lent) (ms : List EatCall) (out : List ℕ) (r : Eaten) (after : Lent) → AllEat newCard x ms → Room (cardAfter newCard ms) (lending (lentAfter x ms) out)
-    → Finishes (cardAfter newCard ms) (lending (lentAfter x ms) out) r after
-    → StartsOk (linesIn (eatenBy ms)) → CardRuns (eatenBy ms) (printedBy ms ++ take r.printed after.out)
+-- after these calls from a new card, which left the card c and what is lent as x; of bytes whose first line is answered ok
+pub record Program (ms : List EatCall) (c : Card) (x : Lent) : Type 0 where
+  -- while the input still comes, wherever it ends a line
+  pub so-far : (text : List ℕ) → eatenBy ms ≡ text ++ (10 ∷ []) → StartsOk (linesIn (eatenBy ms)) → CardRuns (eatenBy ms) (printedBy ms)
+  -- and with its end, where there is room for an answer
+  pub whole : (out : List ℕ) (r : Eaten) (after : Lent) → Room c (lending x out) → Finishes c (lending x out) r after
+      → StartsOk (linesIn (eatenBy ms)) → CardRuns (eatenBy ms) (printedBy ms ++ take r.printed after.out)
+
+-- BYTES IN, BYTES OUT: HOWEVER A HOST FEEDS A CARD THAT OPENS A RUNNER, WHAT IT IS GIVEN ARE THE ANSWERS OF ONE OF DEMAND 3'S LISTS, by
+-- promise of the code, for a line area and stores of any content at first and every list of calls of eat
+abbrev pub Programs : Type 0
+Programs = (x : Lent) (ms : List EatCall) → AllEat newCard x ms → Program ms (cardAfter newCard ms) (lentAfter x ms)

@@ -1,6 +1,7 @@
 -- A card that opens a runner makes one of demand 3's lists, and prints its answers: so demand 3 and the turn hold of what is printed.
 use Rattle.std.specs.Prelude.{true, false, ◌≡◌, List, [], ◌∷◌, ◌++◌, ℕ, ◌+◌, ◌^◌, ◌≤◌, ◌<◌}
 use Rattle.std.proofs.Math.Option.{none, some}
+use mathlib.Core.List.{map}
 use Rattle.exec.specs.declared.Cause.{Cause}
 use Rattle.exec.specs.declared.Key.{Key}
 use Rattle.exec.specs.declared.Outcome.{Outcome}
@@ -17,7 +18,7 @@ use Rattle.account.specs.TurnClaim.{Has, closing, takenIn, sentIn}
 use Rattle.syntax.specs.Lines.{zeros}
 use Rattle.opening.specs.Open.{Opening, lineOpen}
 use Rattle.grammar.specs.Feed.{First, Running, answerOf, start, feeds, ended}
-use Rattle.grammar.specs.ByLine.{Line, linesIn, linesFrom, answersOf, textFrom}
+use Rattle.grammar.specs.ByLine.{Line, linesIn, callSaid, linesFrom, answersOf, textFrom}
 
 -- ---- lines
 
@@ -118,6 +119,8 @@ pub record CardRuns (card printed : List ℕ) : Type 0 where
   pub rest : List Line
   pub lines : linesFrom First (linesIn card) ≡ record { call = none; answer = Call.Ok } ∷ rest
   pub text : printed ≡ textFrom 0 (Call.Ok ∷ answersOf rest)
+  -- their calls are those that they say, whatever the times
+  pub called : map (λ (l : Line). l.call) rest ≡ map callSaid later
   -- these are the answers of the list of their calls, from the runner that was opened, which the end of the card leaves as the list does
   pub answers : donesOf rest ≡ run (justOpened opening) (callsOf rest)
   pub leaves : (ended (feeds start card).session).stage ≡ Running (after (justOpened opening) (callsOf rest))

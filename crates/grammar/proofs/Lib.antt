@@ -1,6 +1,7 @@
 -- The proofs of what is claimed of cards, line by line.
 pub mod Called
 pub mod Refused
+pub mod Cut
 pub mod ByLine
 pub mod Later
 pub mod Opened

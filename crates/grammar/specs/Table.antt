@@ -1,12 +1,15 @@
--- Texts as their lines, and lines by where a session stands: open, and lines that are too long.
+-- Texts as their lines, lines by where a session stands and how long they are, and the numbers of answers.
 use Rattle.std.specs.Prelude.{◌≡◌, refl, List, [], ◌∷◌, ℕ, length}
+use Rattle.calls.specs.Call as Call
 use Rattle.calls.specs.Call.{Call}
+use Rattle.decimal.specs.Decimal.{digitsOf, digitsBefore}
+use Rattle.syntax.specs.Answers.{lineText, answerText}
 use Rattle.syntax.specs.Table.{calls}
 use Rattle.syntax.specs.Words.{bytes}
 use Rattle.opening.specs.Open.{openOf, isOpen}
 use Rattle.account.specs.Step.{State, next, answer}
-use Rattle.grammar.specs.Feed.{First, Running, Over, bad, first, later, answered, tooLong, answerOf}
-use Rattle.grammar.specs.ByLine.{linesIn}
+use Rattle.grammar.specs.Feed.{Stage, First, Running, Over, bad, first, later, answered, tooLong, answerOf}
+use Rattle.grammar.specs.ByLine.{linesIn, textFrom}
 
 -- 0a alone ends a line; a last line needs none, and behind a last 0a there is none
 texts : (linesIn [] ≡ [])
@@ -37,3 +40,13 @@ times-fall s = (refl, refl)
 long-line : (s : State) (line : List ℕ) → length line ≡ 65536 → answerOf (Running s) line ≡ bad (Running s)
 unfolding answerOf tooLong
 long-line s line e = rw e refl
+
+-- one of 65,535 is not
+whole-line : (x : Stage) (line : List ℕ) → length line ≡ 65535 → answerOf x line ≡ answered x line
+unfolding answerOf
+whole-line x line e = rw e refl
+
+-- what is printed: answers are numbered from 1
+numbered : textFrom 0 (Call.Ok ∷ Call.Refused 30 ∷ []) ≡ bytes "1,ok,-,-\n2,refused,30,-\n"
+unfolding bytes lineText answerText digitsOf digitsBefore
+numbered = refl

@@ -96,3 +96,9 @@ good-lines : (calls "tick,0035" ≡ some (Call.tick 35))
     × (calls "credit,7,2,Input,0" ≡ some (Call.credit (newKey 7 2) Pool.Input 0))
 unfolding calls
 good-lines = (refl, refl, refl, refl, refl, refl, refl)
+
+-- of the two digits of truncation stdout's is the first
+truncated : prints 1 (Call.Says (Call.Terminal (record { status = MaybeStatus.None; cause = MaybeCause.None; launch_failure = MaybeLaunchFailure.None; stdout_truncated = true; stderr_truncated = false; reusable = false })))
+    ≡ bytes "1,Terminal,-,-,-,-,-,10,0\n"
+unfolding prints
+truncated = refl
