@@ -1,9 +1,10 @@
--- A card whose times fall, computed: opened at 1000 by one counter, it is cancelled at 20 and ticked at 19 and at 35 by another.
+-- Two cards, computed. Of one the times fall: opened at 1000 by one counter, it is cancelled at 20 and ticked at 19 and at 35 by another.
+-- On the other the turn is taken.
 use mathlib.Core.Bool.{cond}
-use mathlib.Core.Path.{◌≡◌, refl, ap, ◌∙◌}
-use mathlib.Core.List.{List, [], ◌∷◌, map}
+use mathlib.Core.Path.{◌≡◌, refl, sym, ap, ◌∙◌}
+use mathlib.Core.List.{List, [], ◌∷◌, ◌++◌, map}
 use mathlib.Core.Option.{Option, none, some}
-use Prim.Native.Nat.{ℕ}
+use Prim.Native.Nat.{ℕ, ◌≤◌}
 use native.Mathlib.Omega.{arith}
 use Rattle.exec.specs.declared.Cause.TheVariants as Cause
 use Rattle.exec.specs.declared.Deadline.TheVariants.{At}
@@ -24,6 +25,10 @@ use Rattle.account.proofs.Plain.{said, next, answer, begun, run}
 use Rattle.account.proofs.Demand.{same-run}
 use Rattle.account.proofs.Session.{message, cutShort}
 use Rattle.account.proofs.Session as Session
+use Rattle.account.proofs.TurnSession as TurnSession
+use Rattle.syntax.specs.Zeros.{zeros-length}
+use Rattle.cards.proofs.Lines.{entry-answer}
+use lib.ListN.{length}
 use Rattle.syntax.specs.Table.{calls}
 use Rattle.syntax.specs.Words.{bytes}
 use Rattle.syntax.specs.Lines.{lineCall, zeros}
@@ -50,7 +55,7 @@ as-calls (l ∷ ls) (c ∷ cs) s e =
     let h : cond (isShort l) (lineCall l) none ≡ some c = cc in
     let t : callsIn ls ≡ map some cs = cc in rw (later-line s l, h) (ap (λ (rest : List Answer). Step.answer s c ∷ rest) (as-calls ls cs (Step.next s c) t))
 
--- ---- the card
+-- ---- a card whose times fall
 
 abbrev lines : List (List ℕ)
 lines = bytes "message,16"
@@ -126,3 +131,46 @@ prints-answers =
     ∙ ap (λ (a : Answered). textFrom 0 (a.answer ∷ answersFrom a.stage lines)) first
     ∙ ap (λ (rest : List Answer). textFrom 0 (Call.Ok ∷ rest))
     (as-calls lines made (justOpened opening) are-calls ∙ ap Session.answersOf (same-run (timed MaybeDuration.None) 1000 (zeros 65536) (zeros 1024) (opens MaybeDuration.None 1000) made) ∙ computed (zeros 65536) (zeros 1024))
+
+-- ---- a card on which the turn is taken
+
+pub rows : List (List ℕ)
+unfolding bytes
+rows = bytes "launched,0,-,-"
+    ∷ bytes "credit,7,2,Stdout,3"
+    ∷ bytes "output,Stdout,6162636465"
+    ∷ bytes "message,16"
+    ∷ bytes "message,16"
+    ∷ bytes "message,16"
+    ∷ bytes "output,Stdout,656667"
+    ∷ bytes "credit,7,2,Stdout,8"
+    ∷ bytes "message,16"
+    ∷ bytes "output_closed,Stdout"
+    ∷ bytes "output_closed,Stderr"
+    ∷ bytes "exited,20,E0"
+    ∷ bytes "settled,Settled"
+    ∷ bytes "message,16"
+    ∷ bytes "message,16"
+    ∷ bytes "message,16"
+    ∷ bytes "message,16"
+    ∷ []
+
+rows-calls : callsIn rows ≡ map some (TurnSession.calls ++ (message ∷ []))
+unfolding rows calls zeros
+rows-calls = refl
+
+-- the answers of a list and of one call more
+answers-behind : (s : State) (cs : List Call) (c : Call) → Session.answersOf (Step.run s (cs ++ (c ∷ []))) ≡ Session.answersOf (Step.run s cs) ++ (Step.answer (Step.after s cs) c ∷ [])
+answers-behind s [] c = refl
+answers-behind s (b ∷ cs) c = ap (λ (rest : List Answer). Step.answer s b ∷ rest) (answers-behind (Step.next s b) cs c)
+
+-- its last line is answered by a Terminal that reports both streams untruncated, so what `Turn` asks can be met
+pub turn-taken : answersFrom (Running (justOpened (record { conf = Session.conf; now = 0 }))) rows
+    ≡ Session.answersOf (Step.run (justOpened (record { conf = Session.conf; now = 0 })) TurnSession.calls) ++ (Call.Says (Call.Terminal TurnSession.complete) ∷ [])
+turn-taken =
+    let s : State = justOpened (record { conf = Session.conf; now = 0 }) in
+    let room : 16 ≤ length (zeros 65536) = rw (zeros-length 65536) (omega arith) in
+    as-calls rows (TurnSession.calls ++ (message ∷ [])) s rows-calls
+    ∙ answers-behind s TurnSession.calls message
+    ∙ ap (λ (a : Answer). Session.answersOf (Step.run s TurnSession.calls) ++ (a ∷ []))
+    (sym (entry-answer s TurnSession.calls message) ∙ TurnSession.terminal (zeros 65536) (zeros 1024) room)
