@@ -22,25 +22,25 @@ use Rattle.runner.specs.declared.answer.Said.TheVariants as Said
 use Rattle.choice.specs.declared.Choice.{Choice}
 use Rattle.runner.specs.declared.runner.Runner.{Runner}
 use Rattle.runner.specs.Calls as Calls
-use Rattle.runner.specs.Calls.{storesDo}
-use Rattle.runner.specs.Life.{outcomeOf}
-use Rattle.runner.specs.Message.{choose, payload, saidFor, bufferAfter}
-use Rattle.runner.specs.Range.{stop, bytesDo}
+use Rattle.runner.specs.Calls.{stores_do}
+use Rattle.runner.specs.Life.{outcome_of}
+use Rattle.runner.specs.Message.{choose, payload, said_for, buffer_after}
+use Rattle.runner.specs.Range.{stop, bytes_do}
 use Rattle.codec.specs.declared.Parsed.{Parsed}
 use Rattle.codec.specs.declared.Record.{Record}
 use Rattle.channel.specs.Calls as Channel
-use Rattle.channel.specs.Calls.{ReadAfter, WriteAfter, isChannel, admitted, heardAs, notedAs, parsedRead, admittedRead, room, asked, isLeft, sent, told, wrote, wroteBuffer, sentAs, sentBuffer, partBack, hasEnded}
-use Rattle.codec.specs.Codec.{start, size, kinded, isTyped, fitting, checked, read, laidRecord}
-use Rattle.codec.specs.RoundTrip.{payload-back, laid-front}
-use Rattle.channel.specs.Ended.{Writes, elsewhere, short, left, taken, tells, choice-left}
-use Rattle.exits.specs.Exit.{isUntold}
+use Rattle.channel.specs.Calls.{ReadAfter, WriteAfter, is_channel, admitted, heard_as, noted_as, parsed_read, admitted_read, room, asked, is_left, sent, told, wrote, wrote_buffer, sent_as, sent_buffer, part_back, has_ended}
+use Rattle.codec.specs.Codec.{start, size, kinded, is_typed, fitting, checked, read, laid_record}
+use Rattle.codec.specs.RoundTrip.{payload_back, laid_front}
+use Rattle.channel.specs.Ended.{Writes, elsewhere, short, left, taken, tells, choice_left}
+use Rattle.exits.specs.Exit.{is_untold}
 use Rattle.calls.specs.Call as Call
 use Rattle.calls.specs.Call.{Conf, Call, Answer, Done}
 use Rattle.account.specs.Step as Step
-use Rattle.account.specs.Step.{State, replied, receivedAs, says}
-use Rattle.account.specs.Records.{Entry, readRecord, writeRecord, readAs, wroteAs, callOf, isUntaken, among, ofReads, ofEntry}
-use Rattle.runner.specs.MessageLaws.{payload-length}
-use Rattle.account.proofs.Lives.{confOf}
+use Rattle.account.specs.Step.{State, replied, received_as, says}
+use Rattle.account.specs.Records.{Entry, read_record, write_record, read_as, wrote_as, call_of, is_untaken, among, of_reads, of_entry}
+use Rattle.runner.specs.MessageLaws.{payload_length}
+use Rattle.account.proofs.Lives.{conf_of}
 use Rattle.account.proofs.Flags.{either}
 
 -- ---- a refusal of the record's own: no call was made
@@ -49,7 +49,7 @@ pub record Unmade (e : Entry) (before after : State) (a : Answer) : Type 0 where
   pub kept : after ≡ before
   pub refusal : ℕ
   pub answered : a ≡ Call.Refused refusal
-  pub own : among refusal (ofEntry e) ≡ true
+  pub own : among refusal (of_entry e) ≡ true
 
 -- what an entry does, by the call that it makes
 unfoldable pub Does : Entry → Option Call → (s after : State) → Answer → Type 0
@@ -58,15 +58,15 @@ Does e (some c) s after a = (after ≡ Step.next s c) × (a ≡ Step.answer s c)
 
 -- ---- a record read
 
-pub heard-as : (x : Received) → readAs (heardAs x) ≡ receivedAs x
-heard-as (Received.Receipt Receipt.Applied) = refl
-heard-as (Received.Receipt Receipt.Stale) = refl
-heard-as (Received.Receipt Receipt.Late) = refl
-heard-as (Received.Refused x) = refl
+pub heard_as_lem : (x : Received) → read_as (heard_as x) ≡ received_as x
+heard_as_lem (Received.Receipt Receipt.Applied) = refl
+heard_as_lem (Received.Receipt Receipt.Stale) = refl
+heard_as_lem (Received.Receipt Receipt.Late) = refl
+heard_as_lem (Received.Refused x) = refl
 
-pub noted-as : (x : Reply) → readAs (notedAs x) ≡ replied x
-noted-as Reply.Ok = refl
-noted-as (Reply.Refused x) = refl
+pub noted_as_lem : (x : Reply) → read_as (noted_as x) ≡ replied x
+noted_as_lem Reply.Ok = refl
+noted_as_lem (Reply.Refused x) = refl
 
 abbrev pub leaves : ReadAfter → State
 leaves x = record { runner = x.reading.runner; bytes = x.bytes; lengths = x.lengths }
@@ -77,137 +77,137 @@ RefusedBy P (Parsed.Read rec) = Unit
 RefusedBy P (Parsed.Refused x) = P x
 
 module _ (P : Refusal → Type 0) (bad-length : P BadLength) (unknown : P UnknownKind) (other : P OtherChannel) (bad-type : P BadType) where
-  checked-by : (channel : ℕ) (s : List ℕ) (p : Parsed) → RefusedBy P p → RefusedBy P (checked channel s p)
+  checked_by : (channel : ℕ) (s : List ℕ) (p : Parsed) → RefusedBy P p → RefusedBy P (checked channel s p)
   unfolding checked fitting
-  checked-by channel s (Parsed.Read rec) h =
+  checked_by channel s (Parsed.Read rec) h =
       either (RefusedBy P) (eqb (length s) (start rec + size rec)) _ _
-      (either (RefusedBy P) (eqb _ channel) _ _ (either (RefusedBy P) (isTyped rec s) _ _ tt bad-type) other) bad-length
-  checked-by channel s (Parsed.Refused x) h = h
+      (either (RefusedBy P) (eqb _ channel) _ _ (either (RefusedBy P) (is_typed rec s) _ _ tt bad-type) other) bad-length
+  checked_by channel s (Parsed.Refused x) h = h
 
-  pub reads-by : (channel : ℕ) (s : List ℕ) → RefusedBy P (read channel s)
+  pub reads_by : (channel : ℕ) (s : List ℕ) → RefusedBy P (read channel s)
   unfolding read kinded
-  reads-by channel s =
+  reads_by channel s =
       let kind = get_or s 0 0 in
       let or : (n : ℕ) (p q : Parsed) → RefusedBy P p → RefusedBy P q → RefusedBy P (cond (eqb kind n) p q) = λ n. either (RefusedBy P) (eqb kind n) in
       let k : RefusedBy P (kinded kind s) = or 93 _ _ tt (or 94 _ _ tt (or 95 _ _ tt (or 96 _ _ tt (or 97 _ _ tt unknown)))) in
-      either (RefusedBy P) (eqb (length s) 0) _ _ bad-length (checked-by channel s (kinded kind s) k)
+      either (RefusedBy P) (eqb (length s) 0) _ _ bad-length (checked_by channel s (kinded kind s) k)
 
 abbrev pub Among : List ℕ → Refusal → Type 0
 Among numbers x = among (number x) numbers ≡ true
 
-parsed-does : (p : Parsed) (s : State) (now channel : ℕ) (b : List ℕ) → RefusedBy (Among ofReads) p
-    → Does (readRecord now channel b) (callOf (confOf s.runner) now b p) s (leaves (parsedRead p s.runner now b s.bytes s.lengths)) (readAs (parsedRead p s.runner now b s.bytes s.lengths).reading.answer)
-unfolding Does callOf parsedRead Channel.made Step.next Step.answer
-parsed-does (Parsed.Read (Record.Adjust units)) s now channel b h = (refl, heard-as (Calls.credit s.runner s.runner.key Pool.Output units).received)
-parsed-does (Parsed.Read (Record.Data n)) s now channel b h =
-    (refl, heard-as (Calls.input s.runner s.runner.key (drop 9 b) s.bytes s.lengths).hearing.received)
-parsed-does (Parsed.Read (Record.Extended n)) s now channel b h = record { kept = refl; refusal = 24; answered = refl; own = refl }
-parsed-does (Parsed.Read Record.Eof) s now channel b h = (refl, heard-as (Calls.endInput s.runner s.runner.key).received)
-parsed-does (Parsed.Read Record.Close) s now channel b h = (refl, noted-as (Calls.disconnect s.runner now).reply)
-parsed-does (Parsed.Refused x) s now channel b h = record { kept = refl; refusal = number x; answered = refl; own = h }
+parsed_does : (p : Parsed) (s : State) (now channel : ℕ) (b : List ℕ) → RefusedBy (Among of_reads) p
+    → Does (read_record now channel b) (call_of (conf_of s.runner) now b p) s (leaves (parsed_read p s.runner now b s.bytes s.lengths)) (read_as (parsed_read p s.runner now b s.bytes s.lengths).reading.answer)
+unfolding Does call_of parsed_read Channel.made Step.next Step.answer
+parsed_does (Parsed.Read (Record.Adjust units)) s now channel b h = (refl, heard_as_lem (Calls.credit s.runner s.runner.key Pool.Output units).received)
+parsed_does (Parsed.Read (Record.Data n)) s now channel b h =
+    (refl, heard_as_lem (Calls.input s.runner s.runner.key (drop 9 b) s.bytes s.lengths).hearing.received)
+parsed_does (Parsed.Read (Record.Extended n)) s now channel b h = record { kept = refl; refusal = 24; answered = refl; own = refl }
+parsed_does (Parsed.Read Record.Eof) s now channel b h = (refl, heard_as_lem (Calls.end_input s.runner s.runner.key).received)
+parsed_does (Parsed.Read Record.Close) s now channel b h = (refl, noted_as_lem (Calls.disconnect s.runner now).reply)
+parsed_does (Parsed.Refused x) s now channel b h = record { kept = refl; refusal = number x; answered = refl; own = h }
 
 -- what is met before a record, for a runner in range with its stores
-pub admitted-so : (r : Runner) (stores : Bool) → stop r stores ≡ Reply.Ok → admitted r stores ≡ cond (isChannel r.limits) Reply.Ok (Reply.Refused NotAChannel)
+pub admitted_so : (r : Runner) (stores : Bool) → stop r stores ≡ Reply.Ok → admitted r stores ≡ cond (is_channel r.limits) Reply.Ok (Reply.Refused NotAChannel)
 unfolding admitted
-admitted-so r stores g = rw g refl
+admitted_so r stores g = rw g refl
 
 pub read_by : (channels : Bool) (s : State) (now channel : ℕ) (b : List ℕ)
-    → Does (readRecord now channel b) (cond channels (callOf (confOf s.runner) now b (read channel b)) none) s
-    (leaves (admittedRead (cond channels Reply.Ok (Reply.Refused NotAChannel)) s.runner now channel b s.bytes s.lengths))
-    (readAs (admittedRead (cond channels Reply.Ok (Reply.Refused NotAChannel)) s.runner now channel b s.bytes s.lengths).reading.answer)
-unfolding Does admittedRead
-read_by true s now channel b = parsed-does (read channel b) s now channel b (reads-by (Among ofReads) refl refl refl refl channel b)
+    → Does (read_record now channel b) (cond channels (call_of (conf_of s.runner) now b (read channel b)) none) s
+    (leaves (admitted_read (cond channels Reply.Ok (Reply.Refused NotAChannel)) s.runner now channel b s.bytes s.lengths))
+    (read_as (admitted_read (cond channels Reply.Ok (Reply.Refused NotAChannel)) s.runner now channel b s.bytes s.lengths).reading.answer)
+unfolding Does admitted_read
+read_by true s now channel b = parsed_does (read channel b) s now channel b (reads_by (Among of_reads) refl refl refl refl channel b)
 read_by false s now channel b = record { kept = refl; refusal = 13; answered = refl; own = refl }
 
 -- ---- a record written
 
 -- the last bytes of a record that was laid are its payload
-payload-in : (channel : ℕ) (rec : Record) (b : List ℕ) → 13 + size rec ≤ length b
-    → drop (start rec + size rec - size rec) (take (start rec + size rec) (laidRecord channel rec b)) ≡ take (size rec) (drop 13 b)
-payload-in channel rec b h =
+payload_in : (channel : ℕ) (rec : Record) (b : List ℕ) → 13 + size rec ≤ length b
+    → drop (start rec + size rec - size rec) (take (start rec + size rec) (laid_record channel rec b)) ≡ take (size rec) (drop 13 b)
+payload_in channel rec b h =
     let z : start rec + size rec - size rec ≡ start rec = omega arith in
-    rw z (ap (drop (start rec)) (laid-front channel rec b h) ∙ payload-back channel rec (take (size rec) (drop 13 b)))
+    rw z (ap (drop (start rec)) (laid_front channel rec b h) ∙ payload_back channel rec (take (size rec) (drop 13 b)))
 
 -- and stood at the front of the part that came back
-pub part_in : (k : ℕ) (buffer part : List ℕ) (n : ℕ) → 13 ≤ length buffer → n ≤ length part → take n (drop 13 (partBack k buffer part)) ≡ take n part
+pub part_in : (k : ℕ) (buffer part : List ℕ) (n : ℕ) → 13 ≤ length buffer → n ≤ length part → take n (drop 13 (part_back k buffer part)) ≡ take n part
 part_in k buffer part n h m =
     ap (take n) (drop_at (take 13 buffer) (part ++ drop (13 + k) buffer) 13 (length-take-le 13 buffer h))
     ∙ take-append-le n part (drop (13 + k) buffer) m
 
-pub part-long : (k : ℕ) (buffer part : List ℕ) (n : ℕ) → 13 ≤ length buffer → n ≤ length part → 13 + n ≤ length (partBack k buffer part)
-part-long k buffer part n h m = simp (length-append, length-take-le 13 buffer h) (omega arith)
+pub part_long : (k : ℕ) (buffer part : List ℕ) (n : ℕ) → 13 ≤ length buffer → n ≤ length part → 13 + n ≤ length (part_back k buffer part)
+part_long k buffer part n h m = simp (length-append, length-take-le 13 buffer h) (omega arith)
 
 -- what is told of a message is what next_message answered
-output-told : (x : Stream) (channel n k : ℕ) (ended : Bool) (buffer part : List ℕ) → 13 ≤ length buffer → n ≤ length part
-    → wroteAs (wrote channel ended (Said.Message (Message.Output x n))) (wroteBuffer channel ended (Said.Message (Message.Output x n)) (partBack k buffer part)) ≡ Call.Says (Call.Output x (take n part))
-unfolding wrote wroteBuffer sentAs sentBuffer
-output-told Stdout channel n k ended buffer part h m =
+output_told : (x : Stream) (channel n k : ℕ) (ended : Bool) (buffer part : List ℕ) → 13 ≤ length buffer → n ≤ length part
+    → wrote_as (wrote channel ended (Said.Message (Message.Output x n))) (wrote_buffer channel ended (Said.Message (Message.Output x n)) (part_back k buffer part)) ≡ Call.Says (Call.Output x (take n part))
+unfolding wrote wrote_buffer sent_as sent_buffer
+output_told Stdout channel n k ended buffer part h m =
     ap (λ (b : List ℕ). Call.Says (Call.Output Stdout b))
-    (payload-in channel (Record.Data n) (partBack k buffer part) (part-long k buffer part n h m) ∙ part_in k buffer part n h m)
-output-told Stderr channel n k ended buffer part h m =
+    (payload_in channel (Record.Data n) (part_back k buffer part) (part_long k buffer part n h m) ∙ part_in k buffer part n h m)
+output_told Stderr channel n k ended buffer part h m =
     ap (λ (b : List ℕ). Call.Says (Call.Output Stderr b))
-    (payload-in channel (Record.Extended n) (partBack k buffer part) (part-long k buffer part n h m) ∙ part_in k buffer part n h m)
+    (payload_in channel (Record.Extended n) (part_back k buffer part) (part_long k buffer part n h m) ∙ part_in k buffer part n h m)
 
-choice-told : (m : Choice) (r : Runner) (store part buffer : List ℕ) (channel k : ℕ) (ended : Bool) → 13 ≤ length buffer
+choice_told : (m : Choice) (r : Runner) (store part buffer : List ℕ) (channel k : ℕ) (ended : Bool) → 13 ≤ length buffer
     → ((x : Stream) (n : ℕ) → Choice.Output x n ≡ m → length (payload r x n store) ≡ n)
-    → wroteAs (wrote channel ended (saidFor m r)) (wroteBuffer channel ended (saidFor m r) (partBack k buffer (bufferAfter m r store part)))
-    ≡ says (saidFor m r) (bufferAfter m r store part)
-unfolding saidFor bufferAfter wrote wroteBuffer sentAs
-choice-told Choice.None r store part buffer channel k ended h l = refl
-choice-told Choice.Credit r store part buffer channel k ended h l = refl
-choice-told Choice.Started r store part buffer channel k ended h l = refl
-choice-told Choice.InputClosed r store part buffer channel k ended h l = refl
-choice-told (Choice.End x) r store part buffer channel k ended h l = refl
-choice-told (Choice.Output x n) r store part buffer channel k ended h l =
-    output-told x channel n k ended buffer (payload r x n store ++ drop n part) h (simp length-append (omega (arith, l x n refl)))
-choice-told Choice.Terminal r store part buffer channel k ended h l = refl
+    → wrote_as (wrote channel ended (said_for m r)) (wrote_buffer channel ended (said_for m r) (part_back k buffer (buffer_after m r store part)))
+    ≡ says (said_for m r) (buffer_after m r store part)
+unfolding said_for buffer_after wrote wrote_buffer sent_as
+choice_told Choice.None r store part buffer channel k ended h l = refl
+choice_told Choice.Credit r store part buffer channel k ended h l = refl
+choice_told Choice.Started r store part buffer channel k ended h l = refl
+choice_told Choice.InputClosed r store part buffer channel k ended h l = refl
+choice_told (Choice.End x) r store part buffer channel k ended h l = refl
+choice_told (Choice.Output x n) r store part buffer channel k ended h l =
+    output_told x channel n k ended buffer (payload r x n store ++ drop n part) h (simp length-append (omega (arith, l x n refl)))
+choice_told Choice.Terminal r store part buffer channel k ended h l = refl
 
 -- and is no refusal
-choice-as : (C : Answer → Type 0) → C Call.Nothing → ((x : Call.Message) → C (Call.Says x))
-    → (m : Choice) (r : Runner) (channel : ℕ) (ended : Bool) (b : List ℕ) → C (wroteAs (wrote channel ended (saidFor m r)) b)
-unfolding saidFor wrote
-choice-as C n h Choice.None r channel ended b = n
-choice-as C n h Choice.Credit r channel ended b = h _
-choice-as C n h Choice.Started r channel ended b = h _
-choice-as C n h Choice.InputClosed r channel ended b = h _
-choice-as C n h (Choice.End x) r channel ended b = h _
-choice-as C n h (Choice.Output x k) r channel ended b = h _
-choice-as C n h Choice.Terminal r channel ended b = h _
+choice_as : (C : Answer → Type 0) → C Call.Nothing → ((x : Call.Message) → C (Call.Says x))
+    → (m : Choice) (r : Runner) (channel : ℕ) (ended : Bool) (b : List ℕ) → C (wrote_as (wrote channel ended (said_for m r)) b)
+unfolding said_for wrote
+choice_as C n h Choice.None r channel ended b = n
+choice_as C n h Choice.Credit r channel ended b = h _
+choice_as C n h Choice.Started r channel ended b = h _
+choice_as C n h Choice.InputClosed r channel ended b = h _
+choice_as C n h (Choice.End x) r channel ended b = h _
+choice_as C n h (Choice.Output x k) r channel ended b = h _
+choice_as C n h Choice.Terminal r channel ended b = h _
 
 abbrev pub answers : WriteAfter → Answer
-answers w = wroteAs w.writing.wrote w.buffer
+answers w = wrote_as w.writing.wrote w.buffer
 
-module _ (s : State) (channel : ℕ) (buffer : List ℕ) (g : stop s.runner (bytesDo s.runner.limits s.bytes) ≡ Reply.Ok) where
+module _ (s : State) (channel : ℕ) (buffer : List ℕ) (g : stop s.runner (bytes_do s.runner.limits s.bytes) ≡ Reply.Ok) where
   abbrev pub part : List ℕ
   part = take s.runner.limits.chunk (drop 13 buffer)
 
-  pub told-as : (C : Answer → Type 0) → C Call.Nothing → ((x : Call.Message) → C (Call.Says x)) → C (answers (tells s.runner channel s.bytes buffer))
-  unfolding told asked Calls.nextMessage
-  told-as C n h = rw g (choice-as C n h (choose s.runner (length part)) s.runner channel (hasEnded s.runner) _)
+  pub told_as : (C : Answer → Type 0) → C Call.Nothing → ((x : Call.Message) → C (Call.Says x)) → C (answers (tells s.runner channel s.bytes buffer))
+  unfolding told asked Calls.next_message
+  told_as C n h = rw g (choice_as C n h (choose s.runner (length part)) s.runner channel (has_ended s.runner) _)
 
-  told-taken : isUntaken (answers (tells s.runner channel s.bytes buffer)) ≡ false
-  told-taken = told-as (λ (a : Answer). isUntaken a ≡ false) refl (λ x. refl)
+  told_taken : is_untaken (answers (tells s.runner channel s.bytes buffer)) ≡ false
+  told_taken = told_as (λ (a : Answer). is_untaken a ≡ false) refl (λ x. refl)
 
-  pub told-does : 13 ≤ length buffer → Does (writeRecord channel buffer) (some (Call.nextMessage part)) s (Step.onRunner (tells s.runner channel s.bytes buffer).writing.runner s) (answers (tells s.runner channel s.bytes buffer))
-  unfolding Does told asked Step.next Step.answer Calls.nextMessage
-  told-does h = (
+  pub told_does : 13 ≤ length buffer → Does (write_record channel buffer) (some (Call.next_message part)) s (Step.on_runner (tells s.runner channel s.bytes buffer).writing.runner s) (answers (tells s.runner channel s.bytes buffer))
+  unfolding Does told asked Step.next Step.answer Calls.next_message
+  told_does h = (
     refl,
-    rw g (choice-told (choose s.runner (length part)) s.runner s.bytes part buffer channel s.runner.limits.chunk (hasEnded s.runner) h (λ x n e. payload-length s.runner s.bytes part x n g e)),
+    rw g (choice_told (choose s.runner (length part)) s.runner s.bytes part buffer channel s.runner.limits.chunk (has_ended s.runner) h (λ x n e. payload_length s.runner s.bytes part x n g e)),
   )
 
-  pub written-does : (met : Bool) (w : WriteAfter) → Writes s.runner channel s.bytes buffer met w
-      → Does (writeRecord channel buffer) (cond met (cond (isUntaken (answers w)) none (some (Call.nextMessage part))) none) s (Step.onRunner w.writing.runner s) (answers w)
+  pub written_does : (met : Bool) (w : WriteAfter) → Writes s.runner channel s.bytes buffer met w
+      → Does (write_record channel buffer) (cond met (cond (is_untaken (answers w)) none (some (Call.next_message part))) none) s (Step.on_runner w.writing.runner s) (answers w)
   unfolding Does
-  written-does met w (elsewhere x) = record { kept = refl; refusal = 13; answered = refl; own = refl }
-  written-does met w (short x y) = record { kept = refl; refusal = 25; answered = refl; own = refl }
-  written-does met w (left u) = record { kept = refl; refusal = 40; answered = refl; own = refl }
-  written-does met w (taken u h) = rw told-taken (told-does (omega (arith, h)))
+  written_does met w (elsewhere x) = record { kept = refl; refusal = 13; answered = refl; own = refl }
+  written_does met w (short x y) = record { kept = refl; refusal = 25; answered = refl; own = refl }
+  written_does met w (left u) = record { kept = refl; refusal = 40; answered = refl; own = refl }
+  written_does met w (taken u h) = rw told_taken (told_does (omega (arith, h)))
 
   -- where it is left, Terminal is chosen, for this buffer and so for any
-  pub left-chosen : (met : Bool) (w : WriteAfter) → Writes s.runner channel s.bytes buffer met w → isUntaken (answers w) ≡ true
-      → (choose s.runner (length part) ≡ Choice.Terminal) × (isUntold (outcomeOf s.runner).status ≡ true)
-  unfolding asked Calls.nextMessage
-  left-chosen met w (elsewhere x) e = absurd (false≢true e)
-  left-chosen met w (short x y) e = absurd (false≢true e)
-  left-chosen met w (left u) e = choice-left (choose s.runner (length part)) s.runner (rw g at u)
-  left-chosen met w (taken u h) e = absurd (false≢true (sym told-taken ∙ e))
+  pub left_chosen : (met : Bool) (w : WriteAfter) → Writes s.runner channel s.bytes buffer met w → is_untaken (answers w) ≡ true
+      → (choose s.runner (length part) ≡ Choice.Terminal) × (is_untold (outcome_of s.runner).status ≡ true)
+  unfolding asked Calls.next_message
+  left_chosen met w (elsewhere x) e = absurd (false≢true e)
+  left_chosen met w (short x y) e = absurd (false≢true e)
+  left_chosen met w (left u) e = choice_left (choose s.runner (length part)) s.runner (rw g at u)
+  left_chosen met w (taken u h) e = absurd (false≢true (sym told_taken ∙ e))

@@ -25,13 +25,13 @@ pub or_right : (a b : Bool) → b ≡ true → (a || b) ≡ true
 or_right true b e = refl
 or_right false b e = e
 
-pub or-false-l : (a b : Bool) → (a || b) ≡ false → a ≡ false
-or-false-l true b e = e
-or-false-l false b e = refl
+pub or_false_l : (a b : Bool) → (a || b) ≡ false → a ≡ false
+or_false_l true b e = e
+or_false_l false b e = refl
 
-pub or-false-r : (a b : Bool) → (a || b) ≡ false → b ≡ false
-or-false-r true b e = absurd (true≢false e)
-or-false-r false b e = e
+pub or_false_r : (a b : Bool) → (a || b) ≡ false → b ≡ false
+or_false_r true b e = absurd (true≢false e)
+or_false_r false b e = e
 
 pub or_swap : (m a b : Bool) → (m || (a || b)) ≡ (a || (m || b))
 or_swap true a b = sym (or-true a)

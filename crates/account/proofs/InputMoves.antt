@@ -10,39 +10,39 @@ use Rattle.exec.specs.declared.Deadline.TheVariants.{Never}
 use Rattle.exec.specs.declared.LaunchResult.{LaunchResult}
 use Rattle.exec.specs.declared.MaybeStatus.{MaybeStatus}
 use Rattle.exec.specs.Time.{due}
-use Rattle.inbox.specs.Inbox.{newInbox}
+use Rattle.inbox.specs.Inbox.{new_inbox}
 use Rattle.input.specs.declared.Input.{Input}
-use Rattle.input.specs.Input.{closeInput}
+use Rattle.input.specs.Input.{close_input}
 use Rattle.runner.specs.declared.runner.Runner.{Runner}
-use Rattle.runner.specs.Life.{awaitsLaunch, isCleanedUp, closeRunnerInput, endGrace, giveUp, abandonLaunch, abandonOpenStreams, beginTermination, passGrace, terminate, passTimeout, passSettlement, giveUpUnlessClean, passGiveUp, dropLaunch, dropStreams, passAbandonment, fire, ticked, isLate as tooLate, cancelNext, noteStarted, noteLaunch, launchedNext, noteExit, isOver, noteExitOnce, timeoutCleared, exitedNext, silenced, giveUpSoon, cutOff, cutOffOnce, detachNext}
+use Rattle.runner.specs.Life.{awaits_launch, is_cleaned_up, close_runner_input, end_grace, give_up, abandon_launch, abandon_open_streams, begin_termination, pass_grace, terminate, pass_timeout, pass_settlement, give_up_unless_clean, pass_give_up, drop_launch, drop_streams, pass_abandonment, fire, ticked, is_late as too_late, cancel_next, note_started, note_launch, launched_next, note_exit, is_over, note_exit_once, timeout_cleared, exited_next, silenced, give_up_soon, cut_off, cut_off_once, detach_next}
 use Rattle.lifecycle.specs.declared.life.Launch.TheVariants as Launch
-use Rattle.lifecycle.specs.Life.{isFenced}
-use Rattle.lifecycle.specs.Setters.{setGiveUpAt, setLaunch}
-use Rattle.runner.specs.State.{withClocks, withLife}
+use Rattle.lifecycle.specs.Life.{is_fenced}
+use Rattle.lifecycle.specs.Setters.{set_give_up_at, set_launch}
+use Rattle.runner.specs.State.{with_clocks, with_life}
 
 pub data Moves (i i' : Input) : Type 0 where
   same : i'.window ≡ i.window → i'.inbox ≡ i.inbox → i'.closed ≡ i.closed → Moves i i'
-  shut : i'.window ≡ i.window → i'.inbox ≡ newInbox → i.closed ≡ false → i'.closed ≡ true → Moves i i'
+  shut : i'.window ≡ i.window → i'.inbox ≡ new_inbox → i.closed ≡ false → i'.closed ≡ true → Moves i i'
 
 pub stays : (i : Input) → Moves i i
 stays i = same refl refl refl
 
-pub then-moves : {i j k : Input} → Moves i j → Moves j k → Moves i k
-then-moves (same a b c) (same a' b' c') = same (a' ∙ a) (b' ∙ b) (c' ∙ c)
-then-moves (same a b c) (shut a' b' c' d') = shut (a' ∙ a) b' (sym c ∙ c') d'
-then-moves (shut a b c d) (same a' b' c') = shut (a' ∙ a) (b' ∙ b) c (c' ∙ d)
-then-moves (shut a b c d) (shut a' b' c' d') = let z : ◌≡◌ {A = ℕ} 0 1 = cc in absurd (omega arith)
+pub then_moves : {i j k : Input} → Moves i j → Moves j k → Moves i k
+then_moves (same a b c) (same a' b' c') = same (a' ∙ a) (b' ∙ b) (c' ∙ c)
+then_moves (same a b c) (shut a' b' c' d') = shut (a' ∙ a) b' (sym c ∙ c') d'
+then_moves (shut a b c d) (same a' b' c') = shut (a' ∙ a) (b' ∙ b) c (c' ∙ d)
+then_moves (shut a b c d) (shut a' b' c' d') = let z : ◌≡◌ {A = ℕ} 0 1 = cc in absurd (omega arith)
 
 pub either : (i : Input) (b : Bool) (x y : Runner) → Moves i x.input → Moves i y.input → Moves i (cond b x y).input
 either i true x y hx hy = hx
 either i false x y hx hy = hy
 
-pub close-by : (i : Input) (detached b : Bool) → i.closed ≡ b → Moves i (closeInput i detached)
-close-by i d true e = rw e (same refl refl refl)
-close-by i d false e = rw e (shut refl refl refl refl)
+pub close_by : (i : Input) (detached b : Bool) → i.closed ≡ b → Moves i (close_input i detached)
+close_by i d true e = rw e (same refl refl refl)
+close_by i d false e = rw e (shut refl refl refl refl)
 
-pub close-moves : (i : Input) (detached : Bool) → Moves i (closeInput i detached)
-close-moves i d = close-by i d i.closed refl
+pub close_moves : (i : Input) (detached : Bool) → Moves i (close_input i detached)
+close_moves i d = close_by i d i.closed refl
 
 -- ---- the stages
 
@@ -53,108 +53,108 @@ module _ (r : Runner) where
   pub keeps : Keeps r
   keeps = stays r.input
 
-  pass-grace : (now : ℕ) → Keeps (passGrace r now)
-  unfolding passGrace endGrace
-  pass-grace now = either r.input (due r.clocks.grace_until now) (endGrace r) r keeps keeps
+  pass_grace_lem : (now : ℕ) → Keeps (pass_grace r now)
+  unfolding pass_grace end_grace
+  pass_grace_lem now = either r.input (due r.clocks.grace_until now) (end_grace r) r keeps keeps
 
-  pass-settlement : (now : ℕ) → Keeps (passSettlement r now)
-  unfolding passSettlement
-  pass-settlement now = keeps
+  pass_settlement_lem : (now : ℕ) → Keeps (pass_settlement r now)
+  unfolding pass_settlement
+  pass_settlement_lem now = keeps
 
-  pass-give-up : (now : ℕ) → Keeps (passGiveUp r now)
-  unfolding passGiveUp giveUpUnlessClean giveUp
-  pass-give-up now =
-      either r.input (due r.clocks.give_up_at now) (giveUpUnlessClean r) r
-      (either r.input (isCleanedUp r) (withClocks (setGiveUpAt Never r.clocks) r) (giveUp r) keeps keeps) keeps
+  pass_give_up_lem : (now : ℕ) → Keeps (pass_give_up r now)
+  unfolding pass_give_up give_up_unless_clean give_up
+  pass_give_up_lem now =
+      either r.input (due r.clocks.give_up_at now) (give_up_unless_clean r) r
+      (either r.input (is_cleaned_up r) (with_clocks (set_give_up_at Never r.clocks) r) (give_up r) keeps keeps) keeps
 
-  drop-launch : Keeps (dropLaunch r)
-  unfolding dropLaunch abandonLaunch
-  drop-launch = either r.input (awaitsLaunch r) (abandonLaunch r) r keeps keeps
+  drop_launch_lem : Keeps (drop_launch r)
+  unfolding drop_launch abandon_launch
+  drop_launch_lem = either r.input (awaits_launch r) (abandon_launch r) r keeps keeps
 
-  drop-streams : Keeps (dropStreams r)
-  unfolding dropStreams abandonOpenStreams
-  drop-streams = either r.input (isFenced r.life.settling) (abandonOpenStreams r) r keeps keeps
+  drop_streams_lem : Keeps (drop_streams r)
+  unfolding drop_streams abandon_open_streams
+  drop_streams_lem = either r.input (is_fenced r.life.settling) (abandon_open_streams r) r keeps keeps
 
-  begin : (now : ℕ) (c : Cause) → Keeps (beginTermination r now c)
-  unfolding beginTermination
-  begin now c = close-moves r.input r.flags.detached
+  begin : (now : ℕ) (c : Cause) → Keeps (begin_termination r now c)
+  unfolding begin_termination
+  begin now c = close_moves r.input r.flags.detached
 
-  pub close : Keeps (closeRunnerInput r)
-  unfolding closeRunnerInput
-  close = close-moves r.input r.flags.detached
+  pub close : Keeps (close_runner_input r)
+  unfolding close_runner_input
+  close = close_moves r.input r.flags.detached
 
   told : Keeps (silenced r)
   unfolding silenced
   told = same refl refl refl
 
-  soon : (now : ℕ) → Keeps (giveUpSoon r now)
-  unfolding giveUpSoon
+  soon : (now : ℕ) → Keeps (give_up_soon r now)
+  unfolding give_up_soon
   soon now = keeps
 
-  ended : Keeps (endGrace r)
-  unfolding endGrace
+  ended : Keeps (end_grace r)
+  unfolding end_grace
   ended = keeps
 
 pub terminates : (r : Runner) (now : ℕ) (c : Cause) → Keeps r (terminate r now c)
 unfolding terminate
 terminates r now c =
-    either r.input r.clocks.terminated r (passGrace (beginTermination r now c) now) (keeps r) (then-moves (begin r now c) (pass-grace (beginTermination r now c) now))
+    either r.input r.clocks.terminated r (pass_grace (begin_termination r now c) now) (keeps r) (then_moves (begin r now c) (pass_grace_lem (begin_termination r now c) now))
 
-pub pass-timeout : (r : Runner) (now : ℕ) → Keeps r (passTimeout r now)
-unfolding passTimeout
-pass-timeout r now =
-    either r.input (due r.clocks.timeout_at now) (terminate (timeoutCleared r) now TimedOut) r (terminates (timeoutCleared r) now TimedOut) (keeps r)
+pub pass_timeout_lem : (r : Runner) (now : ℕ) → Keeps r (pass_timeout r now)
+unfolding pass_timeout
+pass_timeout_lem r now =
+    either r.input (due r.clocks.timeout_at now) (terminate (timeout_cleared r) now TimedOut) r (terminates (timeout_cleared r) now TimedOut) (keeps r)
 
-pub pass-abandonment : (r : Runner) (now : ℕ) → Keeps r (passAbandonment r now)
-unfolding passAbandonment
-pass-abandonment r now =
-    either r.input (due r.clocks.abandon_at now) (dropStreams (dropLaunch r)) r (then-moves (drop-launch r) (drop-streams (dropLaunch r))) (keeps r)
+pub pass_abandonment_lem : (r : Runner) (now : ℕ) → Keeps r (pass_abandonment r now)
+unfolding pass_abandonment
+pass_abandonment_lem r now =
+    either r.input (due r.clocks.abandon_at now) (drop_streams (drop_launch r)) r (then_moves (drop_launch_lem r) (drop_streams_lem (drop_launch r))) (keeps r)
 
 pub fires : (r : Runner) (now : ℕ) → Keeps r (fire r now)
 unfolding fire
 fires r now =
-    let a = passTimeout r now in
-    let b = passGrace a now in
-    let c = passSettlement b now in
-    let d = passGiveUp c now in
-    then-moves (pass-timeout r now)
-    (then-moves (pass-grace a now)
-    (then-moves (pass-settlement b now) (then-moves (pass-give-up c now) (pass-abandonment d now))))
+    let a = pass_timeout r now in
+    let b = pass_grace a now in
+    let c = pass_settlement b now in
+    let d = pass_give_up c now in
+    then_moves (pass_timeout_lem r now)
+    (then_moves (pass_grace_lem a now)
+    (then_moves (pass_settlement_lem b now) (then_moves (pass_give_up_lem c now) (pass_abandonment_lem d now))))
 
 pub ticks : (r : Runner) (now : ℕ) → Keeps r (ticked r now)
 unfolding ticked
 ticks r now = either r.input r.flags.finished r (fire r now) (keeps r) (fires r now)
 
-pub launches : (r : Runner) (x : LaunchResult) → Keeps r (launchedNext r x)
-unfolding launchedNext noteLaunch noteStarted
-launches r LaunchResult.Started = either r.input (awaitsLaunch r) (noteStarted r) r (keeps r) (keeps r)
+pub launches : (r : Runner) (x : LaunchResult) → Keeps r (launched_next r x)
+unfolding launched_next note_launch note_started
+launches r LaunchResult.Started = either r.input (awaits_launch r) (note_started r) r (keeps r) (keeps r)
 launches r (LaunchResult.Failed f) =
-    let r' = withLife (setLaunch (Launch.Failed f) r.life) r in
-    either r.input (awaitsLaunch r) (closeRunnerInput r') r (close r') (keeps r)
+    let r' = with_life (set_launch (Launch.Failed f) r.life) r in
+    either r.input (awaits_launch r) (close_runner_input r') r (close r') (keeps r)
 
-pub exit-closes : (r : Runner) (now : ℕ) (x : MaybeStatus) → Keeps r (noteExit r now x)
-unfolding noteExit closeRunnerInput
-exit-closes r now x = close-moves r.input r.flags.detached
+pub exit_closes : (r : Runner) (now : ℕ) (x : MaybeStatus) → Keeps r (note_exit r now x)
+unfolding note_exit close_runner_input
+exit_closes r now x = close_moves r.input r.flags.detached
 
-pub exits : (r : Runner) (now : ℕ) (x : MaybeStatus) → Keeps r (exitedNext r now x)
-unfolding exitedNext noteExitOnce
+pub exits : (r : Runner) (now : ℕ) (x : MaybeStatus) → Keeps r (exited_next r now x)
+unfolding exited_next note_exit_once
 exits r now x =
-    let t = ticked (timeoutCleared r) now in
-    then-moves (ticks (timeoutCleared r) now) (either t.input (isOver t) t (noteExit t now x) (keeps t) (exit-closes t now x))
+    let t = ticked (timeout_cleared r) now in
+    then_moves (ticks (timeout_cleared r) now) (either t.input (is_over t) t (note_exit t now x) (keeps t) (exit_closes t now x))
 
-pub detaches : (r : Runner) (now : ℕ) (c : Cause) → Keeps r (detachNext r now c)
-unfolding detachNext cutOffOnce cutOff
+pub detaches : (r : Runner) (now : ℕ) (c : Cause) → Keeps r (detach_next r now c)
+unfolding detach_next cut_off_once cut_off
 detaches r now c =
     let t = ticked r now in
     let u = terminate t now c in
-    then-moves (ticks r now)
-    (either t.input (t.flags.finished || t.flags.detached) t (giveUpSoon (endGrace (silenced u)) now) (keeps t)
-    (then-moves (terminates t now c)
-    (then-moves (told u) (then-moves (ended (silenced u)) (soon (endGrace (silenced u)) now)))))
+    then_moves (ticks r now)
+    (either t.input (t.flags.finished || t.flags.detached) t (give_up_soon (end_grace (silenced u)) now) (keeps t)
+    (then_moves (terminates t now c)
+    (then_moves (told u) (then_moves (ended (silenced u)) (soon (end_grace (silenced u)) now)))))
 
-pub cancels : (a : Admission) (r : Runner) (now : ℕ) (c : Cause) → Keeps r (cancelNext a r now c)
-unfolding cancelNext
+pub cancels : (a : Admission) (r : Runner) (now : ℕ) (c : Cause) → Keeps r (cancel_next a r now c)
+unfolding cancel_next
 cancels (Admission.Refused x) r now c = keeps r
 cancels Admission.Stale r now c = keeps r
 cancels Admission.Own r now c =
-    let t = ticked r now in then-moves (ticks r now) (either t.input (tooLate t) t (terminate t now c) (keeps t) (terminates t now c))
+    let t = ticked r now in then_moves (ticks r now) (either t.input (too_late t) t (terminate t now c) (keeps t) (terminates t now c))

@@ -13,27 +13,27 @@ use Rattle.output.specs.declared.Output.{Output}
 use Rattle.lifecycle.specs.declared.life.Settling.{Settling}
 use Rattle.runner.specs.declared.runner.Runner.{Runner}
 use Rattle.exec.specs.declared.Deadline.{Deadline}
-use Rattle.lifecycle.specs.Life.{launchKnown, exitKnown, isSettled, expired, settleWith}
+use Rattle.lifecycle.specs.Life.{launch_known, exit_known, is_settled, expired, settle_with}
 use Rattle.input.specs.Input as In
-use Rattle.input.specs.Input.{closeWhenTaken, peerEnds, endInput}
-use Rattle.output.specs.Output.{graceEnded, givenUp, closedOut, failedOut, hungUp, lostOut, endedOut, askedOut, sentOut, keeps, intake}
-use Rattle.runner.specs.Life.{awaitsLaunch, isCleanedUp, endGrace, giveUp, dropLaunch}
-use Rattle.exec.specs.Stream.{every-stream, sumOfStreams}
-use Rattle.output.specs.Outputs.{allClosed}
-use Rattle.runner.specs.State.{outOf}
-use Rattle.account.proofs.Streams.{blocked-by}
-use Rattle.account.proofs.Sides.{out-each}
-use Rattle.account.proofs.Stages.{dropLaunchIf, over}
-use Rattle.account.proofs.Lives.{given-exit}
+use Rattle.input.specs.Input.{close_when_taken, peer_ends, end_input}
+use Rattle.output.specs.Output.{grace_ended, given_up, closed_out, failed_out, hung_up, lost_out, ended_out, asked_out, sent_out, keeps, intake}
+use Rattle.runner.specs.Life.{awaits_launch, is_cleaned_up, end_grace, give_up, drop_launch}
+use Rattle.exec.specs.Stream.{every_stream_lem, sum_of_streams}
+use Rattle.output.specs.Outputs.{all_closed}
+use Rattle.runner.specs.State.{out_of}
+use Rattle.account.proofs.Streams.{blocked_by}
+use Rattle.account.proofs.Sides.{out_each}
+use Rattle.account.proofs.Stages.{drop_launch_if, over}
+use Rattle.account.proofs.Lives.{given_exit}
 use Rattle.account.proofs.Flags.{or_right, four}
 
 pub data Either (A B : Type 0) : Type 0 where
   left : A → Either A B
   right : B → Either A B
 
-pub on-right : {A B C : Type 0} → (B → C) → Either A B → Either A C
-on-right f (left a) = left a
-on-right f (right b) = right (f b)
+pub on_right : {A B C : Type 0} → (B → C) → Either A B → Either A C
+on_right f (left a) = left a
+on_right f (right b) = right (f b)
 
 -- the second cannot be
 pub not_right : {A B C : Type 0} → (B → ⊥) → Either A B → Either A C
@@ -49,7 +49,7 @@ abbrev pub Empty : Stream → Output → Type 0
 Empty x o = Drained o.queued o.closed o.discarding
 
 abbrev pub Dry : Runner → Type 0
-Dry s = (x : Stream) → Empty x (outOf x s)
+Dry s = (x : Stream) → Empty x (out_of x s)
 
 -- nothing is waited for any more
 pub record Known (aw ex : Bool) (c : Stream → Bool) (ov : Bool) : Type 0 where
@@ -59,7 +59,7 @@ pub record Known (aw ex : Bool) (c : Stream → Bool) (ov : Bool) : Type 0 where
   pub settled : ov ≡ true
 
 abbrev pub AllKnown : Runner → Type 0
-AllKnown s = Known (awaitsLaunch s) (exitKnown s.life.exit) (λ (x : Stream). (outOf x s).closed) (over s.life.settling)
+AllKnown s = Known (awaits_launch s) (exit_known s.life.exit) (λ (x : Stream). (out_of x s).closed) (over s.life.settling)
 
 -- The phase: the input is closed, the termination begun, and each of the two deadlines stands as P says or has done its work.
 -- With P d = "d is a time at or before the sum" this is the phase before give-up, with P d = ⊥ the phase after it.
@@ -72,72 +72,72 @@ bit false = 0
 
 -- the Ends that are not told
 abbrev pub untold : Runner → ℕ
-untold s = sumOfStreams (λ (x : Stream). bit (not (outOf x s).ended))
+untold s = sum_of_streams (λ (x : Stream). bit (not (out_of x s).ended))
 
 -- the messages that may still come before Terminal
 abbrev pub left_over : Runner → ℕ
 left_over s = bit s.flags.started_message + bit s.input.closed_message + untold s
 
-pub over-overdue : (now : ℕ) (x : Settling) → over x ≡ true → over (expired x now) ≡ true
-over-overdue now Settling.Idle e = e
-over-overdue now (Settling.Requested d) e = absurd (false≢true e)
-over-overdue now Settling.Settled e = e
-over-overdue now Settling.Fenced e = e
+pub over_overdue : (now : ℕ) (x : Settling) → over x ≡ true → over (expired x now) ≡ true
+over_overdue now Settling.Idle e = e
+over_overdue now (Settling.Requested d) e = absurd (false≢true e)
+over_overdue now Settling.Settled e = e
+over_overdue now Settling.Fenced e = e
 
-settled-over : (x : Settling) → isSettled x ≡ true → over x ≡ true
-settled-over Settling.Idle e = e
-settled-over (Settling.Requested d) e = e
-settled-over Settling.Settled e = e
-settled-over Settling.Fenced e = refl
+settled_over : (x : Settling) → is_settled x ≡ true → over x ≡ true
+settled_over Settling.Idle e = e
+settled_over (Settling.Requested d) e = e
+settled_over Settling.Settled e = e
+settled_over Settling.Fenced e = refl
 
-pub reported-over : (x : Settling) (y : Settlement) → over x ≡ true → over (settleWith x y) ≡ true
-reported-over Settling.Idle y e = e
-reported-over (Settling.Requested d) y e = absurd (false≢true e)
-reported-over Settling.Settled y e = e
-reported-over Settling.Fenced y e = e
+pub reported_over : (x : Settling) (y : Settlement) → over x ≡ true → over (settle_with x y) ≡ true
+reported_over Settling.Idle y e = e
+reported_over (Settling.Requested d) y e = absurd (false≢true e)
+reported_over Settling.Settled y e = e
+reported_over Settling.Fenced y e = e
 
-no-wait : (a b c : Bool) → a ≡ true → (not a && b && c) ≡ false
-no-wait true b c e = refl
-no-wait false b c e = absurd (false≢true e)
+no_wait : (a b c : Bool) → a ≡ true → (not a && b && c) ≡ false
+no_wait true b c e = refl
+no_wait false b c e = absurd (false≢true e)
 
 and_none : (a b : Bool) → (a && false && b) ≡ false
 and_none true b = refl
 and_none false b = refl
 
-pub cleaned-known : (s : Runner) → isCleanedUp s ≡ true → AllKnown s
-cleaned-known s e =
-    let l = launchKnown s.life.launch in
-    let p = four l (exitKnown s.life.exit) (allClosed s.outputs) (isSettled s.life.settling) e in
+pub cleaned_known : (s : Runner) → is_cleaned_up s ≡ true → AllKnown s
+cleaned_known s e =
+    let l = launch_known s.life.launch in
+    let p = four l (exit_known s.life.exit) (all_closed s.outputs) (is_settled s.life.settling) e in
     record {
-      launch = no-wait l (not s.flags.gave_up) (not s.flags.launch_abandoned) p.0;
+      launch = no_wait l (not s.flags.gave_up) (not s.flags.launch_abandoned) p.0;
       exit = p.1;
-      closed = every-stream (λ (x : Stream). (outOf x s).closed) p.2;
-      settled = settled-over s.life.settling p.3;
+      closed = every_stream_lem (λ (x : Stream). (out_of x s).closed) p.2;
+      settled = settled_over s.life.settling p.3;
     }
 
-pub known-given : (s : Runner) → AllKnown (giveUp s)
-unfolding giveUp
-known-given s = record { launch = and_none (not (launchKnown s.life.launch)) (not s.flags.launch_abandoned); exit = given-exit s.life.exit; closed = λ x. ap (λ (o : Output). o.closed) (out-each givenUp s.outputs x); settled = refl }
+pub known_given : (s : Runner) → AllKnown (give_up s)
+unfolding give_up
+known_given s = record { launch = and_none (not (launch_known s.life.launch)) (not s.flags.launch_abandoned); exit = given_exit s.life.exit; closed = λ x. ap (λ (o : Output). o.closed) (out_each given_up s.outputs x); settled = refl }
 
-pub known-grace : (s : Runner) → AllKnown s → AllKnown (endGrace s)
-unfolding endGrace
-known-grace s d = record { launch = d.launch; exit = d.exit; closed = λ x. ap (λ (o : Output). o.closed) (out-each graceEnded s.outputs x) ∙ d.closed x; settled = d.settled }
+pub known_grace : (s : Runner) → AllKnown s → AllKnown (end_grace s)
+unfolding end_grace
+known_grace s d = record { launch = d.launch; exit = d.exit; closed = λ x. ap (λ (o : Output). o.closed) (out_each grace_ended s.outputs x) ∙ d.closed x; settled = d.settled }
 
-pub dry-grace : (s : Runner) → Dry (endGrace s)
-unfolding endGrace
-dry-grace s x = rw (out-each graceEnded s.outputs x) (record { none = refl; stop = blocked-by (outOf x s).closed (outOf x s).discarding })
+pub dry_grace : (s : Runner) → Dry (end_grace s)
+unfolding end_grace
+dry_grace s x = rw (out_each grace_ended s.outputs x) (record { none = refl; stop = blocked_by (out_of x s).closed (out_of x s).discarding })
 
-pub dry-given : (s : Runner) → Dry (giveUp s)
-unfolding giveUp
-dry-given s x = rw (out-each givenUp s.outputs x) (record { none = refl; stop = refl })
+pub dry_given : (s : Runner) → Dry (give_up s)
+unfolding give_up
+dry_given s x = rw (out_each given_up s.outputs x) (record { none = refl; stop = refl })
 
-known-left-if : (b : Bool) (s : Runner) → awaitsLaunch s ≡ b → AllKnown s → AllKnown (dropLaunchIf b s)
-known-left-if true s e d = absurd (true≢false (sym e ∙ d.launch))
-known-left-if false s e d = d
+known_left_if : (b : Bool) (s : Runner) → awaits_launch s ≡ b → AllKnown s → AllKnown (drop_launch_if b s)
+known_left_if true s e d = absurd (true≢false (sym e ∙ d.launch))
+known_left_if false s e d = d
 
-known-left : (s : Runner) → AllKnown s → AllKnown (dropLaunch s)
-unfolding dropLaunch
-known-left s d = known-left-if (awaitsLaunch s) s refl d
+known_left : (s : Runner) → AllKnown s → AllKnown (drop_launch s)
+unfolding drop_launch
+known_left s d = known_left_if (awaits_launch s) s refl d
 
 -- what a change of the input, and of an output, must keep
 abbrev pub InKept : Input → Input → Type 0
@@ -148,39 +148,39 @@ pub record OutKept (o p : Output) : Type 0 where
   pub closed : o.closed ≡ true → p.closed ≡ true
   pub msg : bit (not p.ended) ≤ bit (not o.ended)
 
-pub kept-asked : (o : Output) → OutKept o (askedOut o)
-kept-asked o = record { drained = λ d. d; closed = λ e. e; msg = le_refl (bit (not o.ended)) }
+pub kept_asked : (o : Output) → OutKept o (asked_out o)
+kept_asked o = record { drained = λ d. d; closed = λ e. e; msg = le_refl (bit (not o.ended)) }
 
-pub kept-end : (o : Output) → OutKept o (endedOut o)
-kept-end o = record { drained = λ d. d; closed = λ e. e; msg = omega arith }
+pub kept_end : (o : Output) → OutKept o (ended_out o)
+kept_end o = record { drained = λ d. d; closed = λ e. e; msg = omega arith }
 
 fewer : (k n : ℕ) → ltb 0 k ≡ false → ltb 0 (k - n) ≡ false
 fewer k n e = let l = ltb-false 0 k e in le-ltb 0 (k - n) (omega arith)
 
-pub kept_send : (c n : ℕ) (o : Output) → OutKept o (sentOut c n o)
+pub kept_send : (c n : ℕ) (o : Output) → OutKept o (sent_out c n o)
 kept_send c n o = record { drained = λ d. record { none = fewer o.queued n d.none; stop = d.stop }; closed = λ e. e; msg = le_refl (bit (not o.ended)) }
 
-pub kept-discard : (b : Bool) (o : Output) → OutKept o (lostOut b o)
-kept-discard b o = record { drained = λ d. d; closed = λ e. e; msg = le_refl (bit (not o.ended)) }
+pub kept_discard : (b : Bool) (o : Output) → OutKept o (lost_out b o)
+kept_discard b o = record { drained = λ d. d; closed = λ e. e; msg = le_refl (bit (not o.ended)) }
 
-pub kept-close : (o : Output) → OutKept o (closedOut o)
-kept-close o = record { drained = λ d. record { none = d.none; stop = refl }; closed = λ e. refl; msg = le_refl (bit (not o.ended)) }
+pub kept_close : (o : Output) → OutKept o (closed_out o)
+kept_close o = record { drained = λ d. record { none = d.none; stop = refl }; closed = λ e. refl; msg = le_refl (bit (not o.ended)) }
 
-pub kept-fail : (o : Output) → OutKept o (failedOut o)
-kept-fail o = record { drained = λ d. record { none = d.none; stop = refl }; closed = λ e. refl; msg = le_refl (bit (not o.ended)) }
+pub kept_fail : (o : Output) → OutKept o (failed_out o)
+kept_fail o = record { drained = λ d. record { none = d.none; stop = refl }; closed = λ e. refl; msg = le_refl (bit (not o.ended)) }
 
-pub kept-hang : (o : Output) → OutKept o (hungUp o)
-kept-hang o = record { drained = λ d. d; closed = λ e. e; msg = le_refl (bit (not o.ended)) }
+pub kept_hang : (o : Output) → OutKept o (hung_up o)
+kept_hang o = record { drained = λ d. d; closed = λ e. e; msg = le_refl (bit (not o.ended)) }
 
-intake-none : (c g d : Bool) (room n : ℕ) → (c || d) ≡ true → keeps (c || g) d room n ≡ 0
-intake-none true g d room n e = refl
-intake-none false true d room n e = refl
-intake-none false false true room n e = refl
-intake-none false false false room n e = absurd (false≢true e)
+intake_none : (c g d : Bool) (room n : ℕ) → (c || d) ≡ true → keeps (c || g) d room n ≡ 0
+intake_none true g d room n e = refl
+intake_none false true d room n e = refl
+intake_none false false true room n e = refl
+intake_none false false false room n e = absurd (false≢true e)
 
-pub kept-intake : (g : Bool) (room n : ℕ) (o : Output) → OutKept o (intake (o.closed || g) o.discarding room n o)
-kept-intake g room n o = record {
-  drained = λ d. record { none = rw (intake-none o.closed g o.discarding room n d.stop, add-zero) d.none; stop = d.stop };
+pub kept_intake : (g : Bool) (room n : ℕ) (o : Output) → OutKept o (intake (o.closed || g) o.discarding room n o)
+kept_intake g room n o = record {
+  drained = λ d. record { none = rw (intake_none o.closed g o.discarding room n d.stop, add-zero) d.none; stop = d.stop };
   closed = λ e. e;
   msg = le_refl (bit (not o.ended));
 }
@@ -189,13 +189,13 @@ pub kept_if : (b : Bool) (i j k : Input) → InKept i j → InKept i k → InKep
 kept_if true i j k p q = p
 kept_if false i j k p q = q
 
-kept-taken : (i j : Input) → j.closed ≡ true → j.closed_message ≡ i.closed_message → InKept i (closeWhenTaken j)
-kept-taken i j e m = (or_right (In.isUsedUp j) j.closed e, m)
+kept_taken : (i j : Input) → j.closed ≡ true → j.closed_message ≡ i.closed_message → InKept i (close_when_taken j)
+kept_taken i j e m = (or_right (In.is_used_up j) j.closed e, m)
 
-pub kept-ended : (i : Input) → i.closed ≡ true → InKept i (endInput i)
-unfolding endInput
-kept-ended i e = kept_if i.peer_ended i i (closeWhenTaken (peerEnds i)) (e, refl) (kept-taken i (peerEnds i) e refl)
+pub kept_ended : (i : Input) → i.closed ≡ true → InKept i (end_input i)
+unfolding end_input
+kept_ended i e = kept_if i.peer_ended i i (close_when_taken (peer_ends i)) (e, refl) (kept_taken i (peer_ends i) e refl)
 
-pub kept-written : (b : Bool) (i j : Input) → i.closed ≡ b → i.closed ≡ true → InKept i (cond b i j)
-kept-written true i j f e = (e, refl)
-kept-written false i j f e = absurd (true≢false (sym e ∙ f))
+pub kept_written : (b : Bool) (i j : Input) → i.closed ≡ b → i.closed ≡ true → InKept i (cond b i j)
+kept_written true i j f e = (e, refl)
+kept_written false i j f e = absurd (true≢false (sym e ∙ f))

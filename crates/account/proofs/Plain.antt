@@ -5,20 +5,20 @@ use Prim.Native.Nat.{ℕ}
 use lib.ListN.{length}
 use Rattle.exec.specs.declared.Cause.TheVariants as Cause
 use Rattle.exec.specs.Key.{admits}
-use Rattle.exec.specs.Limits.{outputPool}
-use Rattle.inbox.specs.Need.{byteNeed}
-use Rattle.lifecycle.specs.Life.{isRequested}
+use Rattle.exec.specs.Limits.{output_pool}
+use Rattle.inbox.specs.Need.{byte_need}
+use Rattle.lifecycle.specs.Life.{is_requested}
 use Rattle.choice.specs.declared.Choice.{Choice}
 use Rattle.runner.specs.declared.runner.Runner.{Runner}
-use Rattle.runner.specs.Calls.{askedFor}
-use Rattle.runner.specs.Life.{closeRunnerInput, cancelAnswer, cancelNext, launchedNext, exitedNext, settledNext, detachNext, ticked, deadlineOf, outcomeOf}
-use Rattle.runner.specs.Message.{choose, effect, payload, wish, wishEffect}
-use Rattle.runner.specs.Range.{bytesDo, lengthsDo, fresh}
+use Rattle.runner.specs.Calls.{asked_for}
+use Rattle.runner.specs.Life.{close_runner_input, cancel_answer, cancel_next, launched_next, exited_next, settled_next, detach_next, ticked, deadline_of, outcome_of}
+use Rattle.runner.specs.Message.{choose, effect, payload, wish, wish_effect}
+use Rattle.runner.specs.Range.{bytes_do, lengths_do, fresh}
 use Rattle.runner.specs.State.{buffered}
-use Rattle.runner.specs.Streams.{outputTaken, outputNext, outputStore, readAllowanceOf, discardedNext, closedNext, failedNext, hungUpNext, creditAnswer, creditNext, inputAnswer, inputNext, inputStore, inputLengths, endAnswer, endNext, pendingOf, writtenNext, writtenLengths}
+use Rattle.runner.specs.Streams.{output_taken, output_next, output_store, read_allowance_of, discarded_next, closed_next, failed_next, hung_up_next, credit_answer, credit_next, input_answer, input_next, input_store, input_lengths, end_answer, end_next, pending_of, written_next, written_lengths}
 use Rattle.calls.specs.Call as Call
 use Rattle.calls.specs.Call.{Conf, Call, Answer, Done}
-use Rattle.account.specs.Step.{State, receivedAs, asks, onRunner}
+use Rattle.account.specs.Step.{State, received_as, asks, on_runner}
 
 unfoldable pub said : Choice → Runner → List ℕ → Answer
 said Choice.None r bytes = Call.Nothing
@@ -27,119 +27,119 @@ said Choice.Started r bytes = Call.Says Call.Started
 said Choice.InputClosed r bytes = Call.Says Call.InputClosed
 said (Choice.End x) r bytes = Call.Says (Call.End x)
 said (Choice.Output x n) r bytes = Call.Says (Call.Output x (payload r x n bytes))
-said Choice.Terminal r bytes = Call.Says (Call.Terminal (outcomeOf r))
+said Choice.Terminal r bytes = Call.Says (Call.Terminal (outcome_of r))
 
 unfoldable pub next : State → Call → State
 next s (Call.credit k p u) =
-    onRunner (creditNext (admits s.runner.key k) (outputPool s.runner.limits.shared p) s.runner u) s
+    on_runner (credit_next (admits s.runner.key k) (output_pool s.runner.limits.shared p) s.runner u) s
 next s (Call.input k b) = record {
-  runner = inputNext (admits s.runner.key k) s.runner (length b);
-  bytes = inputStore (admits s.runner.key k) s.runner b s.bytes;
-  lengths = inputLengths (admits s.runner.key k) s.runner (length b) s.lengths;
+  runner = input_next (admits s.runner.key k) s.runner (length b);
+  bytes = input_store (admits s.runner.key k) s.runner b s.bytes;
+  lengths = input_lengths (admits s.runner.key k) s.runner (length b) s.lengths;
 }
-next s (Call.endInput k) = onRunner (endNext (admits s.runner.key k) s.runner) s
-next s (Call.cancel now k c) = onRunner (cancelNext (admits s.runner.key k) s.runner now c) s
-next s (Call.launched x) = onRunner (launchedNext s.runner x) s
+next s (Call.end_input k) = on_runner (end_next (admits s.runner.key k) s.runner) s
+next s (Call.cancel now k c) = on_runner (cancel_next (admits s.runner.key k) s.runner now c) s
+next s (Call.launched x) = on_runner (launched_next s.runner x) s
 next s (Call.output x b) = record {
-  runner = outputNext s.runner x (length b);
-  bytes = outputStore s.runner x b s.bytes;
+  runner = output_next s.runner x (length b);
+  bytes = output_store s.runner x b s.bytes;
   lengths = s.lengths;
 }
-next s (Call.discarded x n) = onRunner (discardedNext s.runner x n) s
-next s (Call.outputClosed x) = onRunner (closedNext s.runner x) s
-next s (Call.outputFailed x) = onRunner (failedNext s.runner x) s
-next s (Call.outputHungUp x) = onRunner (hungUpNext s.runner x) s
-next s (Call.inputWritten n) = record {
-  runner = writtenNext s.runner n s.lengths;
+next s (Call.discarded x n) = on_runner (discarded_next s.runner x n) s
+next s (Call.output_closed x) = on_runner (closed_next s.runner x) s
+next s (Call.output_failed x) = on_runner (failed_next s.runner x) s
+next s (Call.output_hung_up x) = on_runner (hung_up_next s.runner x) s
+next s (Call.input_written n) = record {
+  runner = written_next s.runner n s.lengths;
   bytes = s.bytes;
-  lengths = writtenLengths s.runner n s.lengths;
+  lengths = written_lengths s.runner n s.lengths;
 }
-next s Call.inputClosed = onRunner (closeRunnerInput s.runner) s
-next s (Call.exited now x) = onRunner (exitedNext s.runner now x) s
-next s (Call.settled x) = onRunner (settledNext s.runner x) s
-next s (Call.dropped now) = onRunner (detachNext s.runner now Cause.Dropped) s
-next s (Call.reset now) = onRunner (detachNext s.runner now Cause.Reset) s
-next s (Call.disconnect now) = onRunner (detachNext s.runner now Cause.Disconnected) s
-next s (Call.tick now) = onRunner (ticked s.runner now) s
-next s Call.nextRequest = onRunner (wishEffect (wish s.runner) s.runner) s
-next s (Call.nextMessage buffer) = onRunner (effect (choose s.runner (length buffer)) s.runner) s
-next s (Call.readAllowance x) = s
-next s Call.pendingInput = s
+next s Call.input_closed = on_runner (close_runner_input s.runner) s
+next s (Call.exited now x) = on_runner (exited_next s.runner now x) s
+next s (Call.settled x) = on_runner (settled_next s.runner x) s
+next s (Call.dropped now) = on_runner (detach_next s.runner now Cause.Dropped) s
+next s (Call.reset now) = on_runner (detach_next s.runner now Cause.Reset) s
+next s (Call.disconnect now) = on_runner (detach_next s.runner now Cause.Disconnected) s
+next s (Call.tick now) = on_runner (ticked s.runner now) s
+next s Call.next_request = on_runner (wish_effect (wish s.runner) s.runner) s
+next s (Call.next_message buffer) = on_runner (effect (choose s.runner (length buffer)) s.runner) s
+next s (Call.read_allowance x) = s
+next s Call.pending_input = s
 next s Call.deadline = s
-next s Call.isFinished = s
-next s Call.isDetached = s
-next s Call.awaitsSettlement = s
+next s Call.is_finished = s
+next s Call.is_detached = s
+next s Call.awaits_settlement = s
 next s Call.buffered = s
-next s Call.highWater = s
-next s Call.memoryBound = s
+next s Call.high_water = s
+next s Call.memory_bound = s
 next s Call.key = s
 next s Call.limits = s
 
 unfoldable pub answer : State → Call → Answer
 answer s (Call.credit k p u) =
-    receivedAs (creditAnswer (admits s.runner.key k) (outputPool s.runner.limits.shared p) s.runner u)
-answer s (Call.input k b) = receivedAs (inputAnswer (admits s.runner.key k) s.runner (length b))
-answer s (Call.endInput k) = receivedAs (endAnswer (admits s.runner.key k) s.runner)
-answer s (Call.cancel now k c) = receivedAs (cancelAnswer (admits s.runner.key k) s.runner now)
+    received_as (credit_answer (admits s.runner.key k) (output_pool s.runner.limits.shared p) s.runner u)
+answer s (Call.input k b) = received_as (input_answer (admits s.runner.key k) s.runner (length b))
+answer s (Call.end_input k) = received_as (end_answer (admits s.runner.key k) s.runner)
+answer s (Call.cancel now k c) = received_as (cancel_answer (admits s.runner.key k) s.runner now)
 answer s (Call.launched x) = Call.Ok
-answer s (Call.output x b) = Call.Taken (outputTaken s.runner x (length b))
+answer s (Call.output x b) = Call.Taken (output_taken s.runner x (length b))
 answer s (Call.discarded x n) = Call.Ok
-answer s (Call.outputClosed x) = Call.Ok
-answer s (Call.outputFailed x) = Call.Ok
-answer s (Call.outputHungUp x) = Call.Ok
-answer s (Call.inputWritten n) = Call.Ok
-answer s Call.inputClosed = Call.Ok
+answer s (Call.output_closed x) = Call.Ok
+answer s (Call.output_failed x) = Call.Ok
+answer s (Call.output_hung_up x) = Call.Ok
+answer s (Call.input_written n) = Call.Ok
+answer s Call.input_closed = Call.Ok
 answer s (Call.exited now x) = Call.Ok
 answer s (Call.settled x) = Call.Ok
 answer s (Call.dropped now) = Call.Ok
 answer s (Call.reset now) = Call.Ok
 answer s (Call.disconnect now) = Call.Ok
 answer s (Call.tick now) = Call.Ok
-answer s Call.nextRequest = asks (askedFor (wish s.runner))
-answer s (Call.nextMessage buffer) = said (choose s.runner (length buffer)) s.runner s.bytes
-answer s (Call.readAllowance x) = Call.Value (readAllowanceOf s.runner x)
-answer s Call.pendingInput = Call.Pending (pendingOf s.runner s.bytes)
-answer s Call.deadline = Call.Time (deadlineOf s.runner)
-answer s Call.isFinished = Call.Truth s.runner.flags.finished
-answer s Call.isDetached = Call.Truth s.runner.flags.detached
-answer s Call.awaitsSettlement = Call.Truth (isRequested s.runner.life.settling)
+answer s Call.next_request = asks (asked_for (wish s.runner))
+answer s (Call.next_message buffer) = said (choose s.runner (length buffer)) s.runner s.bytes
+answer s (Call.read_allowance x) = Call.Value (read_allowance_of s.runner x)
+answer s Call.pending_input = Call.Pending (pending_of s.runner s.bytes)
+answer s Call.deadline = Call.Time (deadline_of s.runner)
+answer s Call.is_finished = Call.Truth s.runner.flags.finished
+answer s Call.is_detached = Call.Truth s.runner.flags.detached
+answer s Call.awaits_settlement = Call.Truth (is_requested s.runner.life.settling)
 answer s Call.buffered = Call.Value (buffered s.runner)
-answer s Call.highWater = Call.Value s.runner.high_water
-answer s Call.memoryBound = Call.Value (byteNeed s.runner.limits)
+answer s Call.high_water = Call.Value s.runner.high_water
+answer s Call.memory_bound = Call.Value (byte_need s.runner.limits)
 answer s Call.key = Call.IsKey s.runner.key
 answer s Call.limits = Call.AreLimits s.runner.limits
 
 -- the stores that a call is lent do
 unfoldable pub enough : State → Call → Bool
 enough s (Call.credit k p u) = true
-enough s (Call.input k b) = bytesDo s.runner.limits s.bytes && lengthsDo s.runner.limits s.lengths
-enough s (Call.endInput k) = true
+enough s (Call.input k b) = bytes_do s.runner.limits s.bytes && lengths_do s.runner.limits s.lengths
+enough s (Call.end_input k) = true
 enough s (Call.cancel now k c) = true
 enough s (Call.launched x) = true
-enough s (Call.output x b) = bytesDo s.runner.limits s.bytes
+enough s (Call.output x b) = bytes_do s.runner.limits s.bytes
 enough s (Call.discarded x n) = true
-enough s (Call.outputClosed x) = true
-enough s (Call.outputFailed x) = true
-enough s (Call.outputHungUp x) = true
-enough s (Call.inputWritten n) = lengthsDo s.runner.limits s.lengths
-enough s Call.inputClosed = true
+enough s (Call.output_closed x) = true
+enough s (Call.output_failed x) = true
+enough s (Call.output_hung_up x) = true
+enough s (Call.input_written n) = lengths_do s.runner.limits s.lengths
+enough s Call.input_closed = true
 enough s (Call.exited now x) = true
 enough s (Call.settled x) = true
 enough s (Call.dropped now) = true
 enough s (Call.reset now) = true
 enough s (Call.disconnect now) = true
 enough s (Call.tick now) = true
-enough s Call.nextRequest = true
-enough s (Call.nextMessage buffer) = bytesDo s.runner.limits s.bytes
-enough s (Call.readAllowance x) = true
-enough s Call.pendingInput = bytesDo s.runner.limits s.bytes
+enough s Call.next_request = true
+enough s (Call.next_message buffer) = bytes_do s.runner.limits s.bytes
+enough s (Call.read_allowance x) = true
+enough s Call.pending_input = bytes_do s.runner.limits s.bytes
 enough s Call.deadline = true
-enough s Call.isFinished = true
-enough s Call.isDetached = true
-enough s Call.awaitsSettlement = true
+enough s Call.is_finished = true
+enough s Call.is_detached = true
+enough s Call.awaits_settlement = true
 enough s Call.buffered = true
-enough s Call.highWater = true
-enough s Call.memoryBound = true
+enough s Call.high_water = true
+enough s Call.memory_bound = true
 enough s Call.key = true
 enough s Call.limits = true
 
@@ -148,9 +148,9 @@ enough s Call.limits = true
 abbrev pub begun : Conf → ℕ → (bytes lengths : List ℕ) → State
 begun c now bytes lengths = record { runner = fresh c.key c.limits c.timers now; bytes = bytes; lengths = lengths }
 
-abbrev pub afterAll : State → List Call → State
-afterAll s [] = s
-afterAll s (c ∷ cs) = afterAll (next s c) cs
+abbrev pub after_all : State → List Call → State
+after_all s [] = s
+after_all s (c ∷ cs) = after_all (next s c) cs
 
 abbrev pub run : State → List Call → List Done
 run s [] = []

@@ -12,307 +12,307 @@ use Rattle.exec.specs.declared.Key.{Key}
 use Rattle.exec.specs.declared.Outcome.{Outcome}
 use Rattle.exec.specs.declared.Reply.{Reply}
 use Rattle.exec.specs.declared.Stream.{Stream}
-use Rattle.exec.specs.Outcome.{isTruncated}
+use Rattle.exec.specs.Outcome.{is_truncated}
 use Rattle.runner.specs.Calls as Calls
-use Rattle.runner.specs.Calls.{storesDo}
-use Rattle.runner.specs.Life.{outcomeOf}
-use Rattle.runner.specs.Message.{saidFor}
-use Rattle.runner.specs.Range.{stop, bytesDo, fresh}
+use Rattle.runner.specs.Calls.{stores_do}
+use Rattle.runner.specs.Life.{outcome_of}
+use Rattle.runner.specs.Message.{said_for}
+use Rattle.runner.specs.Range.{stop, bytes_do, fresh}
 use Rattle.channel.specs.Calls as Channel
-use Rattle.channel.specs.Calls.{ReadAfter, WriteAfter, isChannel, admitted, heardAs, notedAs, parsedRead, admittedRead, room, asked, isLeft, sent, told, wrote, wroteBuffer, sentAs, sentBuffer, partBack, hasEnded}
-use Rattle.channel.specs.Ended.{writes, write-left}
-use Rattle.exits.specs.Exit.{isUntold}
+use Rattle.channel.specs.Calls.{ReadAfter, WriteAfter, is_channel, admitted, heard_as, noted_as, parsed_read, admitted_read, room, asked, is_left, sent, told, wrote, wrote_buffer, sent_as, sent_buffer, part_back, has_ended}
+use Rattle.channel.specs.Ended.{writes, write_left}
+use Rattle.exits.specs.Exit.{is_untold}
 use Rattle.calls.specs.Call as Call
 use Rattle.calls.specs.Call.{Conf, Call, Answer, Done}
 use Rattle.account.specs.Step as Step
-use Rattle.account.specs.Step.{State, replied, receivedAs, says}
+use Rattle.account.specs.Step.{State, replied, received_as, says}
 use Rattle.account.specs.Account as Accounts
-use Rattle.account.specs.Account.{Account, account, tallyOf, cut, tickA}
-use Rattle.account.specs.Claim.{Demand3, Opens, IsPrefix, Silent, isMessage, isTerminal, anyTerminal, isStop, accountOf}
-use Rattle.account.specs.Records.{Entry, call, readRecord, writeRecord, nextEntry, answerEntry, afterEntries, runEntries, roomy, isUntaken, made, consCall, callsOf, consDone, donesOf, entryAccount, anyTerminalIn, SilentIn, among, ofReads, ofWrites, ofEntry, Whole}
+use Rattle.account.specs.Account.{Account, account, tally_of, cut, tick_a}
+use Rattle.account.specs.Claim.{Demand3, Opens, IsPrefix, Silent, is_message, is_terminal, any_terminal, is_stop, account_of}
+use Rattle.account.specs.Records.{Entry, call, read_record, write_record, next_entry, answer_entry, after_entries, run_entries, roomy, is_untaken, made, cons_call, calls_of, cons_done, dones_of, entry_account, any_terminal_in, SilentIn, among, of_reads, of_writes, of_entry, Whole}
 use Rattle.account.specs.LateClaim.{LateAny}
 use Rattle.account.proofs.Plain as Plain
 use Rattle.runner.specs.TerminalLaws.{still}
-use Rattle.account.proofs.Finish.{framed, framed-conf, ends, ends-answer}
-use Rattle.account.proofs.Lives.{confOf}
-use Rattle.account.proofs.Demand.{Fine, goes, fine-next, next-same, answer-same, fine-open, open-same, opens_by, late-call, demand3}
+use Rattle.account.proofs.Finish.{framed, framed_conf, ends, ends_answer}
+use Rattle.account.proofs.Lives.{conf_of}
+use Rattle.account.proofs.Demand.{Fine, goes, fine_next, next_same, answer_same, fine_open, open_same, opens_by, late_call, demand3}
 use Rattle.account.proofs.Range.{lent}
-use Rattle.account.proofs.EachRecord.{Unmade, Does, admitted-so, read_by, answers, part, written-does, left-chosen}
+use Rattle.account.proofs.EachRecord.{Unmade, Does, admitted_so, read_by, answers, part, written_does, left_chosen}
 
 -- ---- an entry does what its call does, of a runner in range with its stores
 
 abbrev pub EntryDoes : Conf → Entry → State → Type 0
-EntryDoes conf e s = Does e (made conf e (answerEntry s e)) s (nextEntry s e) (answerEntry s e)
+EntryDoes conf e s = Does e (made conf e (answer_entry s e)) s (next_entry s e) (answer_entry s e)
 
-pub read-does : (s : State) (now channel : ℕ) (b : List ℕ) → stop s.runner (storesDo s.runner s.bytes s.lengths) ≡ Reply.Ok
-    → EntryDoes (confOf s.runner) (readRecord now channel b) s
-unfolding made nextEntry answerEntry Channel.readRecord
-read-does s now channel b g =
-    rw (admitted-so s.runner (storesDo s.runner s.bytes s.lengths) g) (read_by (isChannel s.runner.limits) s now channel b)
+pub read_does : (s : State) (now channel : ℕ) (b : List ℕ) → stop s.runner (stores_do s.runner s.bytes s.lengths) ≡ Reply.Ok
+    → EntryDoes (conf_of s.runner) (read_record now channel b) s
+unfolding made next_entry answer_entry Channel.read_record
+read_does s now channel b g =
+    rw (admitted_so s.runner (stores_do s.runner s.bytes s.lengths) g) (read_by (is_channel s.runner.limits) s now channel b)
 
-pub write-does : (s : State) (channel : ℕ) (buffer : List ℕ) → stop s.runner (bytesDo s.runner.limits s.bytes) ≡ Reply.Ok
-    → EntryDoes (confOf s.runner) (writeRecord channel buffer) s
-unfolding made nextEntry answerEntry
-write-does s channel buffer g = written-does s channel buffer g _ _ (writes s.runner channel s.bytes buffer g)
+pub write_does : (s : State) (channel : ℕ) (buffer : List ℕ) → stop s.runner (bytes_do s.runner.limits s.bytes) ≡ Reply.Ok
+    → EntryDoes (conf_of s.runner) (write_record channel buffer) s
+unfolding made next_entry answer_entry
+write_does s channel buffer g = written_does s channel buffer g _ _ (writes s.runner channel s.bytes buffer g)
 
 -- ---- an entry, at a state that came from open
 
 pub record Good (conf : Conf) (s : State) : Type 0 where
   pub fine : Fine s
-  pub same : confOf s.runner ≡ conf
+  pub same : conf_of s.runner ≡ conf
 
-does-so : (e : Entry) (s : State) → Fine s → EntryDoes (confOf s.runner) e s
-unfolding Does made nextEntry answerEntry Plain.enough
-does-so (call c) s f = (refl, refl)
-does-so (readRecord now channel b) s f = read-does s now channel b (goes s (Call.input s.runner.key b) f)
-does-so (writeRecord channel buffer) s f = write-does s channel buffer (goes s (Call.nextMessage buffer) f)
+does_so : (e : Entry) (s : State) → Fine s → EntryDoes (conf_of s.runner) e s
+unfolding Does made next_entry answer_entry Plain.enough
+does_so (call c) s f = (refl, refl)
+does_so (read_record now channel b) s f = read_does s now channel b (goes s (Call.input s.runner.key b) f)
+does_so (write_record channel buffer) s f = write_does s channel buffer (goes s (Call.next_message buffer) f)
 
 pub does : (conf : Conf) (e : Entry) (s : State) → Good conf s → EntryDoes conf e s
-does conf e s h = subst (λ (k : Conf). EntryDoes k e s) h.same (does-so e s h.fine)
+does conf e s h = subst (λ (k : Conf). EntryDoes k e s) h.same (does_so e s h.fine)
 
-good-next : (conf : Conf) (c : Call) (s : State) → Good conf s → Good conf (Step.next s c)
-good-next conf c s h =
-    rw (next-same s c h.fine) (record { fine = fine-next c s h.fine; same = framed-conf (framed c s) ∙ h.same })
+good_next : (conf : Conf) (c : Call) (s : State) → Good conf s → Good conf (Step.next s c)
+good_next conf c s h =
+    rw (next_same s c h.fine) (record { fine = fine_next c s h.fine; same = framed_conf (framed c s) ∙ h.same })
 
-good-by : (conf : Conf) (x : Entry) (m : Option Call) (s after : State) (a : Answer) → Does x m s after a → Good conf s → Good conf after
+good_by : (conf : Conf) (x : Entry) (m : Option Call) (s after : State) (a : Answer) → Does x m s after a → Good conf s → Good conf after
 unfolding Does
-good-by conf x none s after a d h = subst⁻¹ (Good conf) d.kept h
-good-by conf x (some c) s after a d h = subst⁻¹ (Good conf) d.0 (good-next conf c s h)
+good_by conf x none s after a d h = subst⁻¹ (Good conf) d.kept h
+good_by conf x (some c) s after a d h = subst⁻¹ (Good conf) d.0 (good_next conf c s h)
 
-pub good-entry : (conf : Conf) (e : Entry) (s : State) → Good conf s → Good conf (nextEntry s e)
-good-entry conf e s h = good-by conf e (made conf e (answerEntry s e)) s (nextEntry s e) (answerEntry s e) (does conf e s h) h
+pub good_entry : (conf : Conf) (e : Entry) (s : State) → Good conf s → Good conf (next_entry s e)
+good_entry conf e s h = good_by conf e (made conf e (answer_entry s e)) s (next_entry s e) (answer_entry s e) (does conf e s h) h
 
-pub good-list : (conf : Conf) (es : List Entry) (s : State) → Good conf s → Good conf (afterEntries s es)
-good-list conf [] s h = h
-good-list conf (e ∷ es) s h = good-list conf es (nextEntry s e) (good-entry conf e s h)
+pub good_list : (conf : Conf) (es : List Entry) (s : State) → Good conf s → Good conf (after_entries s es)
+good_list conf [] s h = h
+good_list conf (e ∷ es) s h = good_list conf es (next_entry s e) (good_entry conf e s h)
 
 -- a Terminal that a write left is still the next message
-left-untold : (s : State) (channel : ℕ) (buffer : List ℕ) → Fine s → isUntaken (answerEntry s (writeRecord channel buffer)) ≡ true → (part : List ℕ)
-    → (o : Outcome) × (Step.answer s (Call.nextMessage part) ≡ Call.Says (Call.Terminal o)) × (isUntold o.status ≡ true)
-unfolding answerEntry Plain.enough
-left-untold s channel buffer f e part =
-    let g : stop s.runner (bytesDo s.runner.limits s.bytes) ≡ Reply.Ok = goes s (Call.nextMessage buffer) f in
-    let p = left-chosen s channel buffer g _ _ (writes s.runner channel s.bytes buffer g) e in (
-      outcomeOf s.runner,
-      answer-same s (Call.nextMessage part) f ∙ ends-answer s (Call.nextMessage part) (record { buffer = part; call = refl; chosen = still s.runner _ (length part) p.0 }),
+left_untold : (s : State) (channel : ℕ) (buffer : List ℕ) → Fine s → is_untaken (answer_entry s (write_record channel buffer)) ≡ true → (part : List ℕ)
+    → (o : Outcome) × (Step.answer s (Call.next_message part) ≡ Call.Says (Call.Terminal o)) × (is_untold o.status ≡ true)
+unfolding answer_entry Plain.enough
+left_untold s channel buffer f e part =
+    let g : stop s.runner (bytes_do s.runner.limits s.bytes) ≡ Reply.Ok = goes s (Call.next_message buffer) f in
+    let p = left_chosen s channel buffer g _ _ (writes s.runner channel s.bytes buffer g) e in (
+      outcome_of s.runner,
+      answer_same s (Call.next_message part) f ∙ ends_answer s (Call.next_message part) (record { buffer = part; call = refl; chosen = still s.runner _ (length part) p.0 }),
       p.1,
     )
 
 -- and one that no request tells is left by every write with room
-says-outcome : (o p : Outcome) → Call.Says (Call.Terminal o) ≡ Call.Says (Call.Terminal p) → o ≡ p
-says-outcome o p e = cc
+says_outcome : (o p : Outcome) → Call.Says (Call.Terminal o) ≡ Call.Says (Call.Terminal p) → o ≡ p
+says_outcome o p e = cc
 
-untold-left : (s : State) → Fine s → (part : List ℕ) (o : Outcome) → Step.answer s (Call.nextMessage part) ≡ Call.Says (Call.Terminal o) → isUntold o.status ≡ true
-    → (channel : ℕ) (buffer : List ℕ) → (isChannel s.runner.limits && leb (room s.runner.limits) (length buffer)) ≡ true
-    → answerEntry s (writeRecord channel buffer) ≡ Call.Refused 40
-unfolding answerEntry asked Calls.nextMessage saidFor isLeft Plain.enough
-untold-left s f part o e u channel buffer m =
-    let g : stop s.runner (bytesDo s.runner.limits s.bytes) ≡ Reply.Ok = goes s (Call.nextMessage part) f in
-    let a = sym (answer-same s (Call.nextMessage part) f) ∙ e in
-    let t = ends (Call.nextMessage part) s (ap isTerminal a) in
-    let same : outcomeOf s.runner ≡ o = says-outcome _ _ (sym (ends-answer s (Call.nextMessage part) t) ∙ a) in
+untold_left : (s : State) → Fine s → (part : List ℕ) (o : Outcome) → Step.answer s (Call.next_message part) ≡ Call.Says (Call.Terminal o) → is_untold o.status ≡ true
+    → (channel : ℕ) (buffer : List ℕ) → (is_channel s.runner.limits && leb (room s.runner.limits) (length buffer)) ≡ true
+    → answer_entry s (write_record channel buffer) ≡ Call.Refused 40
+unfolding answer_entry asked Calls.next_message said_for is_left Plain.enough
+untold_left s f part o e u channel buffer m =
+    let g : stop s.runner (bytes_do s.runner.limits s.bytes) ≡ Reply.Ok = goes s (Call.next_message part) f in
+    let a = sym (answer_same s (Call.next_message part) f) ∙ e in
+    let t = ends (Call.next_message part) s (ap is_terminal a) in
+    let same : outcome_of s.runner ≡ o = says_outcome _ _ (sym (ends_answer s (Call.next_message part) t) ∙ a) in
     let next = length (take s.runner.limits.chunk (drop 13 buffer)) in
-    let l : isLeft (asked s.runner s.bytes buffer).saying.said ≡ true = rw (g, still s.runner _ next t.chosen, same) u in
-    ap answers (write-left s.runner channel s.bytes buffer _ _ (writes s.runner channel s.bytes buffer g) m l)
+    let l : is_left (asked s.runner s.bytes buffer).saying.said ≡ true = rw (g, still s.runner _ next t.chosen, same) u in
+    ap answers (write_left s.runner channel s.bytes buffer _ _ (writes s.runner channel s.bytes buffer g) m l)
 
 -- so where no Terminal is next, an entry makes what it makes where it is not refused by 40
-pub made_so : (conf : Conf) (e : Entry) (c : Call) (s : State) → Good conf s → made conf e Call.Ok ≡ some c → isTerminal (Step.answer s c) ≡ false
-    → made conf e (answerEntry s e) ≡ some c
+pub made_so : (conf : Conf) (e : Entry) (c : Call) (s : State) → Good conf s → made conf e Call.Ok ≡ some c → is_terminal (Step.answer s c) ≡ false
+    → made conf e (answer_entry s e) ≡ some c
 unfolding made
 made_so conf (call x) c s g k h = k
-made_so conf (readRecord now channel b) c s g k h = k
-made_so conf (writeRecord channel buffer) c s g k h = at (isChannel conf.limits && roomy conf buffer) (isUntaken (answerEntry s (writeRecord channel buffer))) refl k
+made_so conf (read_record now channel b) c s g k h = k
+made_so conf (write_record channel buffer) c s g k h = at (is_channel conf.limits && roomy conf buffer) (is_untaken (answer_entry s (write_record channel buffer))) refl k
   where
     part : List ℕ
     part = take conf.limits.chunk (drop 13 buffer)
 
-    at : (b u : Bool) → isUntaken (answerEntry s (writeRecord channel buffer)) ≡ u → cond b (some (Call.nextMessage part)) none ≡ some c
-        → cond b (cond u none (some (Call.nextMessage part))) none ≡ some c
+    at : (b u : Bool) → is_untaken (answer_entry s (write_record channel buffer)) ≡ u → cond b (some (Call.next_message part)) none ≡ some c
+        → cond b (cond u none (some (Call.next_message part))) none ≡ some c
     at false u e k = k
     at true false e k = k
     at true true e k =
-        let q : Call.nextMessage part ≡ c = cc in
-        absurd (false≢true (sym h ∙ ap (λ (x : Call). isTerminal (Step.answer s x)) (sym q) ∙ ap isTerminal (left-untold s channel buffer g.fine e part).1))
+        let q : Call.next_message part ≡ c = cc in
+        absurd (false≢true (sym h ∙ ap (λ (x : Call). is_terminal (Step.answer s x)) (sym q) ∙ ap is_terminal (left_untold s channel buffer g.fine e part).1))
 
 -- ---- a list of entries is the list of its calls
 
-after-by : (x : Entry) (m : Option Call) (s after : State) (a : Answer) (cs : List Call) → Does x m s after a → Step.after after cs ≡ Step.after s (consCall m cs)
+after_by : (x : Entry) (m : Option Call) (s after : State) (a : Answer) (cs : List Call) → Does x m s after a → Step.after after cs ≡ Step.after s (cons_call m cs)
 unfolding Does
-after-by x none s after a cs d = ap (λ (t : State). Step.after t cs) d.kept
-after-by x (some c) s after a cs d = ap (λ (t : State). Step.after t cs) d.0
+after_by x none s after a cs d = ap (λ (t : State). Step.after t cs) d.kept
+after_by x (some c) s after a cs d = ap (λ (t : State). Step.after t cs) d.0
 
 run_by : (x : Entry) (m : Option Call) (s after : State) (a : Answer) (cs : List Call) → Does x m s after a
-    → consDone m a (Step.run after cs) ≡ Step.run s (consCall m cs)
+    → cons_done m a (Step.run after cs) ≡ Step.run s (cons_call m cs)
 unfolding Does
 run_by x none s after a cs d = ap (λ (t : State). Step.run t cs) d.kept
 run_by x (some c) s after a cs d = rw (d.0, d.1) refl
 
-any-by : (x : Entry) (m : Option Call) (s after : State) (a : Answer) (cs : List Call) → Does x m s after a
-    → (isTerminal a || anyTerminal (Step.run after cs)) ≡ anyTerminal (Step.run s (consCall m cs))
+any_by : (x : Entry) (m : Option Call) (s after : State) (a : Answer) (cs : List Call) → Does x m s after a
+    → (is_terminal a || any_terminal (Step.run after cs)) ≡ any_terminal (Step.run s (cons_call m cs))
 unfolding Does
-any-by x none s after a cs d = rw (d.answered, d.kept) refl
-any-by x (some c) s after a cs d = rw (d.0, d.1) refl
+any_by x none s after a cs d = rw (d.answered, d.kept) refl
+any_by x (some c) s after a cs d = rw (d.0, d.1) refl
 
-silent-by : (x : Entry) (m : Option Call) (s after : State) (a : Answer) (cs : List Call) → Does x m s after a → Silent (Step.run s (consCall m cs))
-    → (isMessage a ≡ false) × Silent (Step.run after cs)
+silent_by : (x : Entry) (m : Option Call) (s after : State) (a : Answer) (cs : List Call) → Does x m s after a → Silent (Step.run s (cons_call m cs))
+    → (is_message a ≡ false) × Silent (Step.run after cs)
 unfolding Does
-silent-by x none s after a cs d h = (rw d.answered refl, rw d.kept h)
-silent-by x (some c) s after a cs d h = (rw d.1 h.0, rw d.0 h.1)
+silent_by x none s after a cs d h = (rw d.answered refl, rw d.kept h)
+silent_by x (some c) s after a cs d h = (rw d.1 h.0, rw d.0 h.1)
 
 module _ (conf : Conf) where
-  same_after : (es : List Entry) (s : State) → Good conf s → afterEntries s es ≡ Step.after s (callsOf conf (runEntries s es))
+  same_after : (es : List Entry) (s : State) → Good conf s → after_entries s es ≡ Step.after s (calls_of conf (run_entries s es))
   same_after [] s h = refl
   same_after (e ∷ es) s h =
-      same_after es (nextEntry s e) (good-entry conf e s h)
-      ∙ after-by e (made conf e (answerEntry s e)) s (nextEntry s e) (answerEntry s e) (callsOf conf (runEntries (nextEntry s e) es)) (does conf e s h)
+      same_after es (next_entry s e) (good_entry conf e s h)
+      ∙ after_by e (made conf e (answer_entry s e)) s (next_entry s e) (answer_entry s e) (calls_of conf (run_entries (next_entry s e) es)) (does conf e s h)
 
-  pub same-dones : (es : List Entry) (s : State) → Good conf s → donesOf conf (runEntries s es) ≡ Step.run s (callsOf conf (runEntries s es))
-  same-dones [] s h = refl
-  same-dones (e ∷ es) s h =
-      ap (consDone (made conf e (answerEntry s e)) (answerEntry s e)) (same-dones es (nextEntry s e) (good-entry conf e s h))
-      ∙ run_by e (made conf e (answerEntry s e)) s (nextEntry s e) (answerEntry s e) (callsOf conf (runEntries (nextEntry s e) es)) (does conf e s h)
+  pub same_dones : (es : List Entry) (s : State) → Good conf s → dones_of conf (run_entries s es) ≡ Step.run s (calls_of conf (run_entries s es))
+  same_dones [] s h = refl
+  same_dones (e ∷ es) s h =
+      ap (cons_done (made conf e (answer_entry s e)) (answer_entry s e)) (same_dones es (next_entry s e) (good_entry conf e s h))
+      ∙ run_by e (made conf e (answer_entry s e)) s (next_entry s e) (answer_entry s e) (calls_of conf (run_entries (next_entry s e) es)) (does conf e s h)
 
-  pub same-any : (es : List Entry) (s : State) → Good conf s → anyTerminalIn (runEntries s es) ≡ anyTerminal (Step.run s (callsOf conf (runEntries s es)))
-  same-any [] s h = refl
-  same-any (e ∷ es) s h =
-      ap (λ (b : Bool). isTerminal (answerEntry s e) || b) (same-any es (nextEntry s e) (good-entry conf e s h))
-      ∙ any-by e (made conf e (answerEntry s e)) s (nextEntry s e) (answerEntry s e) (callsOf conf (runEntries (nextEntry s e) es)) (does conf e s h)
+  pub same_any : (es : List Entry) (s : State) → Good conf s → any_terminal_in (run_entries s es) ≡ any_terminal (Step.run s (calls_of conf (run_entries s es)))
+  same_any [] s h = refl
+  same_any (e ∷ es) s h =
+      ap (λ (b : Bool). is_terminal (answer_entry s e) || b) (same_any es (next_entry s e) (good_entry conf e s h))
+      ∙ any_by e (made conf e (answer_entry s e)) s (next_entry s e) (answer_entry s e) (calls_of conf (run_entries (next_entry s e) es)) (does conf e s h)
 
-  same-silent : (es : List Entry) (s : State) → Good conf s → Silent (Step.run s (callsOf conf (runEntries s es))) → SilentIn (runEntries s es)
-  same-silent [] s h q = tt
-  same-silent (e ∷ es) s h q =
-      let p = silent-by e (made conf e (answerEntry s e)) s (nextEntry s e) (answerEntry s e) (callsOf conf (runEntries (nextEntry s e) es)) (does conf e s h) q in
-      (p.0, same-silent es (nextEntry s e) (good-entry conf e s h) p.1)
+  same_silent : (es : List Entry) (s : State) → Good conf s → Silent (Step.run s (calls_of conf (run_entries s es))) → SilentIn (run_entries s es)
+  same_silent [] s h q = tt
+  same_silent (e ∷ es) s h q =
+      let p = silent_by e (made conf e (answer_entry s e)) s (next_entry s e) (answer_entry s e) (calls_of conf (run_entries (next_entry s e) es)) (does conf e s h) q in
+      (p.0, same_silent es (next_entry s e) (good_entry conf e s h) p.1)
 
-  calls-cons : (m : Option Call) (xs ys : List Call) → consCall m (xs ++ ys) ≡ consCall m xs ++ ys
-  calls-cons none xs ys = refl
-  calls-cons (some c) xs ys = refl
+  calls_cons : (m : Option Call) (xs ys : List Call) → cons_call m (xs ++ ys) ≡ cons_call m xs ++ ys
+  calls_cons none xs ys = refl
+  calls_cons (some c) xs ys = refl
 
   -- a list behind another runs from where that one left
-  pub calls-append : (xs ys : List Entry) (s : State)
-      → callsOf conf (runEntries s (xs ++ ys)) ≡ callsOf conf (runEntries s xs) ++ callsOf conf (runEntries (afterEntries s xs) ys)
-  calls-append [] ys s = refl
-  calls-append (e ∷ xs) ys s =
-      ap (consCall (made conf e (answerEntry s e))) (calls-append xs ys (nextEntry s e))
-      ∙ calls-cons (made conf e (answerEntry s e)) (callsOf conf (runEntries (nextEntry s e) xs)) (callsOf conf (runEntries (afterEntries (nextEntry s e) xs) ys))
+  pub calls_append : (xs ys : List Entry) (s : State)
+      → calls_of conf (run_entries s (xs ++ ys)) ≡ calls_of conf (run_entries s xs) ++ calls_of conf (run_entries (after_entries s xs) ys)
+  calls_append [] ys s = refl
+  calls_append (e ∷ xs) ys s =
+      ap (cons_call (made conf e (answer_entry s e))) (calls_append xs ys (next_entry s e))
+      ∙ calls_cons (made conf e (answer_entry s e)) (calls_of conf (run_entries (next_entry s e) xs)) (calls_of conf (run_entries (after_entries (next_entry s e) xs) ys))
 
 -- an answer that is Terminal is a call's
-terminal-made : (x : Entry) (m : Option Call) (s after : State) (a : Answer) → Does x m s after a → isTerminal a ≡ true
+terminal_made : (x : Entry) (m : Option Call) (s after : State) (a : Answer) → Does x m s after a → is_terminal a ≡ true
     → (c : Call) × (after ≡ Step.next s c) × (a ≡ Step.answer s c) × (m ≡ some c)
 unfolding Does
-terminal-made x none s after a d h = absurd (false≢true (sym (ap isTerminal d.answered) ∙ h))
-terminal-made x (some c) s after a d h = (c, d.0, d.1, refl)
+terminal_made x none s after a d h = absurd (false≢true (sym (ap is_terminal d.answered) ∙ h))
+terminal_made x (some c) s after a d h = (c, d.0, d.1, refl)
 
-unmade-as : (x : Entry) (m : Option Call) (s after : State) (a : Answer) → m ≡ none → Does x m s after a
-    → (after ≡ s) × ((n : ℕ) × (a ≡ Call.Refused n) × (among n (ofEntry x) ≡ true))
+unmade_as : (x : Entry) (m : Option Call) (s after : State) (a : Answer) → m ≡ none → Does x m s after a
+    → (after ≡ s) × ((n : ℕ) × (a ≡ Call.Refused n) × (among n (of_entry x) ≡ true))
 unfolding Does
-unmade-as x m s after a e d = let u : Unmade x s after a = rw e at d in (u.kept, (u.refusal, u.answered, u.own))
+unmade_as x m s after a e d = let u : Unmade x s after a = rw e at d in (u.kept, (u.refusal, u.answered, u.own))
 
 -- the records' own refusals are none of 10, 11 and 12
 abbrev IsCalm : ℕ → Type 0
-IsCalm n = isStop (Call.Refused n) ≡ false
+IsCalm n = is_stop (Call.Refused n) ≡ false
 
 abbrev AllCalm : List ℕ → Type 0
 AllCalm [] = Unit
 AllCalm (x ∷ xs) = IsCalm x × AllCalm xs
 
-calm-at : (b : Bool) (n x : ℕ) (rest : Bool) → eqb n x ≡ b → IsCalm x → (rest ≡ true → IsCalm n) → (b || rest) ≡ true → IsCalm n
-calm-at true n x rest q h behind e = ap (λ (m : ℕ). isStop (Call.Refused m)) (eqb-true n x q) ∙ h
-calm-at false n x rest q h behind e = behind e
+calm_at : (b : Bool) (n x : ℕ) (rest : Bool) → eqb n x ≡ b → IsCalm x → (rest ≡ true → IsCalm n) → (b || rest) ≡ true → IsCalm n
+calm_at true n x rest q h behind e = ap (λ (m : ℕ). is_stop (Call.Refused m)) (eqb-true n x q) ∙ h
+calm_at false n x rest q h behind e = behind e
 
-calm-in : (n : ℕ) (xs : List ℕ) → AllCalm xs → among n xs ≡ true → IsCalm n
-calm-in n [] h e = absurd (false≢true e)
-calm-in n (x ∷ xs) h e = calm-at (eqb n x) n x (among n xs) refl h.0 (calm-in n xs h.1) e
+calm_in : (n : ℕ) (xs : List ℕ) → AllCalm xs → among n xs ≡ true → IsCalm n
+calm_in n [] h e = absurd (false≢true e)
+calm_in n (x ∷ xs) h e = calm_at (eqb n x) n x (among n xs) refl h.0 (calm_in n xs h.1) e
 
-own-calm : (e : Entry) (n : ℕ) → among n (ofEntry e) ≡ true → IsCalm n
-own-calm (call c) n h = calm-in n [] tt h
-own-calm (readRecord now channel b) n h = calm-in n ofReads (refl, (refl, (refl, (refl, (refl, (refl, tt)))))) h
-own-calm (writeRecord channel buffer) n h = calm-in n ofWrites (refl, (refl, (refl, tt))) h
+own_calm : (e : Entry) (n : ℕ) → among n (of_entry e) ≡ true → IsCalm n
+own_calm (call c) n h = calm_in n [] tt h
+own_calm (read_record now channel b) n h = calm_in n of_reads (refl, (refl, (refl, (refl, (refl, (refl, tt)))))) h
+own_calm (write_record channel buffer) n h = calm_in n of_writes (refl, (refl, (refl, tt))) h
 
-ranged-by : (x : Entry) (m : Option Call) (s after : State) (a : Answer) → Does x m s after a → ((c : Call) → isStop (Step.answer s c) ≡ false) → isStop a ≡ false
+ranged_by : (x : Entry) (m : Option Call) (s after : State) (a : Answer) → Does x m s after a → ((c : Call) → is_stop (Step.answer s c) ≡ false) → is_stop a ≡ false
 unfolding Does
-ranged-by x none s after a d h = ap isStop d.answered ∙ own-calm x d.refusal d.own
-ranged-by x (some c) s after a d h = ap isStop d.1 ∙ h c
+ranged_by x none s after a d h = ap is_stop d.answered ∙ own_calm x d.refusal d.own
+ranged_by x (some c) s after a d h = ap is_stop d.1 ∙ h c
 
 -- ---- the demand
 
 module _ (conf : Conf) (now : ℕ) (bytes lengths : List ℕ) (op : Opens conf now bytes lengths) where
-  pub good-open : Good conf (Step.opened conf now bytes lengths)
+  pub good_open : Good conf (Step.opened conf now bytes lengths)
   unfolding fresh
-  good-open =
-      subst⁻¹ (Good conf) (open-same conf now bytes lengths op)
-      (record { fine = fine-open conf now bytes lengths (lent conf.limits bytes lengths (opens_by conf now bytes lengths op)); same = refl })
+  good_open =
+      subst⁻¹ (Good conf) (open_same conf now bytes lengths op)
+      (record { fine = fine_open conf now bytes lengths (lent conf.limits bytes lengths (opens_by conf now bytes lengths op)); same = refl })
 
-  pub good-at : (es : List Entry) → Good conf (afterEntries (Step.opened conf now bytes lengths) es)
-  good-at es = good-list conf es (Step.opened conf now bytes lengths) good-open
+  pub good_at : (es : List Entry) → Good conf (after_entries (Step.opened conf now bytes lengths) es)
+  good_at es = good_list conf es (Step.opened conf now bytes lengths) good_open
 
   -- the calls of a list from open
   abbrev pub calls : List Entry → List Call
-  calls es = callsOf conf (runEntries (Step.opened conf now bytes lengths) es)
+  calls es = calls_of conf (run_entries (Step.opened conf now bytes lengths) es)
 
-  pub to-calls : (es : List Entry) → afterEntries (Step.opened conf now bytes lengths) es ≡ Step.after (Step.opened conf now bytes lengths) (calls es)
-  to-calls es = same_after conf es (Step.opened conf now bytes lengths) good-open
+  pub to_calls : (es : List Entry) → after_entries (Step.opened conf now bytes lengths) es ≡ Step.after (Step.opened conf now bytes lengths) (calls es)
+  to_calls es = same_after conf es (Step.opened conf now bytes lengths) good_open
 
   -- THE LIST WITH RECORDS HAS THE ACCOUNT OF THE LIST OF ITS CALLS
-  pub same-account : (es : List Entry) → entryAccount conf now bytes lengths es ≡ accountOf conf now bytes lengths (calls es)
-  same-account es = ap (λ (ds : List Done). account (Accounts.start conf now) ds) (same-dones conf es (Step.opened conf now bytes lengths) good-open)
+  pub same_account : (es : List Entry) → entry_account conf now bytes lengths es ≡ account_of conf now bytes lengths (calls es)
+  same_account es = ap (λ (ds : List Done). account (Accounts.start conf now) ds) (same_dones conf es (Step.opened conf now bytes lengths) good_open)
 
   d3 : Demand3 conf now bytes lengths
   d3 = demand3 conf now bytes lengths op
 
   -- what Terminal's entry did, as a call after the calls
-  pub at-terminal : (es : List Entry) (e : Entry) → isTerminal (answerEntry (afterEntries (Step.opened conf now bytes lengths) es) e) ≡ true
-      → (c : Call) × (nextEntry (afterEntries (Step.opened conf now bytes lengths) es) e ≡ Step.next (Step.after (Step.opened conf now bytes lengths) (calls es)) c)
-      × (answerEntry (afterEntries (Step.opened conf now bytes lengths) es) e ≡ Step.answer (Step.after (Step.opened conf now bytes lengths) (calls es)) c)
-      × (made conf e (answerEntry (afterEntries (Step.opened conf now bytes lengths) es) e) ≡ some c)
-  at-terminal es e h =
-      let s : State = afterEntries (Step.opened conf now bytes lengths) es in
-      let q = terminal-made e (made conf e (answerEntry s e)) s (nextEntry s e) (answerEntry s e) (does conf e s (good-at es)) h in
-      (q.0, q.1 ∙ ap (λ (t : State). Step.next t q.0) (to-calls es), q.2 ∙ ap (λ (t : State). Step.answer t q.0) (to-calls es), q.3)
+  pub at_terminal : (es : List Entry) (e : Entry) → is_terminal (answer_entry (after_entries (Step.opened conf now bytes lengths) es) e) ≡ true
+      → (c : Call) × (next_entry (after_entries (Step.opened conf now bytes lengths) es) e ≡ Step.next (Step.after (Step.opened conf now bytes lengths) (calls es)) c)
+      × (answer_entry (after_entries (Step.opened conf now bytes lengths) es) e ≡ Step.answer (Step.after (Step.opened conf now bytes lengths) (calls es)) c)
+      × (made conf e (answer_entry (after_entries (Step.opened conf now bytes lengths) es) e) ≡ some c)
+  at_terminal es e h =
+      let s : State = after_entries (Step.opened conf now bytes lengths) es in
+      let q = terminal_made e (made conf e (answer_entry s e)) s (next_entry s e) (answer_entry s e) (does conf e s (good_at es)) h in
+      (q.0, q.1 ∙ ap (λ (t : State). Step.next t q.0) (to_calls es), q.2 ∙ ap (λ (t : State). Step.answer t q.0) (to_calls es), q.3)
 
-  cancel-at : (es : List Entry) (t : ℕ) (k : Key) (c : Cause) → answerEntry (afterEntries (Step.opened conf now bytes lengths) es) (call (Call.cancel t k c)) ≡ Call.Applied
+  cancel_at : (es : List Entry) (t : ℕ) (k : Key) (c : Cause) → answer_entry (after_entries (Step.opened conf now bytes lengths) es) (call (Call.cancel t k c)) ≡ Call.Applied
       → Step.answer (Step.after (Step.opened conf now bytes lengths) (calls es)) (Call.cancel t k c) ≡ Call.Applied
-  unfolding answerEntry
-  cancel-at es t k c e = ap (λ (s : State). Step.answer s (Call.cancel t k c)) (sym (to-calls es)) ∙ e
+  unfolding answer_entry
+  cancel_at es t k c e = ap (λ (s : State). Step.answer s (Call.cancel t k c)) (sym (to_calls es)) ∙ e
 
   -- the calls of a list, with those of two of its entries told
-  pub late-calls : (cs ds es : List Entry) (a e : Entry) (s : State)
-      → let u = nextEntry (afterEntries s cs) a in
-      callsOf conf (runEntries s (cs ++ (a ∷ (ds ++ (e ∷ es)))))
-      ≡ callsOf conf (runEntries s cs) ++ consCall (made conf a (answerEntry (afterEntries s cs) a))
-      (callsOf conf (runEntries u ds) ++ consCall (made conf e (answerEntry (afterEntries u ds) e)) (callsOf conf (runEntries (nextEntry (afterEntries u ds) e) es)))
-  late-calls cs ds es a e s =
-      calls-append conf cs (a ∷ (ds ++ (e ∷ es))) s
-      ∙ ap (λ (xs : List Call). callsOf conf (runEntries s cs) ++ consCall (made conf a (answerEntry (afterEntries s cs) a)) xs)
-      (calls-append conf ds (e ∷ es) (nextEntry (afterEntries s cs) a))
+  pub late_calls : (cs ds es : List Entry) (a e : Entry) (s : State)
+      → let u = next_entry (after_entries s cs) a in
+      calls_of conf (run_entries s (cs ++ (a ∷ (ds ++ (e ∷ es)))))
+      ≡ calls_of conf (run_entries s cs) ++ cons_call (made conf a (answer_entry (after_entries s cs) a))
+      (calls_of conf (run_entries u ds) ++ cons_call (made conf e (answer_entry (after_entries u ds) e)) (calls_of conf (run_entries (next_entry (after_entries u ds) e) es)))
+  late_calls cs ds es a e s =
+      calls_append conf cs (a ∷ (ds ++ (e ∷ es))) s
+      ∙ ap (λ (xs : List Call). calls_of conf (run_entries s cs) ++ cons_call (made conf a (answer_entry (after_entries s cs) a)) xs)
+      (calls_append conf ds (e ∷ es) (next_entry (after_entries s cs) a))
 
-  pub late-any : LateAny conf now bytes lengths
+  pub late_any : LateAny conf now bytes lengths
   unfolding made
-  late-any cs ds es t n k c e ticks h below past m i five =
+  late_any cs ds es t n k c e ticks h below past m i five =
       let o : State = Step.opened conf now bytes lengths in
-      let s : State = nextEntry (afterEntries o cs) (call (Call.cancel t k c)) in
-      let rest : List Call = callsOf conf (runEntries (nextEntry (afterEntries s ds) e) es) in
-      same-any conf (cs ++ (call (Call.cancel t k c) ∷ (ds ++ (e ∷ es)))) o good-open
-      ∙ ap (λ (xs : List Call). anyTerminal (Step.run o xs)) (late-calls cs ds es (call (Call.cancel t k c)) e o)
-      ∙ ap (λ (x : Option Call). anyTerminal (Step.run o (calls cs ++ (Call.cancel t k c ∷ (callsOf conf (runEntries s ds) ++ consCall x rest))))) m
-      ∙ late-call conf now bytes lengths op (calls cs) (callsOf conf (runEntries s ds)) rest t n k c ticks (cancel-at cs t k c h) below past i five
+      let s : State = next_entry (after_entries o cs) (call (Call.cancel t k c)) in
+      let rest : List Call = calls_of conf (run_entries (next_entry (after_entries s ds) e) es) in
+      same_any conf (cs ++ (call (Call.cancel t k c) ∷ (ds ++ (e ∷ es)))) o good_open
+      ∙ ap (λ (xs : List Call). any_terminal (Step.run o xs)) (late_calls cs ds es (call (Call.cancel t k c)) e o)
+      ∙ ap (λ (x : Option Call). any_terminal (Step.run o (calls cs ++ (Call.cancel t k c ∷ (calls_of conf (run_entries s ds) ++ cons_call x rest))))) m
+      ∙ late_call conf now bytes lengths op (calls cs) (calls_of conf (run_entries s ds)) rest t n k c ticks (cancel_at cs t k c h) below past i five
 
   pub whole : Whole conf now bytes lengths
   unfolding made
   whole = record {
-    joined = λ es x. subst⁻¹ (λ (a : Account). IsPrefix (tallyOf x a).sent (tallyOf x a).taken) (same-account es) (d3.joined (calls es) x);
-    once = λ es e ds h. (let q = at-terminal es e h in
-        let cs = callsOf conf (runEntries (nextEntry (afterEntries (Step.opened conf now bytes lengths) es) e) ds) in
-        same-silent conf ds _ (good-entry conf e _ (good-at es))
-        (subst⁻¹ (λ (s : State). Silent (Step.run s cs)) q.1 (d3.once (calls es) q.0 cs (sym (ap isTerminal q.2) ∙ h))));
-    marks = λ es e out h. (let q = at-terminal es e (ap isTerminal h) in
-        subst⁻¹ (λ (a : Account). (x : Stream) → isTruncated out x ≡ cut (tallyOf x a)) (same-account es)
+    joined = λ es x. subst⁻¹ (λ (a : Account). IsPrefix (tally_of x a).sent (tally_of x a).taken) (same_account es) (d3.joined (calls es) x);
+    once = λ es e ds h. (let q = at_terminal es e h in
+        let cs = calls_of conf (run_entries (next_entry (after_entries (Step.opened conf now bytes lengths) es) e) ds) in
+        same_silent conf ds _ (good_entry conf e _ (good_at es))
+        (subst⁻¹ (λ (s : State). Silent (Step.run s cs)) q.1 (d3.once (calls es) q.0 cs (sym (ap is_terminal q.2) ∙ h))));
+    marks = λ es e out h. (let q = at_terminal es e (ap is_terminal h) in
+        subst⁻¹ (λ (a : Account). (x : Stream) → is_truncated out x ≡ cut (tally_of x a)) (same_account es)
         (d3.marks (calls es) q.0 out (sym q.2 ∙ h)));
-    first = λ es t k c h. subst⁻¹ (λ (a : Account). (tickA t a).rep.begun ≡ false) (same-account es) (d3.first (calls es) t k c (cancel-at es t k c h));
-    late = λ cs ds es t n k c h below past five. late-any cs ds es t n k c (call (Call.tick n)) (Call.tick n) h below past refl refl five;
-    ranged = λ es e. ranged-by e (made conf e _) _ _ _ (does conf e _ (good-at es)) (λ c. ap (λ (s : State). isStop (Step.answer s c)) (to-calls es) ∙ d3.ranged (calls es) c);
-    refused = λ es e h. unmade-as e (made conf e _) _ _ _ h (does conf e _ (good-at es));
-    untold = λ es channel buffer e. left-untold _ channel buffer (good-at es).fine (ap isUntaken e);
-    left = λ es part o e u channel buffer m. untold-left _ (good-at es).fine part o e u channel buffer
-        (ap (λ (k : Conf). isChannel k.limits && roomy k buffer) (good-at es).same ∙ m);
+    first = λ es t k c h. subst⁻¹ (λ (a : Account). (tick_a t a).rep.begun ≡ false) (same_account es) (d3.first (calls es) t k c (cancel_at es t k c h));
+    late = λ cs ds es t n k c h below past five. late_any cs ds es t n k c (call (Call.tick n)) (Call.tick n) h below past refl refl five;
+    ranged = λ es e. ranged_by e (made conf e _) _ _ _ (does conf e _ (good_at es)) (λ c. ap (λ (s : State). is_stop (Step.answer s c)) (to_calls es) ∙ d3.ranged (calls es) c);
+    refused = λ es e h. unmade_as e (made conf e _) _ _ _ h (does conf e _ (good_at es));
+    untold = λ es channel buffer e. left_untold _ channel buffer (good_at es).fine (ap is_untaken e);
+    left = λ es part o e u channel buffer m. untold_left _ (good_at es).fine part o e u channel buffer
+        (ap (λ (k : Conf). is_channel k.limits && roomy k buffer) (good_at es).same ∙ m);
   }

@@ -14,129 +14,129 @@ use Rattle.exec.specs.declared.MaybeStatus.{MaybeStatus}
 use Rattle.exec.specs.declared.Stream.{Stream}
 use Rattle.exec.specs.Key.{admits}
 use Rattle.output.specs.declared.Output.{Output}
-use Rattle.output.specs.Output.{lostOut, closedOut, failedOut, hungUp, askedOut}
+use Rattle.output.specs.Output.{lost_out, closed_out, failed_out, hung_up, asked_out}
 use Rattle.runner.specs.declared.answer.Request.TheVariants as Request
 use Rattle.runner.specs.declared.message.Wish.{Wish}
 use Rattle.runner.specs.declared.runner.Runner.{Runner}
-use Rattle.runner.specs.Life.{awaitsLaunch, ticked, cancelNext, noteStarted, noteLaunch, launchedNext, closeRunnerInput, isOver, noteExit, noteExitOnce, timeoutCleared, exitedNext, cutOffOnce, detachNext, settledNext}
-use Rattle.runner.specs.Message.{effect, wish, wishEffect}
-use Rattle.runner.specs.State.{outOf, at}
-use Rattle.runner.specs.Streams.{outputNext, discardedNext, closedNext, failedNext, hungUpNext, creditNext, inputNext, endNext, writtenNext}
+use Rattle.runner.specs.Life.{awaits_launch, ticked, cancel_next, note_started, note_launch, launched_next, close_runner_input, is_over, note_exit, note_exit_once, timeout_cleared, exited_next, cut_off_once, detach_next, settled_next}
+use Rattle.runner.specs.Message.{effect, wish, wish_effect}
+use Rattle.runner.specs.State.{out_of, at}
+use Rattle.runner.specs.Streams.{output_next, discarded_next, closed_next, failed_next, hung_up_next, credit_next, input_next, end_next, written_next}
 use Rattle.calls.specs.Call as Call
 use Rattle.calls.specs.Call.{Conf, Call, Answer, Done, count}
 use Rattle.account.specs.Step.{State}
 use Rattle.account.specs.Account.{Account, Tally, add, account, start}
 use Rattle.account.specs.TurnClaim.{Has}
 use Rattle.account.proofs.Plain.{next, answer, run}
-use Rattle.account.proofs.Stages.{launchedIf}
-use Rattle.account.proofs.Sides.{on_out, one-per}
-use Rattle.account.proofs.Keeps.{All, add-keeps}
-use Rattle.account.proofs.Finish.{finished-none}
-use Rattle.account.proofs.Flags.{either, or-false-r}
+use Rattle.account.proofs.Stages.{launched_if}
+use Rattle.account.proofs.Sides.{on_out, one_per}
+use Rattle.account.proofs.Keeps.{All, add_keeps}
+use Rattle.account.proofs.Finish.{finished_none}
+use Rattle.account.proofs.Flags.{either, or_false_r}
 
 -- ---- own: by the account a stream that is closed and not marked was closed by the program
 
 -- over calls: the call that closed it
-abbrev pub closing-call : Stream → Done
-closing-call x = record { call = Call.outputClosed x; answer = Call.Ok }
+abbrev pub closing_call : Stream → Done
+closing_call x = record { call = Call.output_closed x; answer = Call.Ok }
 
-closed-now : (x : Stream) (c : Call) (s : State) → c ≡ Call.outputClosed x → closing-call x ≡ record { call = c; answer = answer s c }
+closed_now : (x : Stream) (c : Call) (s : State) → c ≡ Call.output_closed x → closing_call x ≡ record { call = c; answer = answer s c }
 unfolding answer
-closed-now x c s e = rw e refl
+closed_now x c s e = rw e refl
 
 -- G x: that the program closed x
 module _ (G : Stream → Type 0) where
   abbrev pub Owns : Stream → Bool → Tally → Type 0
   Owns x k t = k ≡ true → t.mark ≡ false → G x
 
-  pub list-own : (cs : List Call) (s : State) (a : Account) → ((x : Stream) → Has (closing-call x) (run s cs) → G x) → All Owns a → All Owns (account a (run s cs))
-  list-own [] s a g h = h
-  list-own (c ∷ cs) s a g h =
-      list-own cs (next s c) (add a c (answer s c)) (λ x m. g x (inr m))
-      (add-keeps Owns c (answer s c) (record {
-        marks = λ x b k t p e m. p e (or-false-r b t.mark m);
+  pub list_own : (cs : List Call) (s : State) (a : Account) → ((x : Stream) → Has (closing_call x) (run s cs) → G x) → All Owns a → All Owns (account a (run s cs))
+  list_own [] s a g h = h
+  list_own (c ∷ cs) s a g h =
+      list_own cs (next s c) (add a c (answer s c)) (λ x m. g x (inr m))
+      (add_keeps Owns c (answer s c) (record {
+        marks = λ x b k t p e m. p e (or_false_r b t.mark m);
         lost = λ x k t p e m. absurd (true≢false m);
         fails = λ x k t d p e m. absurd (true≢false m);
-        closes = λ x k t d p e m. g x (inl (closed-now x c s d));
+        closes = λ x k t d p e m. g x (inl (closed_now x c s d));
         takes = λ x b k t d p. p;
         sends = λ x b k t d p. p;
       }) a h)
 
-pub start-own : (G : Stream → Type 0) (conf : Conf) (now : ℕ) → All (Owns G) (start conf now)
+pub start_own : (G : Stream → Type 0) (conf : Conf) (now : ℕ) → All (Owns G) (start conf now)
 unfolding start
-start-own G conf now x e m = absurd (false≢true (sym (one-per (λ (y : Stream). false) x) ∙ e))
+start_own G conf now x e m = absurd (false≢true (sym (one_per (λ (y : Stream). false) x) ∙ e))
 
 -- ---- final: a runner that has finished has its streams closed, and takes and says no more
 
 abbrev pub Shut : Runner → Type 0
-Shut r = (x : Stream) → (outOf x r).closed ≡ true
+Shut r = (x : Stream) → (out_of x r).closed ≡ true
 
 -- an output that stays closed
-pub shut_at : (x : Stream) (f : Output → Output) (r : Runner) → (f (outOf x r)).closed ≡ true → Shut r → Shut (at x f r)
-shut_at x f r e h = on_out (λ (y : Stream) (o : Output). o.closed ≡ true) x (f (outOf x r)) r.outputs e (λ y d. h y)
+pub shut_at : (x : Stream) (f : Output → Output) (r : Runner) → (f (out_of x r)).closed ≡ true → Shut r → Shut (at x f r)
+shut_at x f r e h = on_out (λ (y : Stream) (o : Output). o.closed ≡ true) x (f (out_of x r)) r.outputs e (λ y d. h y)
 
 still : (now : ℕ) (r : Runner) → r.flags.finished ≡ true → ticked r now ≡ r
 unfolding ticked
 still now r f = rw f refl
 
-cancel-still : (k : Admission) (now : ℕ) (c : Cause) (r : Runner) → r.flags.finished ≡ true → cancelNext k r now c ≡ r
-unfolding cancelNext
-cancel-still Admission.Own now c r f = rw (still now r f, f) refl
-cancel-still Admission.Stale now c r f = refl
-cancel-still (Admission.Refused x) now c r f = refl
+cancel_still : (k : Admission) (now : ℕ) (c : Cause) (r : Runner) → r.flags.finished ≡ true → cancel_next k r now c ≡ r
+unfolding cancel_next
+cancel_still Admission.Own now c r f = rw (still now r f, f) refl
+cancel_still Admission.Stale now c r f = refl
+cancel_still (Admission.Refused x) now c r f = refl
 
-detach-still : (now : ℕ) (c : Cause) (r : Runner) → r.flags.finished ≡ true → detachNext r now c ≡ r
-unfolding detachNext cutOffOnce
-detach-still now c r f = rw (still now r f, f) refl
+detach_still : (now : ℕ) (c : Cause) (r : Runner) → r.flags.finished ≡ true → detach_next r now c ≡ r
+unfolding detach_next cut_off_once
+detach_still now c r f = rw (still now r f, f) refl
 
-exit-shut : (now : ℕ) (x : MaybeStatus) (r : Runner) → r.flags.finished ≡ true → Shut r → Shut (exitedNext r now x)
-unfolding exitedNext noteExitOnce noteExit closeRunnerInput
-exit-shut now x r f h = rw (still now (timeoutCleared r) f) (either Shut (isOver (timeoutCleared r)) (timeoutCleared r) (noteExit (timeoutCleared r) now x) h h)
+exit_shut : (now : ℕ) (x : MaybeStatus) (r : Runner) → r.flags.finished ≡ true → Shut r → Shut (exited_next r now x)
+unfolding exited_next note_exit_once note_exit close_runner_input
+exit_shut now x r f h = rw (still now (timeout_cleared r) f) (either Shut (is_over (timeout_cleared r)) (timeout_cleared r) (note_exit (timeout_cleared r) now x) h h)
 
-launch-shut : (b : Bool) (x : LaunchResult) (r : Runner) → Shut r → Shut (launchedIf b x r)
-unfolding noteLaunch noteStarted closeRunnerInput
-launch-shut false x r h = h
-launch-shut true LaunchResult.Started r h = h
-launch-shut true (LaunchResult.Failed y) r h = h
+launch_shut : (b : Bool) (x : LaunchResult) (r : Runner) → Shut r → Shut (launched_if b x r)
+unfolding note_launch note_started close_runner_input
+launch_shut false x r h = h
+launch_shut true LaunchResult.Started r h = h
+launch_shut true (LaunchResult.Failed y) r h = h
 
-wish-shut : (w : Wish) (r : Runner) → Shut r → Shut (wishEffect w r)
-unfolding wishEffect
-wish-shut Wish.None r h = h
-wish-shut (Wish.Request (Request.Terminate c)) r h = h
-wish-shut (Wish.Request (Request.Discard x)) r h = shut_at x askedOut r (h x) h
-wish-shut (Wish.Request Request.CloseInput) r h = h
-wish-shut (Wish.Request Request.Settle) r h = h
+wish_shut : (w : Wish) (r : Runner) → Shut r → Shut (wish_effect w r)
+unfolding wish_effect
+wish_shut Wish.None r h = h
+wish_shut (Wish.Request (Request.Terminate c)) r h = h
+wish_shut (Wish.Request (Request.Discard x)) r h = shut_at x asked_out r (h x) h
+wish_shut (Wish.Request Request.CloseInput) r h = h
+wish_shut (Wish.Request Request.Settle) r h = h
 
-pub shut-next : (c : Call) (s : State) → s.runner.flags.finished ≡ true → Shut s.runner → Shut (next s c).runner
-unfolding next effect creditNext inputNext endNext launchedNext outputNext discardedNext closedNext failedNext hungUpNext writtenNext closeRunnerInput settledNext
-shut-next (Call.cancel now k c) s f h = subst⁻¹ Shut (cancel-still (admits s.runner.key k) now c s.runner f) h
-shut-next (Call.launched x) s f h = launch-shut (awaitsLaunch s.runner) x s.runner h
-shut-next (Call.exited now x) s f h = exit-shut now x s.runner f h
-shut-next (Call.dropped now) s f h = subst⁻¹ Shut (detach-still now _ s.runner f) h
-shut-next (Call.reset now) s f h = subst⁻¹ Shut (detach-still now _ s.runner f) h
-shut-next (Call.disconnect now) s f h = subst⁻¹ Shut (detach-still now _ s.runner f) h
-shut-next (Call.tick now) s f h = subst⁻¹ Shut (still now s.runner f) h
-shut-next Call.nextRequest s f h = wish-shut (wish s.runner) s.runner h
-shut-next (Call.nextMessage b) s f h = rw (finished-none (length b) s.runner f) h
-shut-next (Call.output x b) s f h = on_out (λ (y : Stream) (o : Output). o.closed ≡ true) x _ s.runner.outputs (h x) (λ y d. h y)
-shut-next (Call.discarded x n) s f h = shut_at x (lostOut (ltb 0 n)) s.runner (h x) h
-shut-next (Call.outputClosed x) s f h = shut_at x closedOut s.runner refl h
-shut-next (Call.outputFailed x) s f h = shut_at x failedOut s.runner refl h
-shut-next (Call.outputHungUp x) s f h = shut_at x hungUp s.runner (h x) h
-shut-next (Call.credit k p u) s f h = h
-shut-next (Call.input k b) s f h = h
-shut-next (Call.endInput k) s f h = h
-shut-next (Call.inputWritten n) s f h = h
-shut-next (Call.settled x) s f h = h
-shut-next (Call.readAllowance x) s f h = h
-shut-next Call.inputClosed s f h = h
-shut-next Call.pendingInput s f h = h
-shut-next Call.deadline s f h = h
-shut-next Call.isFinished s f h = h
-shut-next Call.isDetached s f h = h
-shut-next Call.awaitsSettlement s f h = h
-shut-next Call.buffered s f h = h
-shut-next Call.highWater s f h = h
-shut-next Call.memoryBound s f h = h
-shut-next Call.key s f h = h
-shut-next Call.limits s f h = h
+pub shut_next : (c : Call) (s : State) → s.runner.flags.finished ≡ true → Shut s.runner → Shut (next s c).runner
+unfolding next effect credit_next input_next end_next launched_next output_next discarded_next closed_next failed_next hung_up_next written_next close_runner_input settled_next
+shut_next (Call.cancel now k c) s f h = subst⁻¹ Shut (cancel_still (admits s.runner.key k) now c s.runner f) h
+shut_next (Call.launched x) s f h = launch_shut (awaits_launch s.runner) x s.runner h
+shut_next (Call.exited now x) s f h = exit_shut now x s.runner f h
+shut_next (Call.dropped now) s f h = subst⁻¹ Shut (detach_still now _ s.runner f) h
+shut_next (Call.reset now) s f h = subst⁻¹ Shut (detach_still now _ s.runner f) h
+shut_next (Call.disconnect now) s f h = subst⁻¹ Shut (detach_still now _ s.runner f) h
+shut_next (Call.tick now) s f h = subst⁻¹ Shut (still now s.runner f) h
+shut_next Call.next_request s f h = wish_shut (wish s.runner) s.runner h
+shut_next (Call.next_message b) s f h = rw (finished_none (length b) s.runner f) h
+shut_next (Call.output x b) s f h = on_out (λ (y : Stream) (o : Output). o.closed ≡ true) x _ s.runner.outputs (h x) (λ y d. h y)
+shut_next (Call.discarded x n) s f h = shut_at x (lost_out (ltb 0 n)) s.runner (h x) h
+shut_next (Call.output_closed x) s f h = shut_at x closed_out s.runner refl h
+shut_next (Call.output_failed x) s f h = shut_at x failed_out s.runner refl h
+shut_next (Call.output_hung_up x) s f h = shut_at x hung_up s.runner (h x) h
+shut_next (Call.credit k p u) s f h = h
+shut_next (Call.input k b) s f h = h
+shut_next (Call.end_input k) s f h = h
+shut_next (Call.input_written n) s f h = h
+shut_next (Call.settled x) s f h = h
+shut_next (Call.read_allowance x) s f h = h
+shut_next Call.input_closed s f h = h
+shut_next Call.pending_input s f h = h
+shut_next Call.deadline s f h = h
+shut_next Call.is_finished s f h = h
+shut_next Call.is_detached s f h = h
+shut_next Call.awaits_settlement s f h = h
+shut_next Call.buffered s f h = h
+shut_next Call.high_water s f h = h
+shut_next Call.memory_bound s f h = h
+shut_next Call.key s f h = h
+shut_next Call.limits s f h = h

@@ -11,27 +11,27 @@ use lib.Dec.{ltb}
 use lib.ListN.{length}
 use Rattle.exec.specs.declared.Outcome.{Outcome}
 use Rattle.exec.specs.declared.Stream.{Stream}
-use Rattle.exec.specs.Outcome.{isTruncated}
-use Rattle.exec.specs.Stream.{sameStream}
+use Rattle.exec.specs.Outcome.{is_truncated}
+use Rattle.exec.specs.Stream.{same_stream}
 use Rattle.calls.specs.Call as Call
 use Rattle.calls.specs.Call.{Conf, Call, Answer, Done}
 use Rattle.account.specs.Step as Step
 use Rattle.account.specs.Step.{State}
-use Rattle.account.specs.Account.{Account, Tally, marked, adds, add, account, start, tallyOf, cut}
+use Rattle.account.specs.Account.{Account, Tally, marked, adds, add, account, start, tally_of, cut}
 use Rattle.account.specs.Claim.{Opens}
-use Rattle.account.specs.Records.{Entry, call, nextEntry, answerEntry, made, consDone, donesOf, runEntries}
-use Rattle.account.specs.TurnClaim.{Has, answerAfter}
+use Rattle.account.specs.Records.{Entry, call, next_entry, answer_entry, made, cons_done, dones_of, run_entries}
+use Rattle.account.specs.TurnClaim.{Has, answer_after}
 use Rattle.account.proofs.Plain.{answer}
-use Rattle.account.proofs.Demand.{Fine, answer-same}
+use Rattle.account.proofs.Demand.{Fine, answer_same}
 use Rattle.account.proofs.Flags.{or_left, or_right}
-use Rattle.account.proofs.Keeps.{All, Stands, add-keeps}
-use Rattle.account.proofs.Records.{Good, good-entry, good-open, whole}
-use Rattle.account.proofs.Sides.{same_self, on-each}
+use Rattle.account.proofs.Keeps.{All, Stands, add_keeps}
+use Rattle.account.proofs.Records.{Good, good_entry, good_open, whole}
+use Rattle.account.proofs.Sides.{same_self, on_each}
 use Rattle.account.proofs.Told.{tallied}
 
 module _ (x : Stream) where
   abbrev Marked : Stream → Bool → Tally → Type 0
-  Marked y k t = sameStream x y ≡ true → t.mark ≡ true
+  Marked y k t = same_stream x y ≡ true → t.mark ≡ true
 
   lasting : (c : Call) (r : Answer) → Stands Marked c r
   lasting c r = record {
@@ -45,9 +45,9 @@ module _ (x : Stream) where
 
   stays : (ds : List Done) (a : Account) → All Marked a → All Marked (account a ds)
   stays [] a p = p
-  stays (d ∷ ds) a p = stays ds (add a d.call d.answer) (add-keeps Marked d.call d.answer (lasting d.call d.answer) a p)
+  stays (d ∷ ds) a p = stays ds (add a d.call d.answer) (add_keeps Marked d.call d.answer (lasting d.call d.answer) a p)
 
-  behind : (m : Option Call) (r : Answer) (ds : List Done) → ((a : Account) → All Marked (account a ds)) → (a : Account) → All Marked (account a (consDone m r ds))
+  behind : (m : Option Call) (r : Answer) (ds : List Done) → ((a : Account) → All Marked (account a ds)) → (a : Account) → All Marked (account a (cons_done m r ds))
   behind none r ds h a = h a
   behind (some c) r ds h a = h (add a c r)
 
@@ -55,36 +55,36 @@ module _ (x : Stream) where
   abbrev pub Marks : Call → Type 0
   Marks c = (s : State) (a : Account) → Fine s → All Marked (add a c (Step.answer s c))
 
-  pub dropped-marks : (n : ℕ) → 0 < n → Marks (Call.discarded x n)
+  pub dropped_marks : (n : ℕ) → 0 < n → Marks (Call.discarded x n)
   unfolding answer add adds
-  dropped-marks n l s a f =
-      subst⁻¹ (λ (r : Answer). All Marked (add a (Call.discarded x n) r)) (answer-same s (Call.discarded x n) f)
-      (on-each (λ (y : Stream) (t : Tally). sameStream x y ≡ true → t.mark ≡ true) x (marked (ltb 0 n)) a.tallies (λ e. or_left (ltb 0 n) (tallyOf x a).mark (lt-ltb 0 n l)) (λ y d e. absurd (true≢false (sym e ∙ d))))
+  dropped_marks n l s a f =
+      subst⁻¹ (λ (r : Answer). All Marked (add a (Call.discarded x n) r)) (answer_same s (Call.discarded x n) f)
+      (on_each (λ (y : Stream) (t : Tally). same_stream x y ≡ true → t.mark ≡ true) x (marked (ltb 0 n)) a.tallies (λ e. or_left (ltb 0 n) (tally_of x a).mark (lt-ltb 0 n l)) (λ y d e. absurd (true≢false (sym e ∙ d))))
 
-  pub failed-marks : Marks (Call.outputFailed x)
+  pub failed_marks : Marks (Call.output_failed x)
   unfolding answer add adds
-  failed-marks s a f =
-      subst⁻¹ (λ (r : Answer). All Marked (add a (Call.outputFailed x) r)) (answer-same s (Call.outputFailed x) f)
-      (on-each (λ (y : Stream) (t : Tally). sameStream x y ≡ true → t.mark ≡ true) x (marked true) a.tallies (λ e. refl) (λ y d e. absurd (true≢false (sym e ∙ d))))
+  failed_marks s a f =
+      subst⁻¹ (λ (r : Answer). All Marked (add a (Call.output_failed x) r)) (answer_same s (Call.output_failed x) f)
+      (on_each (λ (y : Stream) (t : Tally). same_stream x y ≡ true → t.mark ≡ true) x (marked true) a.tallies (λ e. refl) (λ y d e. absurd (true≢false (sym e ∙ d))))
 
   -- an entry that marks x, wherever it stands
   module _ (conf : Conf) (c : Call) (marks : Marks c) where
-    all-marked : (es : List Entry) (s : State) (a : Account) → Good conf s → Has (call c) es → All Marked (account a (donesOf conf (runEntries s es)))
-    unfolding made answerEntry
-    all-marked [] s a g h = absurd h
-    all-marked (e ∷ es) s a g (inl q) =
-        subst (λ (z : Entry). All Marked (account a (donesOf conf (runEntries s (z ∷ es))))) q
-        (stays (donesOf conf (runEntries (nextEntry s (call c)) es)) (add a c (Step.answer s c)) (marks s a g.fine))
-    all-marked (e ∷ es) s a g (inr h) =
-        behind (made conf e (answerEntry s e)) (answerEntry s e) (donesOf conf (runEntries (nextEntry s e) es)) (λ b. all-marked es (nextEntry s e) b (good-entry conf e s g) h) a
+    all_marked : (es : List Entry) (s : State) (a : Account) → Good conf s → Has (call c) es → All Marked (account a (dones_of conf (run_entries s es)))
+    unfolding made answer_entry
+    all_marked [] s a g h = absurd h
+    all_marked (e ∷ es) s a g (inl q) =
+        subst (λ (z : Entry). All Marked (account a (dones_of conf (run_entries s (z ∷ es))))) q
+        (stays (dones_of conf (run_entries (next_entry s (call c)) es)) (add a c (Step.answer s c)) (marks s a g.fine))
+    all_marked (e ∷ es) s a g (inr h) =
+        behind (made conf e (answer_entry s e)) (answer_entry s e) (dones_of conf (run_entries (next_entry s e) es)) (λ b. all_marked es (next_entry s e) b (good_entry conf e s g) h) a
 
-marked-cut : (t : Tally) → t.mark ≡ true → cut t ≡ true
+marked_cut : (t : Tally) → t.mark ≡ true → cut t ≡ true
 unfolding cut
-marked-cut t e = or_right (ltb (length t.sent) (length t.taken)) t.mark e
+marked_cut t e = or_right (ltb (length t.sent) (length t.taken)) t.mark e
 
 module _ (conf : Conf) (now : ℕ) (bytes lengths : List ℕ) (op : Opens conf now bytes lengths) where
   pub spared : (es : List Entry) (e : Entry) (o : Outcome) (x : Stream) (c : Call) → Marks x c
-      → answerAfter conf now bytes lengths es e ≡ Call.Says (Call.Terminal o) → isTruncated o x ≡ false → Has (call c) es → ⊥
+      → answer_after conf now bytes lengths es e ≡ Call.Says (Call.Terminal o) → is_truncated o x ≡ false → Has (call c) es → ⊥
   spared es e o x c marks t u h =
-      true≢false (sym (marked-cut (tallied conf now bytes lengths es x) (all-marked x conf c marks es (Step.opened conf now bytes lengths) (start conf now) (good-open conf now bytes lengths op) h x (same_self x)))
+      true≢false (sym (marked_cut (tallied conf now bytes lengths es x) (all_marked x conf c marks es (Step.opened conf now bytes lengths) (start conf now) (good_open conf now bytes lengths op) h x (same_self x)))
       ∙ sym ((whole conf now bytes lengths op).marks es e o t x) ∙ u)

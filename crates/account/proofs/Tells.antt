@@ -11,30 +11,30 @@ use Rattle.runner.specs.declared.runner.Runner.{Runner}
 use Rattle.runner.specs.Message.{payload}
 use Rattle.calls.specs.Call as Call
 use Rattle.calls.specs.Call.{Conf, Call, Answer, count}
-use Rattle.account.specs.Account.{Account, Tally, takenBy, sentBy, add, adds, tallyOf}
-use Rattle.account.specs.Claim.{isMessage}
+use Rattle.account.specs.Account.{Account, Tally, taken_by, sent_by, add, adds, tally_of}
+use Rattle.account.specs.Claim.{is_message}
 use Rattle.account.specs.TurnClaim.{offered, carried}
 use Rattle.account.proofs.Plain.{said}
-use Rattle.account.proofs.Sides.{same_self, on-each}
-use Rattle.account.proofs.Keeps.{All, add-keeps}
+use Rattle.account.proofs.Sides.{same_self, on_each}
+use Rattle.account.proofs.Keeps.{All, add_keeps}
 
 -- ---- a call that takes nothing and says no Output
 
-pub take-zero : (n : ℕ) (b : List ℕ) → n ≡ 0 → take n b ≡ []
-take-zero n b e = rw e refl
+pub take_zero : (n : ℕ) (b : List ℕ) → n ≡ 0 → take n b ≡ []
+take_zero n b e = rw e refl
 
-take-nil : (n : ℕ) → take {A = ℕ} n [] ≡ []
-take-nil zero = refl
-take-nil (suc n) = refl
+take_nil : (n : ℕ) → take {A = ℕ} n [] ≡ []
+take_nil zero = refl
+take_nil (suc n) = refl
 
 -- what was taken and sent by the account z is as it was
 module _ (z : Account) where
   abbrev pub Same : Stream → Bool → Tally → Type 0
-  Same x k t = (t.taken ≡ (tallyOf x z).taken) × (t.sent ≡ (tallyOf x z).sent)
+  Same x k t = (t.taken ≡ (tally_of x z).taken) × (t.sent ≡ (tally_of x z).sent)
 
   pub quiet_same : (c : Call) (r : Answer) (a : Account) → ((x : Stream) (b : List ℕ) → c ≡ Call.output x b → take (count r) b ≡ [])
       → ((x : Stream) (b : List ℕ) → r ≡ Call.Says (Call.Output x b) → ⊥) → All Same a → All Same (add a c r)
-  quiet_same c r a g m h = add-keeps Same c r (record {
+  quiet_same c r a g m h = add_keeps Same c r (record {
     marks = λ x b k t p. p;
     lost = λ x k t p. p;
     fails = λ x k t d p. p;
@@ -48,10 +48,10 @@ module _ (z : Account) where
 -- the call c with the answer r, and so the tally t from that of z: what was offered and taken is added, and what was carried
 module _ (z : Account) (c : Call) (r : Answer) where
   abbrev pub Told : Stream → Tally → Type 0
-  Told x t = (t.taken ≡ (tallyOf x z).taken ++ take (count r) (offered x c)) × (t.sent ≡ (tallyOf x z).sent ++ carried x r)
+  Told x t = (t.taken ≡ (tally_of x z).taken ++ take (count r) (offered x c)) × (t.sent ≡ (tally_of x z).sent ++ carried x r)
 
   abbrev pub Tells : Type 0
-  Tells = (x : Stream) → Told x (tallyOf x (add z c r))
+  Tells = (x : Stream) → Told x (tally_of x (add z c r))
 
 -- a call that offers nothing, or output
 pub data Offers : Call → Type 0 where
@@ -60,22 +60,22 @@ pub data Offers : Call → Type 0 where
 
 pub offers : (c : Call) → Offers c
 offers (Call.output x b) = gives x b
-offers (Call.nextMessage b) = silent (λ x. refl)
+offers (Call.next_message b) = silent (λ x. refl)
 offers Call.key = silent (λ x. refl)
 offers Call.limits = silent (λ x. refl)
 offers (Call.credit k p u) = silent (λ x. refl)
 offers (Call.input k b) = silent (λ x. refl)
-offers (Call.endInput k) = silent (λ x. refl)
+offers (Call.end_input k) = silent (λ x. refl)
 offers (Call.cancel now k y) = silent (λ x. refl)
 offers (Call.launched y) = silent (λ x. refl)
-offers (Call.readAllowance y) = silent (λ x. refl)
+offers (Call.read_allowance y) = silent (λ x. refl)
 offers (Call.discarded y n) = silent (λ x. refl)
-offers (Call.outputClosed y) = silent (λ x. refl)
-offers (Call.outputFailed y) = silent (λ x. refl)
-offers (Call.outputHungUp y) = silent (λ x. refl)
-offers Call.pendingInput = silent (λ x. refl)
-offers (Call.inputWritten n) = silent (λ x. refl)
-offers Call.inputClosed = silent (λ x. refl)
+offers (Call.output_closed y) = silent (λ x. refl)
+offers (Call.output_failed y) = silent (λ x. refl)
+offers (Call.output_hung_up y) = silent (λ x. refl)
+offers Call.pending_input = silent (λ x. refl)
+offers (Call.input_written n) = silent (λ x. refl)
+offers Call.input_closed = silent (λ x. refl)
 offers (Call.exited now y) = silent (λ x. refl)
 offers (Call.settled y) = silent (λ x. refl)
 offers (Call.dropped now) = silent (λ x. refl)
@@ -83,61 +83,61 @@ offers (Call.reset now) = silent (λ x. refl)
 offers (Call.disconnect now) = silent (λ x. refl)
 offers (Call.tick now) = silent (λ x. refl)
 offers Call.deadline = silent (λ x. refl)
-offers Call.nextRequest = silent (λ x. refl)
-offers Call.isFinished = silent (λ x. refl)
-offers Call.isDetached = silent (λ x. refl)
-offers Call.awaitsSettlement = silent (λ x. refl)
-offers Call.memoryBound = silent (λ x. refl)
+offers Call.next_request = silent (λ x. refl)
+offers Call.is_finished = silent (λ x. refl)
+offers Call.is_detached = silent (λ x. refl)
+offers Call.awaits_settlement = silent (λ x. refl)
+offers Call.memory_bound = silent (λ x. refl)
 offers Call.buffered = silent (λ x. refl)
-offers Call.highWater = silent (λ x. refl)
+offers Call.high_water = silent (λ x. refl)
 
 no_bytes : (c : Call) (r : Answer) → ((x : Stream) → offered x c ≡ []) → (x : Stream) (b : List ℕ) → c ≡ Call.output x b → take (count r) b ≡ []
 no_bytes c r h x b e =
     let o : offered x (Call.output x b) ≡ b = rw (same_self x) refl in
-    ap (take (count r)) (sym o ∙ ap (offered x) (sym e) ∙ h x) ∙ take-nil (count r)
+    ap (take (count r)) (sym o ∙ ap (offered x) (sym e) ∙ h x) ∙ take_nil (count r)
 
-pub quiet-carries : (r : Answer) (x : Stream) → isMessage r ≡ false → carried x r ≡ []
-quiet-carries Call.Ok x e = refl
-quiet-carries Call.Applied x e = refl
-quiet-carries Call.Stale x e = refl
-quiet-carries Call.Late x e = refl
-quiet-carries (Call.Refused n) x e = refl
-quiet-carries (Call.Taken n) x e = refl
-quiet-carries (Call.Pending b) x e = refl
-quiet-carries (Call.Value n) x e = refl
-quiet-carries (Call.Time d) x e = refl
-quiet-carries (Call.Truth b) x e = refl
-quiet-carries (Call.Asks q) x e = refl
-quiet-carries (Call.Says m) x e = absurd (true≢false e)
-quiet-carries (Call.IsKey k) x e = refl
-quiet-carries (Call.AreLimits l) x e = refl
-quiet-carries Call.Nothing x e = refl
+pub quiet_carries : (r : Answer) (x : Stream) → is_message r ≡ false → carried x r ≡ []
+quiet_carries Call.Ok x e = refl
+quiet_carries Call.Applied x e = refl
+quiet_carries Call.Stale x e = refl
+quiet_carries Call.Late x e = refl
+quiet_carries (Call.Refused n) x e = refl
+quiet_carries (Call.Taken n) x e = refl
+quiet_carries (Call.Pending b) x e = refl
+quiet_carries (Call.Value n) x e = refl
+quiet_carries (Call.Time d) x e = refl
+quiet_carries (Call.Truth b) x e = refl
+quiet_carries (Call.Asks q) x e = refl
+quiet_carries (Call.Says m) x e = absurd (true≢false e)
+quiet_carries (Call.IsKey k) x e = refl
+quiet_carries (Call.AreLimits l) x e = refl
+quiet_carries Call.Nothing x e = refl
 
 -- the same, and nothing added
-none-added : (t s l : List ℕ) → t ≡ s → l ≡ [] → t ≡ s ++ l
-none-added t s l e n = e ∙ sym (append-nil s) ∙ ap (λ (q : List ℕ). s ++ q) (sym n)
+none_added : (t s l : List ℕ) → t ≡ s → l ≡ [] → t ≡ s ++ l
+none_added t s l e n = e ∙ sym (append-nil s) ∙ ap (λ (q : List ℕ). s ++ q) (sym n)
 
-pub quiet_told : (c : Call) (r : Answer) (z : Account) → ((x : Stream) → offered x c ≡ []) → isMessage r ≡ false → Tells z c r
+pub quiet_told : (c : Call) (r : Answer) (z : Account) → ((x : Stream) → offered x c ≡ []) → is_message r ≡ false → Tells z c r
 quiet_told c r z o q x =
-    let h = quiet_same z c r z (no_bytes c r o) (λ y b e. true≢false (sym (ap isMessage e) ∙ q)) (λ y. (refl, refl)) x in
-    (none-added _ _ _ h.0 (ap (take (count r)) (o x) ∙ take-nil (count r)), none-added _ _ _ h.1 (quiet-carries r x q))
+    let h = quiet_same z c r z (no_bytes c r o) (λ y b e. true≢false (sym (ap is_message e) ∙ q)) (λ y. (refl, refl)) x in
+    (none_added _ _ _ h.0 (ap (take (count r)) (o x) ∙ take_nil (count r)), none_added _ _ _ h.1 (quiet_carries r x q))
 
-pub output-told : (y : Stream) (b : List ℕ) (n : ℕ) (z : Account) → Tells z (Call.output y b) (Call.Taken n)
+pub output_told : (y : Stream) (b : List ℕ) (n : ℕ) (z : Account) → Tells z (Call.output y b) (Call.Taken n)
 unfolding add adds
-output-told y b n z =
-    on-each (Told z (Call.output y b) (Call.Taken n)) y (takenBy (take n b)) z.tallies
+output_told y b n z =
+    on_each (Told z (Call.output y b) (Call.Taken n)) y (taken_by (take n b)) z.tallies
     (rw (same_self y) (refl, sym (append-nil _)))
-    (λ x d. rw d (none-added _ _ _ refl (take-nil n), sym (append-nil _)))
+    (λ x d. rw d (none_added _ _ _ refl (take_nil n), sym (append-nil _)))
 
-pub said-told : (m : Choice) (b : List ℕ) (s : Runner) (store : List ℕ) (z : Account) → Tells z (Call.nextMessage b) (said m s store)
+pub said_told : (m : Choice) (b : List ℕ) (s : Runner) (store : List ℕ) (z : Account) → Tells z (Call.next_message b) (said m s store)
 unfolding said add adds
-said-told Choice.None b s store z x = (sym (append-nil _), sym (append-nil _))
-said-told Choice.Credit b s store z x = (sym (append-nil _), sym (append-nil _))
-said-told Choice.Started b s store z x = (sym (append-nil _), sym (append-nil _))
-said-told Choice.InputClosed b s store z x = (sym (append-nil _), sym (append-nil _))
-said-told (Choice.End y) b s store z x = (sym (append-nil _), sym (append-nil _))
-said-told (Choice.Output y n) b s store z x =
-    on-each (Told z (Call.nextMessage b) (Call.Says (Call.Output y (payload s y n store)))) y (sentBy (payload s y n store)) z.tallies
+said_told Choice.None b s store z x = (sym (append-nil _), sym (append-nil _))
+said_told Choice.Credit b s store z x = (sym (append-nil _), sym (append-nil _))
+said_told Choice.Started b s store z x = (sym (append-nil _), sym (append-nil _))
+said_told Choice.InputClosed b s store z x = (sym (append-nil _), sym (append-nil _))
+said_told (Choice.End y) b s store z x = (sym (append-nil _), sym (append-nil _))
+said_told (Choice.Output y n) b s store z x =
+    on_each (Told z (Call.next_message b) (Call.Says (Call.Output y (payload s y n store)))) y (sent_by (payload s y n store)) z.tallies
     (rw (same_self y) (sym (append-nil _), refl))
     (λ x d. rw d (sym (append-nil _), sym (append-nil _))) x
-said-told Choice.Terminal b s store z x = (sym (append-nil _), sym (append-nil _))
+said_told Choice.Terminal b s store z x = (sym (append-nil _), sym (append-nil _))

@@ -8,18 +8,18 @@ use Rattle.exec.specs.declared.Cause.TheVariants as Cause
 use Rattle.exec.specs.declared.LaunchResult.TheVariants as LaunchResult
 use Rattle.exec.specs.declared.Stream.TheVariants.{Stdout, Stderr}
 use Rattle.exec.specs.Key.{admits}
-use Rattle.choice.specs.Order.{ifElse, order}
-use Rattle.runner.specs.Life.{closeRunnerInput, endGrace, giveUp, abandonLaunch, abandonOpenStreams, beginTermination, passGrace, terminate, passTimeout, passSettlement, giveUpUnlessClean, passGiveUp, dropLaunch, dropStreams, passAbandonment, fire, ticked, cancelled, cancelAnswer, cancelNext, noteStarted, noteLaunch, launchedNext, isReady, outcomeOf}
-use Rattle.runner.specs.Message.{sendableOf, choose, outputPaid, outputSent, effect, payload}
+use Rattle.choice.specs.Order.{if_else, order}
+use Rattle.runner.specs.Life.{close_runner_input, end_grace, give_up, abandon_launch, abandon_open_streams, begin_termination, pass_grace, terminate, pass_timeout, pass_settlement, give_up_unless_clean, pass_give_up, drop_launch, drop_streams, pass_abandonment, fire, ticked, cancelled, cancel_answer, cancel_next, note_started, note_launch, launched_next, is_ready, outcome_of}
+use Rattle.runner.specs.Message.{sendable_of, choose, output_paid, output_sent, effect, payload}
 use Rattle.runner.specs.Range.{fresh}
 use Rattle.output.specs.Output.{sent}
 use Rattle.calls.specs.Call as Call
 use Rattle.calls.specs.Call.{Call, Answer}
-use Rattle.account.specs.Claim.{anyTerminal, messages}
+use Rattle.account.specs.Claim.{any_terminal, messages}
 use Rattle.account.specs.Step as Step
 use Rattle.account.proofs.Plain.{said, next, answer, begun, run}
-use Rattle.account.proofs.Demand.{same-run}
-use Rattle.account.proofs.Session.{conf, message, cutShort, answersOf, open-ok}
+use Rattle.account.proofs.Demand.{same_run}
+use Rattle.account.proofs.Session.{conf, message, cut_short, answers_of, open_ok}
 
 -- the launch is reported and the Credit sent; then a cancel at 20, and the tick at 20 + 10 + 5
 abbrev pub before : List Call
@@ -37,23 +37,23 @@ answers = Call.Says (Call.Credit 8)
     ∷ Call.Says Call.InputClosed
     ∷ Call.Says (Call.End Stdout)
     ∷ Call.Says (Call.End Stderr)
-    ∷ Call.Says (Call.Terminal cutShort)
+    ∷ Call.Says (Call.Terminal cut_short)
     ∷ []
 
-computed : (bytes lengths : List ℕ) → answersOf (run (begun conf 0 bytes lengths) (before ++ (four ++ (message ∷ [])))) ≡ answers
-unfolding next answer said admits ifElse closeRunnerInput endGrace giveUp abandonLaunch abandonOpenStreams beginTermination passGrace terminate passTimeout passSettlement giveUpUnlessClean passGiveUp dropLaunch dropStreams passAbandonment fire ticked cancelled cancelAnswer cancelNext noteStarted noteLaunch launchedNext isReady outcomeOf sendableOf order choose outputPaid outputSent effect payload fresh sent
+computed : (bytes lengths : List ℕ) → answers_of (run (begun conf 0 bytes lengths) (before ++ (four ++ (message ∷ [])))) ≡ answers
+unfolding next answer said admits if_else close_runner_input end_grace give_up abandon_launch abandon_open_streams begin_termination pass_grace terminate pass_timeout pass_settlement give_up_unless_clean pass_give_up drop_launch drop_streams pass_abandonment fire ticked cancelled cancel_answer cancel_next note_started note_launch launched_next is_ready outcome_of sendable_of order choose output_paid output_sent effect payload fresh sent
 computed bytes lengths = refl
 
-none : (bytes lengths : List ℕ) → anyTerminal (run (begun conf 0 bytes lengths) (before ++ four)) ≡ false
-unfolding next answer said admits ifElse closeRunnerInput endGrace giveUp abandonLaunch abandonOpenStreams beginTermination passGrace terminate passTimeout passSettlement giveUpUnlessClean passGiveUp dropLaunch dropStreams passAbandonment fire ticked cancelled cancelAnswer cancelNext noteStarted noteLaunch launchedNext isReady outcomeOf sendableOf order choose outputPaid outputSent effect payload fresh sent
+none : (bytes lengths : List ℕ) → any_terminal (run (begun conf 0 bytes lengths) (before ++ four)) ≡ false
+unfolding next answer said admits if_else close_runner_input end_grace give_up abandon_launch abandon_open_streams begin_termination pass_grace terminate pass_timeout pass_settlement give_up_unless_clean pass_give_up drop_launch drop_streams pass_abandonment fire ticked cancelled cancel_answer cancel_next note_started note_launch launched_next is_ready outcome_of sendable_of order choose output_paid output_sent effect payload fresh sent
 none bytes lengths = refl
 
 -- the answers: Terminal is the fifth message after the tick
 pub fifth : (bytes lengths : List ℕ) → 16 ≤ length bytes
-    → answersOf (Step.run (Step.opened conf 0 bytes lengths) (before ++ (four ++ (message ∷ [])))) ≡ answers
-fifth bytes lengths h = ap answersOf (same-run conf 0 bytes lengths (open-ok bytes lengths h) (before ++ (four ++ (message ∷ [])))) ∙ computed bytes lengths
+    → answers_of (Step.run (Step.opened conf 0 bytes lengths) (before ++ (four ++ (message ∷ [])))) ≡ answers
+fifth bytes lengths h = ap answers_of (same_run conf 0 bytes lengths (open_ok bytes lengths h) (before ++ (four ++ (message ∷ [])))) ∙ computed bytes lengths
 
 -- so four next_messages do not do
-pub not-four : (bytes lengths : List ℕ) → 16 ≤ length bytes
-    → (messages four ≡ 4) × (anyTerminal (Step.run (Step.opened conf 0 bytes lengths) (before ++ four)) ≡ false)
-not-four bytes lengths h = (refl, ap anyTerminal (same-run conf 0 bytes lengths (open-ok bytes lengths h) (before ++ four)) ∙ none bytes lengths)
+pub not_four : (bytes lengths : List ℕ) → 16 ≤ length bytes
+    → (messages four ≡ 4) × (any_terminal (Step.run (Step.opened conf 0 bytes lengths) (before ++ four)) ≡ false)
+not_four bytes lengths h = (refl, ap any_terminal (same_run conf 0 bytes lengths (open_ok bytes lengths h) (before ++ four)) ∙ none bytes lengths)

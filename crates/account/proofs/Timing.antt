@@ -22,24 +22,24 @@ use Rattle.exec.specs.declared.Deadline.{Deadline}
 use Rattle.exec.specs.declared.Deadline.TheVariants.{Never}
 use Rattle.exec.specs.Time.{earliest, due}
 use Rattle.exec.specs.Key.{admits}
-use Rattle.lifecycle.specs.Life.{exitKnown, isFenced}
-use Rattle.lifecycle.specs.Setters.{setTimeoutAt}
-use Rattle.input.specs.Input.{closeInput, closeWhenTaken, popIn, endInput, receiveInput, writtenInput}
-use Rattle.output.specs.Output.{abandoned, closedOut, failedOut, hungUp, lostOut, endedOut, askedOut, sentOut}
-use Rattle.output.specs.Outputs.{putOutput}
-use Rattle.runner.specs.State.{withClocks, withInput, withOutputs, withFlow, outOf, at}
+use Rattle.lifecycle.specs.Life.{exit_known, is_fenced}
+use Rattle.lifecycle.specs.Setters.{set_timeout_at}
+use Rattle.input.specs.Input.{close_input, close_when_taken, pop_in, end_input, receive_input, written_input}
+use Rattle.output.specs.Output.{abandoned, closed_out, failed_out, hung_up, lost_out, ended_out, asked_out, sent_out}
+use Rattle.output.specs.Outputs.{put_output}
+use Rattle.runner.specs.State.{with_clocks, with_input, with_outputs, with_flow, out_of, at}
 use Rattle.runner.specs.Life as Life
-use Rattle.runner.specs.Life.{awaitsLaunch, isCleanedUp, closeRunnerInput, endGrace, giveUp, abandonLaunch, abandonOpenStreams, terminate, dropLaunch, ticked, noteStarted, noteLaunch, launchedNext, settledNext, noteExit, noteExitOnce, exitedNext, silenced, giveUpSoon, cutOff, cutOffOnce, detachNext}
-use Rattle.runner.specs.Streams.{room, outputFilled, outputNext, discardedNext, closedNext, failedNext, hungUpNext, creditNext, isTaken, inputReceived, inputNext, endNext, writtenNext}
-use Rattle.runner.specs.Message.{choose, plain, outputPaid, outputSent, effect, wish, handed, wishEffect}
+use Rattle.runner.specs.Life.{awaits_launch, is_cleaned_up, close_runner_input, end_grace, give_up, abandon_launch, abandon_open_streams, terminate, drop_launch, ticked, note_started, note_launch, launched_next, settled_next, note_exit, note_exit_once, exited_next, silenced, give_up_soon, cut_off, cut_off_once, detach_next}
+use Rattle.runner.specs.Streams.{room, output_filled, output_next, discarded_next, closed_next, failed_next, hung_up_next, credit_next, is_taken, input_received, input_next, end_next, written_next}
+use Rattle.runner.specs.Message.{choose, plain, output_paid, output_sent, effect, wish, handed, wish_effect}
 use Rattle.calls.specs.Call.{Call}
 use Rattle.account.specs.Step.{State}
 use Rattle.account.proofs.Plain.{next}
-use Rattle.account.proofs.Stages.{graceIf, terminateIf, timeoutIf, giveUpIf, dropLaunchIf, abandonStreamsIf, abandonIf, stage1, stage2, stage3, stage4, stage5, tickIf, tick_is, cancelIf, late, detachedNow, detachIf, exitedIf, launchedIf, cancelNext}
+use Rattle.account.proofs.Stages.{grace_if, terminate_if, timeout_if, give_up_if, drop_launch_if, abandon_streams_if, abandon_if, stage1, stage2, stage3, stage4, stage5, tick_if, tick_is, cancel_if, late, detached_now, detach_if, exited_if, launched_if, cancel_next}
 use Rattle.account.proofs.Streams.{wider}
-use Rattle.account.proofs.Sides.{out-each, on_out}
+use Rattle.account.proofs.Sides.{out_each, on_out}
 use Rattle.account.proofs.Flags.{or_left}
-use Rattle.account.proofs.Phase.{Either, left, right, Empty, bit, AllKnown, Phase, left_over, over-overdue, reported-over, cleaned-known, known-given, dry-given, dry-grace, known-grace, InKept, OutKept, kept-asked, kept-end, kept_send, kept-discard, kept-close, kept-fail, kept-hang, kept-intake, kept_if, kept-ended, kept-written, on-right, not_right}
+use Rattle.account.proofs.Phase.{Either, left, right, Empty, bit, AllKnown, Phase, left_over, over_overdue, reported_over, cleaned_known, known_given, dry_given, dry_grace, known_grace, InKept, OutKept, kept_asked, kept_end, kept_send, kept_discard, kept_close, kept_fail, kept_hang, kept_intake, kept_if, kept_ended, kept_written, on_right, not_right}
 
 module _ (P : Deadline → Type 0) (lower : (d e : Deadline) → P d → P (earliest d e)) where
   pub record Low (s t : Runner) : Type 0 where
@@ -52,247 +52,247 @@ module _ (P : Deadline → Type 0) (lower : (d e : Deadline) → P d → P (earl
   then : {s t u : Runner} → Low s t → (Phase P t → Low t u) → Low s u
   then {s} {t} {u} a f = let b = f a.hold in record { hold = b.hold; less = λ n. (let x = a.less n in let y = b.less n in omega arith) }
 
-  pub low-grace : (b : Bool) (s : Runner) → Phase P s → Low s (graceIf b s)
-  unfolding endGrace
-  low-grace false s h = same h
-  low-grace true s h = record {
-    hold = (h.0, h.1, right (dry-grace s), on-right (known-grace s) h.3);
+  pub low_grace : (b : Bool) (s : Runner) → Phase P s → Low s (grace_if b s)
+  unfolding end_grace
+  low_grace false s h = same h
+  low_grace true s h = record {
+    hold = (h.0, h.1, right (dry_grace s), on_right (known_grace s) h.3);
     less = λ n. le_refl (left_over s);
   }
 
-  pub low-terminate : (now : ℕ) (c : Cause) (s : Runner) → Phase P s → Low s (terminate s now c)
+  pub low_terminate : (now : ℕ) (c : Cause) (s : Runner) → Phase P s → Low s (terminate s now c)
   unfolding terminate
-  low-terminate now c s h = subst⁻¹ (λ (b : Bool). Low s (terminateIf b now c s)) h.1 (same h)
+  low_terminate now c s h = subst⁻¹ (λ (b : Bool). Low s (terminate_if b now c s)) h.1 (same h)
 
-  pub low-timeout : (b : Bool) (now : ℕ) (s : Runner) → Phase P s → Low s (timeoutIf b now s)
-  low-timeout false now s h = same h
-  low-timeout true now s h = then (record { hold = h; less = λ n. le_refl (left_over s) }) (low-terminate now Cause.TimedOut (withClocks (setTimeoutAt Never s.clocks) s))
+  pub low_timeout : (b : Bool) (now : ℕ) (s : Runner) → Phase P s → Low s (timeout_if b now s)
+  low_timeout false now s h = same h
+  low_timeout true now s h = then (record { hold = h; less = λ n. le_refl (left_over s) }) (low_terminate now Cause.TimedOut (with_clocks (set_timeout_at Never s.clocks) s))
 
-  pub low-settle : (now : ℕ) (s : Runner) → Phase P s → Low s (stage3 now s)
-  low-settle now s h = record {
-    hold = (h.0, h.1, h.2, on-right (λ d. record { launch = d.launch; exit = d.exit; closed = d.closed; settled = over-overdue now s.life.settling d.settled }) h.3);
+  pub low_settle : (now : ℕ) (s : Runner) → Phase P s → Low s (stage3 now s)
+  low_settle now s h = record {
+    hold = (h.0, h.1, h.2, on_right (λ d. record { launch = d.launch; exit = d.exit; closed = d.closed; settled = over_overdue now s.life.settling d.settled }) h.3);
     less = λ n. le_refl (left_over s);
   }
 
-  pub low-giveUp : (b c : Bool) (s : Runner) → isCleanedUp s ≡ c → Phase P s → Low s (giveUpIf b c s)
-  unfolding giveUp
-  low-giveUp false c s e h = same h
-  low-giveUp true true s e h = record { hold = (h.0, h.1, h.2, right (cleaned-known s e)); less = λ n. le_refl (left_over s) }
-  low-giveUp true false s e h = record { hold = (h.0, h.1, right (dry-given s), right (known-given s)); less = λ n. le_refl (left_over s) }
+  pub low_give_up : (b c : Bool) (s : Runner) → is_cleaned_up s ≡ c → Phase P s → Low s (give_up_if b c s)
+  unfolding give_up
+  low_give_up false c s e h = same h
+  low_give_up true true s e h = record { hold = (h.0, h.1, h.2, right (cleaned_known s e)); less = λ n. le_refl (left_over s) }
+  low_give_up true false s e h = record { hold = (h.0, h.1, right (dry_given s), right (known_given s)); less = λ n. le_refl (left_over s) }
 
-  low-left-if : (b : Bool) (s : Runner) → awaitsLaunch s ≡ b → Phase P s → Low s (dropLaunchIf b s)
-  unfolding abandonLaunch
-  low-left-if true s e h = record { hold = (h.0, h.1, h.2, not_right (λ d. true≢false (sym e ∙ d.launch)) h.3); less = λ n. le_refl (left_over s) }
-  low-left-if false s e h = same h
+  low_left_if : (b : Bool) (s : Runner) → awaits_launch s ≡ b → Phase P s → Low s (drop_launch_if b s)
+  unfolding abandon_launch
+  low_left_if true s e h = record { hold = (h.0, h.1, h.2, not_right (λ d. true≢false (sym e ∙ d.launch)) h.3); less = λ n. le_refl (left_over s) }
+  low_left_if false s e h = same h
 
-  low-left : (s : Runner) → Phase P s → Low s (dropLaunch s)
-  unfolding dropLaunch
-  low-left s h = low-left-if (awaitsLaunch s) s refl h
+  low_left : (s : Runner) → Phase P s → Low s (drop_launch s)
+  unfolding drop_launch
+  low_left s h = low_left_if (awaits_launch s) s refl h
 
-  low-streams : (b : Bool) (s : Runner) → Phase P s → Low s (abandonStreamsIf b s)
-  unfolding abandonOpenStreams
-  low-streams false s h = same h
-  low-streams true s h = record {
+  low_streams : (b : Bool) (s : Runner) → Phase P s → Low s (abandon_streams_if b s)
+  unfolding abandon_open_streams
+  low_streams false s h = same h
+  low_streams true s h = record {
     hold = (
       h.0,
       h.1,
-      on-right (λ d x. rw (out-each abandoned s.outputs x) (record { none = (d x).none; stop = wider (outOf x s).closed (outOf x s).hung_up (outOf x s).discarding (d x).stop })) h.2,
-      on-right (λ d. record { launch = d.launch; exit = d.exit; closed = λ x. ap (λ (o : Output). o.closed) (out-each abandoned s.outputs x) ∙ or_left (outOf x s).closed _ (d.closed x); settled = d.settled }) h.3,
+      on_right (λ d x. rw (out_each abandoned s.outputs x) (record { none = (d x).none; stop = wider (out_of x s).closed (out_of x s).hung_up (out_of x s).discarding (d x).stop })) h.2,
+      on_right (λ d. record { launch = d.launch; exit = d.exit; closed = λ x. ap (λ (o : Output). o.closed) (out_each abandoned s.outputs x) ∙ or_left (out_of x s).closed _ (d.closed x); settled = d.settled }) h.3,
     );
     less = λ n. le_refl (left_over s);
   }
 
-  pub low-abandon : (b : Bool) (s : Runner) → Phase P s → Low s (abandonIf b s)
-  low-abandon false s h = same h
-  low-abandon true s h = then (low-left s h) (low-streams (isFenced (dropLaunch s).life.settling) (dropLaunch s))
+  pub low_abandon : (b : Bool) (s : Runner) → Phase P s → Low s (abandon_if b s)
+  low_abandon false s h = same h
+  low_abandon true s h = then (low_left s h) (low_streams (is_fenced (drop_launch s).life.settling) (drop_launch s))
 
-  pub low-tick : (f : Bool) (now : ℕ) (s : Runner) → Phase P s → Low s (tickIf f now s)
-  low-tick true now s h = same h
-  low-tick false now s h =
+  pub low_tick : (f : Bool) (now : ℕ) (s : Runner) → Phase P s → Low s (tick_if f now s)
+  low_tick true now s h = same h
+  low_tick false now s h =
       let s1 : Runner = stage1 now s in let s2 : Runner = stage2 now s1 in let s3 : Runner = stage3 now s2 in let s4 : Runner = stage4 now s3 in
       then {s = s} {t = s4} {u = stage5 now s4}
       (then {s = s} {t = s3} {u = s4}
       (then {s = s} {t = s2} {u = s3}
-      (then {s = s} {t = s1} {u = s2} (low-timeout (due s.clocks.timeout_at now) now s h) (low-grace (due s1.clocks.grace_until now) s1))
-      (low-settle now s2))
-      (low-giveUp (due s3.clocks.give_up_at now) (isCleanedUp s3) s3 refl))
-      (low-abandon (due s4.clocks.abandon_at now) s4)
+      (then {s = s} {t = s1} {u = s2} (low_timeout (due s.clocks.timeout_at now) now s h) (low_grace (due s1.clocks.grace_until now) s1))
+      (low_settle now s2))
+      (low_give_up (due s3.clocks.give_up_at now) (is_cleaned_up s3) s3 refl))
+      (low_abandon (due s4.clocks.abandon_at now) s4)
 
-  pub low-ticked : (now : ℕ) (s : Runner) → Phase P s → Low s (ticked s now)
-  low-ticked now s h = subst⁻¹ (λ (t : Runner). Low s t) (tick_is s now) (low-tick s.flags.finished now s h)
+  pub low_ticked : (now : ℕ) (s : Runner) → Phase P s → Low s (ticked s now)
+  low_ticked now s h = subst⁻¹ (λ (t : Runner). Low s t) (tick_is s now) (low_tick s.flags.finished now s h)
 
-  pub low-cancelIf : (b : Bool) (now : ℕ) (c : Cause) (s : Runner) → Phase P s → Low s (cancelIf b now c s)
-  low-cancelIf true now c s h = same h
-  low-cancelIf false now c s h = low-terminate now c s h
+  pub low_cancel_if : (b : Bool) (now : ℕ) (c : Cause) (s : Runner) → Phase P s → Low s (cancel_if b now c s)
+  low_cancel_if true now c s h = same h
+  low_cancel_if false now c s h = low_terminate now c s h
 
-  low-cancel : (k : Admission) (now : ℕ) (c : Cause) (s : Runner) → Phase P s → Low s (cancelNext k now c s)
-  unfolding Life.cancelNext
-  low-cancel Admission.Own now c s h =
-      then {s = s} {t = ticked s now} {u = cancelIf (late (ticked s now)) now c (ticked s now)} (low-ticked now s h) (low-cancelIf (late (ticked s now)) now c (ticked s now))
-  low-cancel Admission.Stale now c s h = same h
-  low-cancel (Admission.Refused z) now c s h = same h
+  low_cancel : (k : Admission) (now : ℕ) (c : Cause) (s : Runner) → Phase P s → Low s (cancel_next k now c s)
+  unfolding Life.cancel_next
+  low_cancel Admission.Own now c s h =
+      then {s = s} {t = ticked s now} {u = cancel_if (late (ticked s now)) now c (ticked s now)} (low_ticked now s h) (low_cancel_if (late (ticked s now)) now c (ticked s now))
+  low_cancel Admission.Stale now c s h = same h
+  low_cancel (Admission.Refused z) now c s h = same h
 
-  pub low-detachedNow : (now : ℕ) (s : Runner) → Phase P s → Low s (detachedNow now s)
-  unfolding endGrace silenced giveUpSoon
-  low-detachedNow now s h = record {
-    hold = (h.0, h.1, right (dry-grace s), go h.3);
+  pub low_detached_now : (now : ℕ) (s : Runner) → Phase P s → Low s (detached_now now s)
+  unfolding end_grace silenced give_up_soon
+  low_detached_now now s h = record {
+    hold = (h.0, h.1, right (dry_grace s), go h.3);
     less = λ n. omega arith;
   }
     where
-      go : Either (P s.clocks.give_up_at) (AllKnown s) → Either (P (detachedNow now s).clocks.give_up_at) (AllKnown (detachedNow now s))
+      go : Either (P s.clocks.give_up_at) (AllKnown s) → Either (P (detached_now now s).clocks.give_up_at) (AllKnown (detached_now now s))
       go (left p) = left (lower _ _ p)
-      go (right d) = right (known-grace s d)
+      go (right d) = right (known_grace s d)
 
-  pub low-detachIf : (f d : Bool) (now : ℕ) (c : Cause) (s : Runner) → Phase P s → Low s (detachIf f d now c s)
-  low-detachIf true d now c s h = same h
-  low-detachIf false true now c s h = same h
-  low-detachIf false false now c s h = then {s = s} {t = terminate s now c} {u = detachedNow now (terminate s now c)} (low-terminate now c s h) (low-detachedNow now (terminate s now c))
+  pub low_detach_if : (f d : Bool) (now : ℕ) (c : Cause) (s : Runner) → Phase P s → Low s (detach_if f d now c s)
+  low_detach_if true d now c s h = same h
+  low_detach_if false true now c s h = same h
+  low_detach_if false false now c s h = then {s = s} {t = terminate s now c} {u = detached_now now (terminate s now c)} (low_terminate now c s h) (low_detached_now now (terminate s now c))
 
-  low-detach : (now : ℕ) (c : Cause) (s : Runner) → Phase P s → Low s (detachNext s now c)
-  unfolding detachNext cutOffOnce cutOff
-  low-detach now c s h =
+  low_detach : (now : ℕ) (c : Cause) (s : Runner) → Phase P s → Low s (detach_next s now c)
+  unfolding detach_next cut_off_once cut_off
+  low_detach now c s h =
       let t : Runner = ticked s now in
-      then {s = s} {t = t} {u = detachIf t.flags.finished t.flags.detached now c t} (low-ticked now s h) (low-detachIf t.flags.finished t.flags.detached now c t)
+      then {s = s} {t = t} {u = detach_if t.flags.finished t.flags.detached now c t} (low_ticked now s h) (low_detach_if t.flags.finished t.flags.detached now c t)
 
   -- a closed input stays as it is
-  closed_in : (s : Runner) → s.input.closed ≡ true → closeInput s.input s.flags.detached ≡ s.input
+  closed_in : (s : Runner) → s.input.closed ≡ true → close_input s.input s.flags.detached ≡ s.input
   closed_in s e = rw e refl
 
-  low-close : (s : Runner) → Phase P s → Low s (closeRunnerInput s)
-  unfolding closeRunnerInput
-  low-close s h = subst⁻¹ (λ (i : Input). Low s (withInput i s)) (closed_in s h.0) (same h)
+  low_close : (s : Runner) → Phase P s → Low s (close_runner_input s)
+  unfolding close_runner_input
+  low_close s h = subst⁻¹ (λ (i : Input). Low s (with_input i s)) (closed_in s h.0) (same h)
 
-  pub low-exitedIf : (e g : Bool) (now : ℕ) (x : MaybeStatus) (s : Runner) → exitKnown s.life.exit ≡ e → Phase P s → Low s (exitedIf e g now x s)
-  unfolding noteExit closeRunnerInput
-  low-exitedIf true g now x s e h = same h
-  low-exitedIf false true now x s e h = same h
-  low-exitedIf false false now x s e h =
+  pub low_exited_if : (e g : Bool) (now : ℕ) (x : MaybeStatus) (s : Runner) → exit_known s.life.exit ≡ e → Phase P s → Low s (exited_if e g now x s)
+  unfolding note_exit close_runner_input
+  low_exited_if true g now x s e h = same h
+  low_exited_if false true now x s e h = same h
+  low_exited_if false false now x s e h =
       record { hold = (rw (closed_in s h.0) h.0, h.1, h.2, not_right (λ d. true≢false (sym d.exit ∙ e)) h.3); less = λ n. rw (closed_in s h.0) (le_refl (left_over s)) }
 
-  low-exited : (now : ℕ) (x : MaybeStatus) (s : Runner) → Phase P s → Low s (exitedNext s now x)
-  unfolding exitedNext noteExitOnce
-  low-exited now x s h =
-      let s' : Runner = withClocks (setTimeoutAt Never s.clocks) s in let t : Runner = ticked s' now in
-      let g = low-ticked now s' h in
-      then {s = s} {t = t} {u = exitedIf (exitKnown t.life.exit) t.flags.gave_up now x t} (record { hold = g.hold; less = g.less }) (low-exitedIf (exitKnown t.life.exit) t.flags.gave_up now x t refl)
+  low_exited : (now : ℕ) (x : MaybeStatus) (s : Runner) → Phase P s → Low s (exited_next s now x)
+  unfolding exited_next note_exit_once
+  low_exited now x s h =
+      let s' : Runner = with_clocks (set_timeout_at Never s.clocks) s in let t : Runner = ticked s' now in
+      let g = low_ticked now s' h in
+      then {s = s} {t = t} {u = exited_if (exit_known t.life.exit) t.flags.gave_up now x t} (record { hold = g.hold; less = g.less }) (low_exited_if (exit_known t.life.exit) t.flags.gave_up now x t refl)
 
-  low-launchedIf : (b : Bool) (x : LaunchResult) (s : Runner) → awaitsLaunch s ≡ b → Phase P s → Low s (launchedIf b x s)
-  unfolding noteLaunch noteStarted closeRunnerInput
-  low-launchedIf false x s e h = same h
-  low-launchedIf true LaunchResult.Started s e h = record { hold = (h.0, h.1, h.2, not_right (λ d. true≢false (sym e ∙ d.launch)) h.3); less = λ n. none_left n h.3 }
+  low_launched_if : (b : Bool) (x : LaunchResult) (s : Runner) → awaits_launch s ≡ b → Phase P s → Low s (launched_if b x s)
+  unfolding note_launch note_started close_runner_input
+  low_launched_if false x s e h = same h
+  low_launched_if true LaunchResult.Started s e h = record { hold = (h.0, h.1, h.2, not_right (λ d. true≢false (sym e ∙ d.launch)) h.3); less = λ n. none_left n h.3 }
     where
       none_left : {B : Type 0} → ((d : Deadline) → P d → ⊥) → Either (P s.clocks.give_up_at) (AllKnown s) → B
       none_left n (left p) = absurd (n _ p)
       none_left n (right d) = absurd (true≢false (sym e ∙ d.launch))
-  low-launchedIf true (LaunchResult.Failed x) s e h =
+  low_launched_if true (LaunchResult.Failed x) s e h =
       record { hold = (rw (closed_in s h.0) h.0, h.1, h.2, not_right (λ d. true≢false (sym e ∙ d.launch)) h.3); less = λ n. rw (closed_in s h.0) (le_refl (left_over s)) }
 
   -- the input: closed it stays, and its message stays or goes
-  low-input : (s : Runner) (j : Input) → InKept s.input j → Phase P s → Low s (withInput j s)
-  low-input s j k h = record { hold = (k.0, h.1, h.2, h.3); less = λ n. rw k.1 (le_refl (left_over s)) }
+  low_input : (s : Runner) (j : Input) → InKept s.input j → Phase P s → Low s (with_input j s)
+  low_input s j k h = record { hold = (k.0, h.1, h.2, h.3); less = λ n. rw k.1 (le_refl (left_over s)) }
 
   -- one output changed: what it must keep
-  low-out : (x : Stream) (s : Runner) (o : Output) → OutKept (outOf x s) o → Phase P s → Low s (withOutputs (putOutput x o s.outputs) s)
-  low-out x s o k h = record {
+  low_out : (x : Stream) (s : Runner) (o : Output) → OutKept (out_of x s) o → Phase P s → Low s (with_outputs (put_output x o s.outputs) s)
+  low_out x s o k h = record {
     hold = (
       h.0,
       h.1,
-      on-right (λ d. on_out Empty x o s.outputs (k.drained (d x)) (λ y e. d y)) h.2,
-      on-right (λ d. record { launch = d.launch; exit = d.exit; closed = on_out (λ (y : Stream) (p : Output). p.closed ≡ true) x o s.outputs (k.closed (d.closed x)) (λ y e. d.closed y); settled = d.settled }) h.3,
+      on_right (λ d. on_out Empty x o s.outputs (k.drained (d x)) (λ y e. d y)) h.2,
+      on_right (λ d. record { launch = d.launch; exit = d.exit; closed = on_out (λ (y : Stream) (p : Output). p.closed ≡ true) x o s.outputs (k.closed (d.closed x)) (λ y e. d.closed y); settled = d.settled }) h.3,
     );
-    less = λ n. fewer-untold x s o k.msg;
+    less = λ n. fewer_untold x s o k.msg;
   }
     where
-      fewer-untold : (x : Stream) (s : Runner) (o : Output) → bit (not o.ended) ≤ bit (not (outOf x s).ended) → left_over (withOutputs (putOutput x o s.outputs) s) ≤ left_over s
-      fewer-untold Stdout s o m = omega arith
-      fewer-untold Stderr s o m = omega arith
+      fewer_untold : (x : Stream) (s : Runner) (o : Output) → bit (not o.ended) ≤ bit (not (out_of x s).ended) → left_over (with_outputs (put_output x o s.outputs) s) ≤ left_over s
+      fewer_untold Stdout s o m = omega arith
+      fewer_untold Stderr s o m = omega arith
 
-  low-at : (x : Stream) (f : Output → Output) (s : Runner) → ((o : Output) → OutKept o (f o)) → Phase P s → Low s (at x f s)
-  low-at x f s k h = low-out x s (f (outOf x s)) (k (outOf x s)) h
+  low_at : (x : Stream) (f : Output → Output) (s : Runner) → ((o : Output) → OutKept o (f o)) → Phase P s → Low s (at x f s)
+  low_at x f s k h = low_out x s (f (out_of x s)) (k (out_of x s)) h
 
-  low-handed : (q : Request) (s : Runner) → Phase P s → Low s (handed q s)
-  low-handed (Request.Terminate c) s h = record { hold = h; less = λ n. le_refl (left_over s) }
-  low-handed (Request.Discard x) s h = low-at x askedOut s kept-asked h
-  low-handed Request.CloseInput s h = record { hold = h; less = λ n. le_refl (left_over s) }
-  low-handed Request.Settle s h = record { hold = h; less = λ n. le_refl (left_over s) }
+  low_handed : (q : Request) (s : Runner) → Phase P s → Low s (handed q s)
+  low_handed (Request.Terminate c) s h = record { hold = h; less = λ n. le_refl (left_over s) }
+  low_handed (Request.Discard x) s h = low_at x asked_out s kept_asked h
+  low_handed Request.CloseInput s h = record { hold = h; less = λ n. le_refl (left_over s) }
+  low_handed Request.Settle s h = record { hold = h; less = λ n. le_refl (left_over s) }
 
-  low-wished : (w : Wish) (s : Runner) → Phase P s → Low s (wishEffect w s)
-  unfolding wishEffect
-  low-wished Wish.None s h = same h
-  low-wished (Wish.Request q) s h = low-handed q s h
+  low_wished : (w : Wish) (s : Runner) → Phase P s → Low s (wish_effect w s)
+  unfolding wish_effect
+  low_wished Wish.None s h = same h
+  low_wished (Wish.Request q) s h = low_handed q s h
 
   -- what a message moves beside its part is no matter here
-  low-plain : (s t : Runner) → Low s t → Low s (plain t)
-  low-plain s t g = record { hold = g.hold; less = g.less }
+  low_plain : (s t : Runner) → Low s t → Low s (plain t)
+  low_plain s t g = record { hold = g.hold; less = g.less }
 
-  low-paid : (x : Stream) (n : ℕ) (s : Runner) → Phase P s → Low s (outputPaid x n s)
-  unfolding outputPaid
-  low-paid x n s h = record { hold = h; less = λ m. le_refl (left_over s) }
+  low_paid : (x : Stream) (n : ℕ) (s : Runner) → Phase P s → Low s (output_paid x n s)
+  unfolding output_paid
+  low_paid x n s h = record { hold = h; less = λ m. le_refl (left_over s) }
 
-  low-sent : (x : Stream) (n : ℕ) (s : Runner) → Phase P s → Low s (outputSent x n s)
-  unfolding outputSent
-  low-sent x n s h =
-      then {s = s} {t = outputPaid x n s} {u = at x (sentOut s.limits.chunk n) (outputPaid x n s)} (low-paid x n s h)
-      (low-at x (sentOut s.limits.chunk n) (outputPaid x n s) (kept_send s.limits.chunk n))
+  low_sent : (x : Stream) (n : ℕ) (s : Runner) → Phase P s → Low s (output_sent x n s)
+  unfolding output_sent
+  low_sent x n s h =
+      then {s = s} {t = output_paid x n s} {u = at x (sent_out s.limits.chunk n) (output_paid x n s)} (low_paid x n s h)
+      (low_at x (sent_out s.limits.chunk n) (output_paid x n s) (kept_send s.limits.chunk n))
 
-  low-high : (s t : Runner) (high : ℕ) → Low s t → Low s (withFlow t.credits t.turn t.flags high t)
-  low-high s t high g = record { hold = g.hold; less = g.less }
+  low_high : (s t : Runner) (high : ℕ) → Low s t → Low s (with_flow t.credits t.turn t.flags high t)
+  low_high s t high g = record { hold = g.hold; less = g.less }
 
-  low-effect : (m : Choice) (s : Runner) → Phase P s → Low s (effect m s)
+  low_effect : (m : Choice) (s : Runner) → Phase P s → Low s (effect m s)
   unfolding effect
-  low-effect Choice.None s h = same h
-  low-effect Choice.Credit s h = record { hold = h; less = λ n. le_refl (left_over s) }
-  low-effect Choice.Started s h = record { hold = h; less = λ n. omega arith }
-  low-effect Choice.InputClosed s h = record { hold = h; less = λ n. omega arith }
-  low-effect (Choice.End x) s h = low-plain s (at x endedOut s) (low-at x endedOut s kept-end h)
-  low-effect (Choice.Output x n) s h = low-sent x n s h
-  low-effect Choice.Terminal s h = record { hold = h; less = λ n. le_refl (left_over s) }
+  low_effect Choice.None s h = same h
+  low_effect Choice.Credit s h = record { hold = h; less = λ n. le_refl (left_over s) }
+  low_effect Choice.Started s h = record { hold = h; less = λ n. omega arith }
+  low_effect Choice.InputClosed s h = record { hold = h; less = λ n. omega arith }
+  low_effect (Choice.End x) s h = low_plain s (at x ended_out s) (low_at x ended_out s kept_end h)
+  low_effect (Choice.Output x n) s h = low_sent x n s h
+  low_effect Choice.Terminal s h = record { hold = h; less = λ n. le_refl (left_over s) }
 
   -- every call keeps the phase, and after give-up lets the messages left be no more
-  pub low-next : (c : Call) (s : State) → Phase P s.runner → Low s.runner (next s c).runner
-  unfolding next creditNext inputNext endNext launchedNext outputNext discardedNext closedNext failedNext hungUpNext writtenNext settledNext receiveInput writtenInput
-  low-next (Call.credit k p u) s h = record { hold = h; less = λ n. le_refl (left_over s.runner) }
-  low-next (Call.input k b) s h =
+  pub low_next : (c : Call) (s : State) → Phase P s.runner → Low s.runner (next s c).runner
+  unfolding next credit_next input_next end_next launched_next output_next discarded_next closed_next failed_next hung_up_next written_next settled_next receive_input written_input
+  low_next (Call.credit k p u) s h = record { hold = h; less = λ n. le_refl (left_over s.runner) }
+  low_next (Call.input k b) s h =
       let r : Runner = s.runner in let a : Admission = admits r.key k in
-      low-high r (inputReceived a r (length b)) _
-      (low-input r (cond (isTaken a r) (receiveInput r.limits r.input (length b)) r.input)
-      (kept_if (isTaken a r) r.input (receiveInput r.limits r.input (length b)) r.input (h.0, refl) (h.0, refl)) h)
-  low-next (Call.endInput k) s h =
+      low_high r (input_received a r (length b)) _
+      (low_input r (cond (is_taken a r) (receive_input r.limits r.input (length b)) r.input)
+      (kept_if (is_taken a r) r.input (receive_input r.limits r.input (length b)) r.input (h.0, refl) (h.0, refl)) h)
+  low_next (Call.end_input k) s h =
       let r : Runner = s.runner in
-      low-input r (cond (isTaken (admits r.key k) r) (endInput r.input) r.input)
-      (kept_if (isTaken (admits r.key k) r) r.input (endInput r.input) r.input (kept-ended r.input h.0) (h.0, refl)) h
-  low-next (Call.cancel now k c) s h = low-cancel (admits s.runner.key k) now c s.runner h
-  low-next (Call.launched x) s h = low-launchedIf (awaitsLaunch s.runner) x s.runner refl h
-  low-next (Call.output x b) s h =
+      low_input r (cond (is_taken (admits r.key k) r) (end_input r.input) r.input)
+      (kept_if (is_taken (admits r.key k) r) r.input (end_input r.input) r.input (kept_ended r.input h.0) (h.0, refl)) h
+  low_next (Call.cancel now k c) s h = low_cancel (admits s.runner.key k) now c s.runner h
+  low_next (Call.launched x) s h = low_launched_if (awaits_launch s.runner) x s.runner refl h
+  low_next (Call.output x b) s h =
       let r : Runner = s.runner in
-      low-high r (outputFilled r x (length b)) _ (low-out x r _ (kept-intake r.flags.gave_up (room x r) (length b) (outOf x r)) h)
-  low-next (Call.discarded x n) s h = low-at x (lostOut (ltb 0 n)) s.runner (kept-discard (ltb 0 n)) h
-  low-next (Call.outputClosed x) s h = low-at x closedOut s.runner kept-close h
-  low-next (Call.outputFailed x) s h = low-at x failedOut s.runner kept-fail h
-  low-next (Call.outputHungUp x) s h = low-at x hungUp s.runner kept-hang h
-  low-next (Call.inputWritten n) s h =
+      low_high r (output_filled r x (length b)) _ (low_out x r _ (kept_intake r.flags.gave_up (room x r) (length b) (out_of x r)) h)
+  low_next (Call.discarded x n) s h = low_at x (lost_out (ltb 0 n)) s.runner (kept_discard (ltb 0 n)) h
+  low_next (Call.output_closed x) s h = low_at x closed_out s.runner kept_close h
+  low_next (Call.output_failed x) s h = low_at x failed_out s.runner kept_fail h
+  low_next (Call.output_hung_up x) s h = low_at x hung_up s.runner kept_hang h
+  low_next (Call.input_written n) s h =
       let r : Runner = s.runner in
-      low-input r _ (kept-written r.input.closed r.input (closeWhenTaken (popIn r.limits n s.lengths r.input)) refl h.0) h
-  low-next Call.inputClosed s h = low-close s.runner h
-  low-next (Call.exited now x) s h = low-exited now x s.runner h
-  low-next (Call.settled x) s h = record {
-    hold = (h.0, h.1, h.2, on-right (λ d. record { launch = d.launch; exit = d.exit; closed = d.closed; settled = reported-over s.runner.life.settling x d.settled }) h.3);
+      low_input r _ (kept_written r.input.closed r.input (close_when_taken (pop_in r.limits n s.lengths r.input)) refl h.0) h
+  low_next Call.input_closed s h = low_close s.runner h
+  low_next (Call.exited now x) s h = low_exited now x s.runner h
+  low_next (Call.settled x) s h = record {
+    hold = (h.0, h.1, h.2, on_right (λ d. record { launch = d.launch; exit = d.exit; closed = d.closed; settled = reported_over s.runner.life.settling x d.settled }) h.3);
     less = λ n. le_refl (left_over s.runner);
   }
-  low-next (Call.dropped now) s h = low-detach now Cause.Dropped s.runner h
-  low-next (Call.reset now) s h = low-detach now Cause.Reset s.runner h
-  low-next (Call.disconnect now) s h = low-detach now Cause.Disconnected s.runner h
-  low-next (Call.tick now) s h = low-ticked now s.runner h
-  low-next Call.nextRequest s h = low-wished (wish s.runner) s.runner h
-  low-next (Call.nextMessage buffer) s h = low-effect (choose s.runner (length buffer)) s.runner h
-  low-next (Call.readAllowance x) s h = same h
-  low-next Call.pendingInput s h = same h
-  low-next Call.deadline s h = same h
-  low-next Call.isFinished s h = same h
-  low-next Call.isDetached s h = same h
-  low-next Call.awaitsSettlement s h = same h
-  low-next Call.buffered s h = same h
-  low-next Call.highWater s h = same h
-  low-next Call.memoryBound s h = same h
-  low-next Call.key s h = same h
-  low-next Call.limits s h = same h
+  low_next (Call.dropped now) s h = low_detach now Cause.Dropped s.runner h
+  low_next (Call.reset now) s h = low_detach now Cause.Reset s.runner h
+  low_next (Call.disconnect now) s h = low_detach now Cause.Disconnected s.runner h
+  low_next (Call.tick now) s h = low_ticked now s.runner h
+  low_next Call.next_request s h = low_wished (wish s.runner) s.runner h
+  low_next (Call.next_message buffer) s h = low_effect (choose s.runner (length buffer)) s.runner h
+  low_next (Call.read_allowance x) s h = same h
+  low_next Call.pending_input s h = same h
+  low_next Call.deadline s h = same h
+  low_next Call.is_finished s h = same h
+  low_next Call.is_detached s h = same h
+  low_next Call.awaits_settlement s h = same h
+  low_next Call.buffered s h = same h
+  low_next Call.high_water s h = same h
+  low_next Call.memory_bound s h = same h
+  low_next Call.key s h = same h
+  low_next Call.limits s h = same h

@@ -10,38 +10,38 @@ use Rattle.exec.specs.declared.Stream.{Stream}
 use Rattle.runner.specs.Message.{choose}
 use Rattle.codec.specs.declared.Parsed.{Parsed}
 use Rattle.codec.specs.declared.Record.TheVariants as Record
-use Rattle.channel.specs.Calls.{isChannel}
+use Rattle.channel.specs.Calls.{is_channel}
 use Rattle.codec.specs.Codec.{read}
 use Rattle.calls.specs.Call as Call
 use Rattle.calls.specs.Call.{Conf, Call, Answer, count}
 use Rattle.account.specs.Step as Step
 use Rattle.account.specs.Step.{State}
-use Rattle.account.specs.Account.{Account, Tally, none as untold, add, account, start, tallyOf}
+use Rattle.account.specs.Account.{Account, Tally, none as untold, add, account, start, tally_of}
 use Rattle.account.specs.Claim.{Opens}
-use Rattle.account.specs.Records.{Entry, EntryDone, call, readRecord, writeRecord, nextEntry, answerEntry, callOf, roomy, isUntaken, made, donesOf, runEntries, entryAccount}
-use Rattle.account.specs.TurnClaim.{offered, offeredIn, carried, takenIn, sentIn}
+use Rattle.account.specs.Records.{Entry, EntryDone, call, read_record, write_record, next_entry, answer_entry, call_of, roomy, is_untaken, made, dones_of, run_entries, entry_account}
+use Rattle.account.specs.TurnClaim.{offered, offered_in, carried, taken_in, sent_in}
 use Rattle.account.proofs.Plain.{answer}
-use Rattle.account.proofs.Sides.{one-per}
+use Rattle.account.proofs.Sides.{one_per}
 use Rattle.account.proofs.Finish.{Kind, quiet, speaks, kind}
-use Rattle.account.proofs.Demand.{Fine, answer-same}
+use Rattle.account.proofs.Demand.{Fine, answer_same}
 use Rattle.account.proofs.EachRecord.{Does}
-use Rattle.account.proofs.Records.{Good, does, good-entry, good-open}
+use Rattle.account.proofs.Records.{Good, does, good_entry, good_open}
 use Rattle.account.proofs.Flags.{either}
-use Rattle.account.proofs.Tells.{Tells, Offers, silent, gives, offers, quiet_told, output-told, said-told}
+use Rattle.account.proofs.Tells.{Tells, Offers, silent, gives, offers, quiet_told, output_told, said_told}
 
 -- ---- a call
 
-plain-told : (c : Call) (s : State) (z : Account) → Tells z c (answer s c)
+plain_told : (c : Call) (s : State) (z : Account) → Tells z c (answer s c)
 unfolding answer
-plain-told c s z = go c (offers c) (kind c s)
+plain_told c s z = go c (offers c) (kind c s)
   where
     go : (c : Call) → Offers c → Kind s c → Tells z c (answer s c)
-    go c (gives y b) k = output-told y b _ z
+    go c (gives y b) k = output_told y b _ z
     go c (silent o) (quiet q) = quiet_told c (answer s c) z o q
-    go c (silent o) (speaks b) = said-told (choose s.runner (length b)) b s.runner s.bytes z
+    go c (silent o) (speaks b) = said_told (choose s.runner (length b)) b s.runner s.bytes z
 
-call-told : (c : Call) (s : State) (z : Account) → Fine s → Tells z c (Step.answer s c)
-call-told c s z f = subst⁻¹ (Tells z c) (answer-same s c f) (plain-told c s z)
+call_told : (c : Call) (s : State) (z : Account) → Fine s → Tells z c (Step.answer s c)
+call_told c s z f = subst⁻¹ (Tells z c) (answer_same s c f) (plain_told c s z)
 
 -- ---- an entry: a record makes no output
 
@@ -49,93 +49,93 @@ abbrev Mute : Option Call → Type 0
 Mute none = Unit
 Mute (some c) = (x : Stream) → offered x c ≡ []
 
-read-mute : (conf : Conf) (now : ℕ) (b : List ℕ) (p : Parsed) → Mute (callOf conf now b p)
-unfolding callOf
-read-mute conf now b (Parsed.Read (Record.Adjust units)) = λ x. refl
-read-mute conf now b (Parsed.Read (Record.Data n)) = λ x. refl
-read-mute conf now b (Parsed.Read (Record.Extended n)) = tt
-read-mute conf now b (Parsed.Read Record.Eof) = λ x. refl
-read-mute conf now b (Parsed.Read Record.Close) = λ x. refl
-read-mute conf now b (Parsed.Refused y) = tt
+read_mute : (conf : Conf) (now : ℕ) (b : List ℕ) (p : Parsed) → Mute (call_of conf now b p)
+unfolding call_of
+read_mute conf now b (Parsed.Read (Record.Adjust units)) = λ x. refl
+read_mute conf now b (Parsed.Read (Record.Data n)) = λ x. refl
+read_mute conf now b (Parsed.Read (Record.Extended n)) = tt
+read_mute conf now b (Parsed.Read Record.Eof) = λ x. refl
+read_mute conf now b (Parsed.Read Record.Close) = λ x. refl
+read_mute conf now b (Parsed.Refused y) = tt
 
 -- what an entry offers is what the call offers that it makes
 abbrev Offering : Entry → Option Call → Type 0
 Offering e none = Unit
-Offering e (some c) = (x : Stream) → offeredIn x e ≡ offered x c
+Offering e (some c) = (x : Stream) → offered_in x e ≡ offered x c
 
-mute-offering : (e : Entry) (m : Option Call) → ((x : Stream) → offeredIn x e ≡ []) → Mute m → Offering e m
-mute-offering e none h q = tt
-mute-offering e (some c) h q = λ x. h x ∙ sym (q x)
+mute_offering : (e : Entry) (m : Option Call) → ((x : Stream) → offered_in x e ≡ []) → Mute m → Offering e m
+mute_offering e none h q = tt
+mute_offering e (some c) h q = λ x. h x ∙ sym (q x)
 
 offering : (conf : Conf) (e : Entry) (a : Answer) → Offering e (made conf e a)
 unfolding made
 offering conf (call c) a = λ x. refl
-offering conf (readRecord now channel b) a =
-    mute-offering (readRecord now channel b) (made conf (readRecord now channel b) a) (λ x. refl)
-    (either Mute (isChannel conf.limits) (callOf conf now b (read channel b)) none (read-mute conf now b (read channel b)) tt)
-offering conf (writeRecord channel buffer) a =
-    mute-offering (writeRecord channel buffer) (made conf (writeRecord channel buffer) a) (λ x. refl)
-    (either Mute (isChannel conf.limits && roomy conf buffer) _ none (either Mute (isUntaken a) none (some (Call.nextMessage (take conf.limits.chunk (drop 13 buffer)))) tt (λ x. refl)) tt)
+offering conf (read_record now channel b) a =
+    mute_offering (read_record now channel b) (made conf (read_record now channel b) a) (λ x. refl)
+    (either Mute (is_channel conf.limits) (call_of conf now b (read channel b)) none (read_mute conf now b (read channel b)) tt)
+offering conf (write_record channel buffer) a =
+    mute_offering (write_record channel buffer) (made conf (write_record channel buffer) a) (λ x. refl)
+    (either Mute (is_channel conf.limits && roomy conf buffer) _ none (either Mute (is_untaken a) none (some (Call.next_message (take conf.limits.chunk (drop 13 buffer)))) tt (λ x. refl)) tt)
 
 -- ---- a list: what is behind the entry is told of the account after it
 
 -- from the account z, over a list of what was done
 abbrev ToldIn : Conf → Account → List EntryDone → Type 0
 ToldIn conf z ds = (x : Stream)
-    → ((tallyOf x (account z (donesOf conf ds))).taken ≡ (tallyOf x z).taken ++ takenIn x ds)
-    × ((tallyOf x (account z (donesOf conf ds))).sent ≡ (tallyOf x z).sent ++ sentIn x ds)
+    → ((tally_of x (account z (dones_of conf ds))).taken ≡ (tally_of x z).taken ++ taken_in x ds)
+    × ((tally_of x (account z (dones_of conf ds))).sent ≡ (tally_of x z).sent ++ sent_in x ds)
 
 -- t is u and then l, and u is v and then k
 joined : (t u v k l : List ℕ) → t ≡ u ++ l → u ≡ v ++ k → t ≡ v ++ (k ++ l)
 joined t u v k l e d = e ∙ ap (λ (q : List ℕ). q ++ l) d ∙ append_assoc v k l
 
 -- a refusal adds nothing
-refused-adds : (e : Entry) (r : Answer) (n : ℕ) (x : Stream) → r ≡ Call.Refused n → (take (count r) (offeredIn x e) ≡ []) × (carried x r ≡ [])
-refused-adds e r n x h = rw h (refl, refl)
+refused_adds : (e : Entry) (r : Answer) (n : ℕ) (x : Stream) → r ≡ Call.Refused n → (take (count r) (offered_in x e) ≡ []) × (carried x r ≡ [])
+refused_adds e r n x h = rw h (refl, refl)
 
 behind : (conf : Conf) (e : Entry) (m : Option Call) (s after : State) (r : Answer) (ds : List EntryDone) (z : Account) → made conf e r ≡ m → Does e m s after r → Offering e m → Fine s
     → ((a : Account) → ToldIn conf a ds) → ToldIn conf z (record { entry = e; answer = r } ∷ ds)
 unfolding Does
 behind conf e none s after r ds z k d o f h x =
     let p = h z x in
-    let q = refused-adds e r d.refusal x d.answered in
-    let t : Tally = tallyOf x z in
+    let q = refused_adds e r d.refusal x d.answered in
+    let t : Tally = tally_of x z in
     rw k (
-      p.0 ∙ ap (λ (b : List ℕ). t.taken ++ (b ++ takenIn x ds)) (sym q.0),
-      p.1 ∙ ap (λ (b : List ℕ). t.sent ++ (b ++ sentIn x ds)) (sym q.1),
+      p.0 ∙ ap (λ (b : List ℕ). t.taken ++ (b ++ taken_in x ds)) (sym q.0),
+      p.1 ∙ ap (λ (b : List ℕ). t.sent ++ (b ++ sent_in x ds)) (sym q.1),
     )
 behind conf e (some c) s after r ds z k d o f h x =
     let p = h (add z c r) x in
-    let q = subst⁻¹ (Tells z c) d.1 (call-told c s z f) x in
-    let t : Tally = tallyOf x z in
-    let g : take (count r) (offered x c) ≡ take (count r) (offeredIn x e) = ap (take (count r)) (sym (o x)) in
+    let q = subst⁻¹ (Tells z c) d.1 (call_told c s z f) x in
+    let t : Tally = tally_of x z in
+    let g : take (count r) (offered x c) ≡ take (count r) (offered_in x e) = ap (take (count r)) (sym (o x)) in
     rw k (
-      joined _ _ t.taken (take (count r) (offeredIn x e)) (takenIn x ds) p.0 (q.0 ∙ ap (λ (b : List ℕ). t.taken ++ b) g),
-      joined _ _ t.sent (carried x r) (sentIn x ds) p.1 q.1,
+      joined _ _ t.taken (take (count r) (offered_in x e)) (taken_in x ds) p.0 (q.0 ∙ ap (λ (b : List ℕ). t.taken ++ b) g),
+      joined _ _ t.sent (carried x r) (sent_in x ds) p.1 q.1,
     )
 
-list-told : (conf : Conf) (es : List Entry) (s : State) (z : Account) → Good conf s → ToldIn conf z (runEntries s es)
-list-told conf [] s z g = λ x. (sym (append-nil _), sym (append-nil _))
-list-told conf (e ∷ es) s z g =
-    behind conf e (made conf e (answerEntry s e)) s (nextEntry s e) (answerEntry s e) (runEntries (nextEntry s e) es) z refl (does conf e s g) (offering conf e (answerEntry s e)) g.fine
-    (λ a. list-told conf es (nextEntry s e) a (good-entry conf e s g))
+list_told : (conf : Conf) (es : List Entry) (s : State) (z : Account) → Good conf s → ToldIn conf z (run_entries s es)
+list_told conf [] s z g = λ x. (sym (append-nil _), sym (append-nil _))
+list_told conf (e ∷ es) s z g =
+    behind conf e (made conf e (answer_entry s e)) s (next_entry s e) (answer_entry s e) (run_entries (next_entry s e) es) z refl (does conf e s g) (offering conf e (answer_entry s e)) g.fine
+    (λ a. list_told conf es (next_entry s e) a (good_entry conf e s g))
 
 -- the account of a stream after a list from open
 abbrev pub tallied : Conf → ℕ → (bytes lengths : List ℕ) → List Entry → Stream → Tally
-tallied conf now bytes lengths es x = tallyOf x (entryAccount conf now bytes lengths es)
+tallied conf now bytes lengths es x = tally_of x (entry_account conf now bytes lengths es)
 
 module _ (conf : Conf) (now : ℕ) (bytes lengths : List ℕ) (op : Opens conf now bytes lengths) where
-  from-open : (es : List Entry) → ToldIn conf (start conf now) (runEntries (Step.opened conf now bytes lengths) es)
-  from-open es = list-told conf es (Step.opened conf now bytes lengths) (start conf now) (good-open conf now bytes lengths op)
+  from_open : (es : List Entry) → ToldIn conf (start conf now) (run_entries (Step.opened conf now bytes lengths) es)
+  from_open es = list_told conf es (Step.opened conf now bytes lengths) (start conf now) (good_open conf now bytes lengths op)
 
-  pub taken-told : (es : List Entry) (x : Stream) → (tallied conf now bytes lengths es x).taken ≡ takenIn x (runEntries (Step.opened conf now bytes lengths) es)
+  pub taken_told : (es : List Entry) (x : Stream) → (tallied conf now bytes lengths es x).taken ≡ taken_in x (run_entries (Step.opened conf now bytes lengths) es)
   unfolding start
-  taken-told es x =
-      (from-open es x).0
-      ∙ ap (λ (t : Tally). t.taken ++ takenIn x (runEntries (Step.opened conf now bytes lengths) es)) (one-per (λ (y : Stream). untold) x)
+  taken_told es x =
+      (from_open es x).0
+      ∙ ap (λ (t : Tally). t.taken ++ taken_in x (run_entries (Step.opened conf now bytes lengths) es)) (one_per (λ (y : Stream). untold) x)
 
-  pub sent-told : (es : List Entry) (x : Stream) → (tallied conf now bytes lengths es x).sent ≡ sentIn x (runEntries (Step.opened conf now bytes lengths) es)
+  pub sent_told : (es : List Entry) (x : Stream) → (tallied conf now bytes lengths es x).sent ≡ sent_in x (run_entries (Step.opened conf now bytes lengths) es)
   unfolding start
-  sent-told es x =
-      (from-open es x).1
-      ∙ ap (λ (t : Tally). t.sent ++ sentIn x (runEntries (Step.opened conf now bytes lengths) es)) (one-per (λ (y : Stream). untold) x)
+  sent_told es x =
+      (from_open es x).1
+      ∙ ap (λ (t : Tally). t.sent ++ sent_in x (run_entries (Step.opened conf now bytes lengths) es)) (one_per (λ (y : Stream). untold) x)

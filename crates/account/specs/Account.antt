@@ -6,10 +6,10 @@ use Rattle.exec.specs.declared.Deadline.{Deadline}
 use Rattle.exec.specs.declared.Deadline.TheVariants.{Never}
 use Rattle.exec.specs.declared.Settlement.{Settlement}
 use Rattle.exec.specs.declared.Stream.{Stream}
-use Rattle.exec.specs.Each.{Each, one, onOne, alike, both, every}
+use Rattle.exec.specs.Each.{Each, one, on_one, alike, both, every}
 use Rattle.exec.specs.Key.{admits}
-use Rattle.exec.specs.Time.{after, then, earliest, due, timeoutAt}
-use Rattle.calls.specs.Call.{Conf, Done, Call, key, limits, credit, input, endInput, cancel, launched, readAllowance, output, discarded, outputClosed, outputFailed, outputHungUp, pendingInput, inputWritten, inputClosed, exited, settled, dropped, reset, disconnect, tick, deadline, nextRequest, nextMessage, isFinished, isDetached, awaitsSettlement, memoryBound, buffered, highWater, Answer, Ok, Applied, Stale, Late, Refused, Taken, Pending, Value, Time, Truth, Asks, Says, IsKey, AreLimits, Nothing, isRefused, count, Message, Credit, Started, Output, End, InputClosed, Terminal}
+use Rattle.exec.specs.Time.{after, then, earliest, due, timeout_at}
+use Rattle.calls.specs.Call.{Conf, Done, Call, key, limits, credit, input, end_input, cancel, launched, read_allowance, output, discarded, output_closed, output_failed, output_hung_up, pending_input, input_written, input_closed, exited, settled, dropped, reset, disconnect, tick, deadline, next_request, next_message, is_finished, is_detached, awaits_settlement, memory_bound, buffered, high_water, Answer, Ok, Applied, Stale, Late, Refused, Taken, Pending, Value, Time, Truth, Asks, Says, IsKey, AreLimits, Nothing, is_refused, count, Message, Credit, Started, Output, End, InputClosed, Terminal}
 
 -- Where the settlement stands, by what was reported and what time has passed.
 pub data Settling : Type 0 where
@@ -23,10 +23,10 @@ pub record Replay : Type 0 where
   pub conf : Conf
   pub timeout : Deadline
   pub begun : Bool  -- the first of a due timeout, an Applied cancel or a detachment has come
-  pub giveUp : Deadline
+  pub give_up : Deadline
   pub abandon : Deadline
   pub launch : Bool  -- the launch is reported
-  pub gaveUp : Bool
+  pub gave_up : Bool
   pub left : Bool  -- abandonment ended the wait for a launch
   pub exit : Bool  -- the exit is reported, or set missing by give-up
   pub settling : Settling
@@ -50,24 +50,24 @@ abbrev pub marked : Bool → Tally → Tally
 marked b t = record { taken = t.taken; sent = t.sent; mark = b || t.mark }
 
 -- marked, unless the stream's end was there already
-abbrev pub markedUnless : (over : Bool) → Tally → Tally
-markedUnless over t = marked (not over) t
+abbrev pub marked_unless : (over : Bool) → Tally → Tally
+marked_unless over t = marked (not over) t
 
-abbrev pub onTally : Stream → (Tally → Tally) → Account → Account
-onTally x f a = mk a.rep (onOne x f a.tallies)
+abbrev pub on_tally : Stream → (Tally → Tally) → Account → Account
+on_tally x f a = mk a.rep (on_one x f a.tallies)
 
 -- ---- the replay with some of its fields set
 
 -- the four times
-abbrev pub withTimes : (timeout : Deadline) (begun : Bool) (giveUp abandon : Deadline) → Replay → Replay
-withTimes timeout begun giveUp abandon r = record {
+abbrev pub with_times : (timeout : Deadline) (begun : Bool) (give_up abandon : Deadline) → Replay → Replay
+with_times timeout begun give_up abandon r = record {
   conf = r.conf;
   timeout = timeout;
   begun = begun;
-  giveUp = giveUp;
+  give_up = give_up;
   abandon = abandon;
   launch = r.launch;
-  gaveUp = r.gaveUp;
+  gave_up = r.gave_up;
   left = r.left;
   exit = r.exit;
   settling = r.settling;
@@ -77,15 +77,15 @@ withTimes timeout begun giveUp abandon r = record {
 }
 
 -- what is known of the workload
-abbrev pub withWork : (launch gaveUp left exit : Bool) → Settling → (detached : Bool) → Replay → Replay
-withWork launch gaveUp left exit settling detached r = record {
+abbrev pub with_work : (launch gave_up left exit : Bool) → Settling → (detached : Bool) → Replay → Replay
+with_work launch gave_up left exit settling detached r = record {
   conf = r.conf;
   timeout = r.timeout;
   begun = r.begun;
-  giveUp = r.giveUp;
+  give_up = r.give_up;
   abandon = r.abandon;
   launch = launch;
-  gaveUp = gaveUp;
+  gave_up = gave_up;
   left = left;
   exit = exit;
   settling = settling;
@@ -95,15 +95,15 @@ withWork launch gaveUp left exit settling detached r = record {
 }
 
 -- the streams
-abbrev pub withStreams : (closed hung : Each Bool) → Replay → Replay
-withStreams closed hung r = record {
+abbrev pub with_streams : (closed hung : Each Bool) → Replay → Replay
+with_streams closed hung r = record {
   conf = r.conf;
   timeout = r.timeout;
   begun = r.begun;
-  giveUp = r.giveUp;
+  give_up = r.give_up;
   abandon = r.abandon;
   launch = r.launch;
-  gaveUp = r.gaveUp;
+  gave_up = r.gave_up;
   left = r.left;
   exit = r.exit;
   settling = r.settling;
@@ -112,167 +112,167 @@ withStreams closed hung r = record {
   hung = hung;
 }
 
-abbrev pub settlingR : Settling → Replay → Replay
-settlingR x r = withWork r.launch r.gaveUp r.left r.exit x r.detached r
+abbrev pub settling_r : Settling → Replay → Replay
+settling_r x r = with_work r.launch r.gave_up r.left r.exit x r.detached r
 
-abbrev pub giveUpR : Deadline → Replay → Replay
-giveUpR d r = withTimes r.timeout r.begun d r.abandon r
+abbrev pub give_up_r : Deadline → Replay → Replay
+give_up_r d r = with_times r.timeout r.begun d r.abandon r
 
 -- ---- Time
 
 -- the first of the three events clears the timeout, and sets give-up a settlement after the end of grace
-unfoldable pub beginIf : (begun : Bool) → ℕ → Replay → Replay
-beginIf true now r = r
-beginIf false now r =
-    withTimes Never true (then (after now r.conf.timers.grace) r.conf.timers.settlement) r.abandon r
+unfoldable pub begin_if : (begun : Bool) → ℕ → Replay → Replay
+begin_if true now r = r
+begin_if false now r =
+    with_times Never true (then (after now r.conf.timers.grace) r.conf.timers.settlement) r.abandon r
 
 abbrev pub begin : ℕ → Replay → Replay
-begin now r = beginIf r.begun now r
+begin now r = begin_if r.begun now r
 
-abbrev pub noTimeoutR : Replay → Replay
-noTimeoutR r = withTimes Never r.begun r.giveUp r.abandon r
+abbrev pub no_timeout_r : Replay → Replay
+no_timeout_r r = with_times Never r.begun r.give_up r.abandon r
 
-unfoldable pub timeoutR : (due : Bool) → ℕ → Replay → Replay
-timeoutR false now r = r
-timeoutR true now r = begin now (noTimeoutR r)
+unfoldable pub timeout_r : (due : Bool) → ℕ → Replay → Replay
+timeout_r false now r = r
+timeout_r true now r = begin now (no_timeout_r r)
 
 -- a settlement that is not reported in time is fenced
-abbrev pub overdueR : ℕ → Settling → Settling
-overdueR now Idle = Idle
-overdueR now (Requested d) = cond (due d now) Fenced (Requested d)
-overdueR now Settled = Settled
-overdueR now Fenced = Fenced
+abbrev pub overdue_r : ℕ → Settling → Settling
+overdue_r now Idle = Idle
+overdue_r now (Requested d) = cond (due d now) Fenced (Requested d)
+overdue_r now Settled = Settled
+overdue_r now Fenced = Fenced
 
-abbrev pub isSettledR : Settling → Bool
-isSettledR Idle = false
-isSettledR (Requested d) = false
-isSettledR Settled = true
-isSettledR Fenced = false
+abbrev pub is_settled_r : Settling → Bool
+is_settled_r Idle = false
+is_settled_r (Requested d) = false
+is_settled_r Settled = true
+is_settled_r Fenced = false
 
-abbrev pub isFencedR : Settling → Bool
-isFencedR Idle = false
-isFencedR (Requested d) = false
-isFencedR Settled = false
-isFencedR Fenced = true
+abbrev pub is_fenced_r : Settling → Bool
+is_fenced_r Idle = false
+is_fenced_r (Requested d) = false
+is_fenced_r Settled = false
+is_fenced_r Fenced = true
 
 -- launch and exit are reported, each stream is closed and settling is Settled
-abbrev pub cleanedR : Replay → Bool
-cleanedR r = r.launch && r.exit && every r.closed && isSettledR r.settling
+abbrev pub cleaned_r : Replay → Bool
+cleaned_r r = r.launch && r.exit && every r.closed && is_settled_r r.settling
 
 -- give-up does nothing if all is cleaned up; otherwise it closes and marks each stream still open, and fences settling
-unfoldable pub giveUpA : (due clean : Bool) → Account → Account
-giveUpA false clean a = a
-giveUpA true true a = mk (giveUpR Never a.rep) a.tallies
-giveUpA true false a =
+unfoldable pub give_up_a : (due clean : Bool) → Account → Account
+give_up_a false clean a = a
+give_up_a true true a = mk (give_up_r Never a.rep) a.tallies
+give_up_a true false a =
     mk
-    (withTimes a.rep.timeout a.rep.begun Never a.rep.abandon
-    (withWork a.rep.launch true a.rep.left true Fenced a.rep.detached
-    (withStreams (alike true) a.rep.hung a.rep)))
-    (both markedUnless a.rep.closed a.tallies)
+    (with_times a.rep.timeout a.rep.begun Never a.rep.abandon
+    (with_work a.rep.launch true a.rep.left true Fenced a.rep.detached
+    (with_streams (alike true) a.rep.hung a.rep)))
+    (both marked_unless a.rep.closed a.tallies)
 
 -- the launch is still waited for
-abbrev pub waitsR : Replay → Bool
-waitsR r = not r.launch && not r.gaveUp && not r.left
+abbrev pub waits_r : Replay → Bool
+waits_r r = not r.launch && not r.gave_up && not r.left
 
 -- abandonment ends the wait for a launch, fencing settling
-abbrev pub leftSettlingR : (waits : Bool) → Settling → Settling
-leftSettlingR true x = Fenced
-leftSettlingR false x = x
+abbrev pub left_settling_r : (waits : Bool) → Settling → Settling
+left_settling_r true x = Fenced
+left_settling_r false x = x
 
-abbrev pub leaveR : Replay → Replay
-leaveR r =
-    withWork r.launch r.gaveUp (waitsR r || r.left) r.exit (leftSettlingR (waitsR r) r.settling) r.detached r
+abbrev pub leave_r : Replay → Replay
+leave_r r =
+    with_work r.launch r.gave_up (waits_r r || r.left) r.exit (left_settling_r (waits_r r) r.settling) r.detached r
 
 -- and once settling is fenced closes and marks each stream neither closed nor hung up
-unfoldable pub abandonStreamsA : (fenced : Bool) → Account → Account
-abandonStreamsA false a = a
-abandonStreamsA true a =
+unfoldable pub abandon_streams_a : (fenced : Bool) → Account → Account
+abandon_streams_a false a = a
+abandon_streams_a true a =
     mk
-    (withTimes a.rep.timeout a.rep.begun a.rep.giveUp Never
-    (withStreams (both (λ (c h : Bool). c || not h) a.rep.closed a.rep.hung) a.rep.hung a.rep))
-    (both markedUnless (both ◌||◌ a.rep.closed a.rep.hung) a.tallies)
+    (with_times a.rep.timeout a.rep.begun a.rep.give_up Never
+    (with_streams (both (λ (c h : Bool). c || not h) a.rep.closed a.rep.hung) a.rep.hung a.rep))
+    (both marked_unless (both ◌||◌ a.rep.closed a.rep.hung) a.tallies)
 
-unfoldable pub abandonA : (due : Bool) → Account → Account
-abandonA false a = a
-abandonA true a = abandonStreamsA (isFencedR (leaveR a.rep).settling) (mk (leaveR a.rep) a.tallies)
+unfoldable pub abandon_a : (due : Bool) → Account → Account
+abandon_a false a = a
+abandon_a true a = abandon_streams_a (is_fenced_r (leave_r a.rep).settling) (mk (leave_r a.rep) a.tallies)
 
 -- tick: timeout, settlement, give-up, abandonment (the end of grace closes no stream)
 abbrev pub tick1 : ℕ → Account → Account
-tick1 now a = mk (timeoutR (due a.rep.timeout now) now a.rep) a.tallies
+tick1 now a = mk (timeout_r (due a.rep.timeout now) now a.rep) a.tallies
 
 abbrev pub tick3 : ℕ → Account → Account
-tick3 now a = mk (settlingR (overdueR now a.rep.settling) a.rep) a.tallies
+tick3 now a = mk (settling_r (overdue_r now a.rep.settling) a.rep) a.tallies
 
 abbrev pub tick4 : ℕ → Account → Account
-tick4 now a = giveUpA (due a.rep.giveUp now) (cleanedR a.rep) a
+tick4 now a = give_up_a (due a.rep.give_up now) (cleaned_r a.rep) a
 
 abbrev pub tick5 : ℕ → Account → Account
-tick5 now a = abandonA (due a.rep.abandon now) a
+tick5 now a = abandon_a (due a.rep.abandon now) a
 
-unfoldable pub tickA : ℕ → Account → Account
-tickA now a = tick5 now (tick4 now (tick3 now (tick1 now a)))
+unfoldable pub tick_a : ℕ → Account → Account
+tick_a now a = tick5 now (tick4 now (tick3 now (tick1 now a)))
 
 -- a cancel ticks, and begins a termination unless one began: only under the execution's own key
-unfoldable pub cancelA : Admission → ℕ → Account → Account
-cancelA Admission.Own now a = let b = tickA now a in mk (begin now b.rep) b.tallies
-cancelA Admission.Stale now a = a
-cancelA (Admission.Refused x) now a = a
+unfoldable pub cancel_a : Admission → ℕ → Account → Account
+cancel_a Admission.Own now a = let b = tick_a now a in mk (begin now b.rep) b.tallies
+cancel_a Admission.Stale now a = a
+cancel_a (Admission.Refused x) now a = a
 
 -- a detachment ticks, begins a termination, and sets give-up to now + settlement if that is earlier or none is set
-abbrev pub detachedR : ℕ → Replay → Replay
-detachedR now b =
-    withTimes b.timeout b.begun (earliest b.giveUp (after now b.conf.timers.settlement)) b.abandon
-    (withWork b.launch b.gaveUp b.left b.exit b.settling true b)
+abbrev pub detached_r : ℕ → Replay → Replay
+detached_r now b =
+    with_times b.timeout b.begun (earliest b.give_up (after now b.conf.timers.settlement)) b.abandon
+    (with_work b.launch b.gave_up b.left b.exit b.settling true b)
 
-unfoldable pub detachR : (detached : Bool) → ℕ → Replay → Replay
-detachR true now r = r
-detachR false now r = detachedR now (begin now r)
+unfoldable pub detach_r : (detached : Bool) → ℕ → Replay → Replay
+detach_r true now r = r
+detach_r false now r = detached_r now (begin now r)
 
-unfoldable pub detachA : ℕ → Account → Account
-detachA now a = let b = tickA now a in mk (detachR b.rep.detached now b.rep) b.tallies
+unfoldable pub detach_a : ℕ → Account → Account
+detach_a now a = let b = tick_a now a in mk (detach_r b.rep.detached now b.rep) b.tallies
 
 -- an exit clears the timeout, ticks, and sets the settlement time and abandonment a grace after it
-unfoldable pub exitR : (known : Bool) → ℕ → Replay → Replay
-exitR true now r = r
-exitR false now r =
-    withTimes r.timeout r.begun r.giveUp (then (after now r.conf.timers.settlement) r.conf.timers.grace)
-    (withWork r.launch r.gaveUp r.left true (Requested (after now r.conf.timers.settlement)) r.detached r)
+unfoldable pub exit_r : (known : Bool) → ℕ → Replay → Replay
+exit_r true now r = r
+exit_r false now r =
+    with_times r.timeout r.begun r.give_up (then (after now r.conf.timers.settlement) r.conf.timers.grace)
+    (with_work r.launch r.gave_up r.left true (Requested (after now r.conf.timers.settlement)) r.detached r)
 
-unfoldable pub exitA : ℕ → Account → Account
-exitA now a =
-    let b = tickA now (mk (noTimeoutR a.rep) a.tallies) in
-    mk (exitR (b.rep.exit || b.rep.gaveUp) now b.rep) b.tallies
+unfoldable pub exit_a : ℕ → Account → Account
+exit_a now a =
+    let b = tick_a now (mk (no_timeout_r a.rep) a.tallies) in
+    mk (exit_r (b.rep.exit || b.rep.gave_up) now b.rep) b.tallies
 
 -- a settlement that is awaited, as it is reported
-abbrev pub reportedR : Settling → Settlement → Settling
-reportedR Idle ok = Idle
-reportedR (Requested d) Settlement.Settled = Settled
-reportedR (Requested d) Settlement.Failed = Fenced
-reportedR Settled ok = Settled
-reportedR Fenced ok = Fenced
+abbrev pub reported_r : Settling → Settlement → Settling
+reported_r Idle ok = Idle
+reported_r (Requested d) Settlement.Settled = Settled
+reported_r (Requested d) Settlement.Failed = Fenced
+reported_r Settled ok = Settled
+reported_r Fenced ok = Fenced
 
 -- a launch that is waited for
-abbrev pub launchR : Replay → Replay
-launchR r = withWork (waitsR r || r.launch) r.gaveUp r.left r.exit r.settling r.detached r
+abbrev pub launch_r : Replay → Replay
+launch_r r = with_work (waits_r r || r.launch) r.gave_up r.left r.exit r.settling r.detached r
 
-abbrev pub closeR : Stream → Replay → Replay
-closeR x r = withStreams (onOne x (λ (c : Bool). true) r.closed) r.hung r
+abbrev pub close_r : Stream → Replay → Replay
+close_r x r = with_streams (on_one x (λ (c : Bool). true) r.closed) r.hung r
 
-abbrev pub hangR : Stream → Replay → Replay
-hangR x r = withStreams r.closed (onOne x (λ (h : Bool). true) r.hung) r
+abbrev pub hang_r : Stream → Replay → Replay
+hang_r x r = with_streams r.closed (on_one x (λ (h : Bool). true) r.hung) r
 
 -- ---- what a call and its answer add
 
-abbrev pub takenBy : List ℕ → Tally → Tally
-takenBy b t = record { taken = t.taken ++ b; sent = t.sent; mark = t.mark }
+abbrev pub taken_by : List ℕ → Tally → Tally
+taken_by b t = record { taken = t.taken ++ b; sent = t.sent; mark = t.mark }
 
-abbrev pub sentBy : List ℕ → Tally → Tally
-sentBy b t = record { taken = t.taken; sent = t.sent ++ b; mark = t.mark }
+abbrev pub sent_by : List ℕ → Tally → Tally
+sent_by b t = record { taken = t.taken; sent = t.sent ++ b; mark = t.mark }
 
 abbrev pub heard : Message → Account → Account
 heard (Credit n) a = a
 heard Started a = a
-heard (Output x b) a = onTally x (sentBy b) a
+heard (Output x b) a = on_tally x (sent_by b) a
 heard (End x) a = a
 heard InputClosed a = a
 heard (Terminal o) a = a
@@ -298,39 +298,39 @@ hear Nothing a = a
 unfoldable pub adds : Account → Call → Answer → Account
 adds a (credit k p u) r = a
 adds a (input k b) r = a
-adds a (endInput k) r = a
-adds a (cancel now k c) r = cancelA (admits a.rep.conf.key k) now a
-adds a (launched x) r = mk (launchR a.rep) a.tallies
-adds a (output x b) r = onTally x (takenBy (take (count r) b)) a
-adds a (discarded x n) r = onTally x (marked (ltb 0 n)) a
-adds a (outputClosed x) r = mk (closeR x a.rep) a.tallies
-adds a (outputFailed x) r = onTally x (marked true) (mk (closeR x a.rep) a.tallies)
-adds a (outputHungUp x) r = mk (hangR x a.rep) a.tallies
-adds a (inputWritten n) r = a
-adds a inputClosed r = a
-adds a (exited now x) r = exitA now a
-adds a (settled ok) r = mk (settlingR (reportedR a.rep.settling ok) a.rep) a.tallies
-adds a (dropped now) r = detachA now a
-adds a (reset now) r = detachA now a
-adds a (disconnect now) r = detachA now a
-adds a (tick now) r = tickA now a
-adds a nextRequest r = a
-adds a (nextMessage n) r = hear r a
-adds a (readAllowance x) r = a
-adds a pendingInput r = a
+adds a (end_input k) r = a
+adds a (cancel now k c) r = cancel_a (admits a.rep.conf.key k) now a
+adds a (launched x) r = mk (launch_r a.rep) a.tallies
+adds a (output x b) r = on_tally x (taken_by (take (count r) b)) a
+adds a (discarded x n) r = on_tally x (marked (ltb 0 n)) a
+adds a (output_closed x) r = mk (close_r x a.rep) a.tallies
+adds a (output_failed x) r = on_tally x (marked true) (mk (close_r x a.rep) a.tallies)
+adds a (output_hung_up x) r = mk (hang_r x a.rep) a.tallies
+adds a (input_written n) r = a
+adds a input_closed r = a
+adds a (exited now x) r = exit_a now a
+adds a (settled ok) r = mk (settling_r (reported_r a.rep.settling ok) a.rep) a.tallies
+adds a (dropped now) r = detach_a now a
+adds a (reset now) r = detach_a now a
+adds a (disconnect now) r = detach_a now a
+adds a (tick now) r = tick_a now a
+adds a next_request r = a
+adds a (next_message n) r = hear r a
+adds a (read_allowance x) r = a
+adds a pending_input r = a
 adds a deadline r = a
-adds a isFinished r = a
-adds a isDetached r = a
-adds a awaitsSettlement r = a
+adds a is_finished r = a
+adds a is_detached r = a
+adds a awaits_settlement r = a
 adds a buffered r = a
-adds a highWater r = a
-adds a memoryBound r = a
+adds a high_water r = a
+adds a memory_bound r = a
 adds a key r = a
 adds a limits r = a
 
 -- a refused call adds nothing
 unfoldable pub add : Account → Call → Answer → Account
-add a c r = cond (isRefused r) a (adds a c r)
+add a c r = cond (is_refused r) a (adds a c r)
 
 abbrev pub none : Tally
 none = record { taken = []; sent = []; mark = false }
@@ -339,12 +339,12 @@ none = record { taken = []; sent = []; mark = false }
 unfoldable pub start : Conf → ℕ → Account
 start c now = mk (record {
   conf = c;
-  timeout = timeoutAt c.timers.timeout now;
+  timeout = timeout_at c.timers.timeout now;
   begun = false;
-  giveUp = Never;
+  give_up = Never;
   abandon = Never;
   launch = false;
-  gaveUp = false;
+  gave_up = false;
   left = false;
   exit = false;
   settling = Idle;
@@ -357,8 +357,8 @@ abbrev pub account : Account → List Done → Account
 account a [] = a
 account a (d ∷ ds) = account (add a d.call d.answer) ds
 
-abbrev pub tallyOf : Stream → Account → Tally
-tallyOf x a = one x a.tallies
+abbrev pub tally_of : Stream → Account → Tally
+tally_of x a = one x a.tallies
 
 -- truncated, by the account
 unfoldable pub cut : Tally → Bool

@@ -5,124 +5,124 @@ use Rattle.exec.specs.declared.Key.{Key}
 use Rattle.exec.specs.declared.Outcome.{Outcome}
 use Rattle.exec.specs.declared.Reply.TheVariants as Reply
 use Rattle.exec.specs.declared.Stream.{Stream}
-use Rattle.exec.specs.Outcome.{isTruncated}
+use Rattle.exec.specs.Outcome.{is_truncated}
 use Rattle.runner.specs.Calls as Calls
-use Rattle.calls.specs.Call.{Conf, Done, Call, key, limits, credit, input, endInput, cancel, launched, readAllowance, output, discarded, outputClosed, outputFailed, outputHungUp, pendingInput, inputWritten, inputClosed, exited, settled, dropped, reset, disconnect, tick, deadline, nextRequest, nextMessage, isFinished, isDetached, awaitsSettlement, memoryBound, buffered, highWater, Answer, Ok, Applied, Stale, Late, Refused, Taken, Pending, Value, Time, Truth, Asks, Says, IsKey, AreLimits, Nothing, Message, Credit, Started, Output, End, InputClosed, Terminal}
+use Rattle.calls.specs.Call.{Conf, Done, Call, key, limits, credit, input, end_input, cancel, launched, read_allowance, output, discarded, output_closed, output_failed, output_hung_up, pending_input, input_written, input_closed, exited, settled, dropped, reset, disconnect, tick, deadline, next_request, next_message, is_finished, is_detached, awaits_settlement, memory_bound, buffered, high_water, Answer, Ok, Applied, Stale, Late, Refused, Taken, Pending, Value, Time, Truth, Asks, Says, IsKey, AreLimits, Nothing, Message, Credit, Started, Output, End, InputClosed, Terminal}
 use Rattle.account.specs.Step.{next, answer, opened, after, run}
-use Rattle.account.specs.Account.{Account, start, account, tallyOf, cut, tickA}
+use Rattle.account.specs.Account.{Account, start, account, tally_of, cut, tick_a}
 
 abbrev pub IsPrefix : List ℕ → List ℕ → Type 0
 IsPrefix a b = (rest : List ℕ) × (b ≡ a ++ rest)
 
 -- the account after a list of calls
-abbrev pub accountOf : Conf → ℕ → List ℕ → List ℕ → List Call → Account
-accountOf c now bytes lengths cs = account (start c now) (run (opened c now bytes lengths) cs)
+abbrev pub account_of : Conf → ℕ → List ℕ → List ℕ → List Call → Account
+account_of c now bytes lengths cs = account (start c now) (run (opened c now bytes lengths) cs)
 
-abbrev pub isMessage : Answer → Bool
-isMessage Ok = false
-isMessage Applied = false
-isMessage Stale = false
-isMessage Late = false
-isMessage (Refused n) = false
-isMessage (Taken n) = false
-isMessage (Pending b) = false
-isMessage (Value n) = false
-isMessage (Time d) = false
-isMessage (Truth b) = false
-isMessage (Asks r) = false
-isMessage (Says m) = true
-isMessage (IsKey k) = false
-isMessage (AreLimits l) = false
-isMessage Nothing = false
+abbrev pub is_message : Answer → Bool
+is_message Ok = false
+is_message Applied = false
+is_message Stale = false
+is_message Late = false
+is_message (Refused n) = false
+is_message (Taken n) = false
+is_message (Pending b) = false
+is_message (Value n) = false
+is_message (Time d) = false
+is_message (Truth b) = false
+is_message (Asks r) = false
+is_message (Says m) = true
+is_message (IsKey k) = false
+is_message (AreLimits l) = false
+is_message Nothing = false
 
-abbrev pub terminalMessage : Message → Bool
-terminalMessage (Credit n) = false
-terminalMessage Started = false
-terminalMessage (Output x b) = false
-terminalMessage (End x) = false
-terminalMessage InputClosed = false
-terminalMessage (Terminal o) = true
+abbrev pub terminal_message : Message → Bool
+terminal_message (Credit n) = false
+terminal_message Started = false
+terminal_message (Output x b) = false
+terminal_message (End x) = false
+terminal_message InputClosed = false
+terminal_message (Terminal o) = true
 
-abbrev pub isTerminal : Answer → Bool
-isTerminal Ok = false
-isTerminal Applied = false
-isTerminal Stale = false
-isTerminal Late = false
-isTerminal (Refused n) = false
-isTerminal (Taken n) = false
-isTerminal (Pending b) = false
-isTerminal (Value n) = false
-isTerminal (Time d) = false
-isTerminal (Truth b) = false
-isTerminal (Asks r) = false
-isTerminal (Says m) = terminalMessage m
-isTerminal (IsKey k) = false
-isTerminal (AreLimits l) = false
-isTerminal Nothing = false
+abbrev pub is_terminal : Answer → Bool
+is_terminal Ok = false
+is_terminal Applied = false
+is_terminal Stale = false
+is_terminal Late = false
+is_terminal (Refused n) = false
+is_terminal (Taken n) = false
+is_terminal (Pending b) = false
+is_terminal (Value n) = false
+is_terminal (Time d) = false
+is_terminal (Truth b) = false
+is_terminal (Asks r) = false
+is_terminal (Says m) = terminal_message m
+is_terminal (IsKey k) = false
+is_terminal (AreLimits l) = false
+is_terminal Nothing = false
 
-abbrev pub anyTerminal : List Done → Bool
-anyTerminal [] = false
-anyTerminal (d ∷ ds) = isTerminal d.answer || anyTerminal ds
+abbrev pub any_terminal : List Done → Bool
+any_terminal [] = false
+any_terminal (d ∷ ds) = is_terminal d.answer || any_terminal ds
 
 abbrev pub Silent : List Done → Type 0
 Silent [] = Unit
-Silent (d ∷ ds) = (isMessage d.answer ≡ false) × Silent ds
+Silent (d ∷ ds) = (is_message d.answer ≡ false) × Silent ds
 
-abbrev pub countsMessage : Call → ℕ → ℕ
-countsMessage (credit k p u) n = n
-countsMessage (input k b) n = n
-countsMessage (endInput k) n = n
-countsMessage (cancel now k c) n = n
-countsMessage (launched x) n = n
-countsMessage (output x b) n = n
-countsMessage (discarded x k) n = n
-countsMessage (outputClosed x) n = n
-countsMessage (outputFailed x) n = n
-countsMessage (outputHungUp x) n = n
-countsMessage (inputWritten k) n = n
-countsMessage inputClosed n = n
-countsMessage (exited now x) n = n
-countsMessage (settled ok) n = n
-countsMessage (dropped now) n = n
-countsMessage (reset now) n = n
-countsMessage (disconnect now) n = n
-countsMessage (tick now) n = n
-countsMessage nextRequest n = n
-countsMessage (nextMessage k) n = suc n
-countsMessage (readAllowance x) n = n
-countsMessage pendingInput n = n
-countsMessage deadline n = n
-countsMessage isFinished n = n
-countsMessage isDetached n = n
-countsMessage awaitsSettlement n = n
-countsMessage buffered n = n
-countsMessage highWater n = n
-countsMessage memoryBound n = n
-countsMessage key n = n
-countsMessage limits n = n
+abbrev pub counts_message : Call → ℕ → ℕ
+counts_message (credit k p u) n = n
+counts_message (input k b) n = n
+counts_message (end_input k) n = n
+counts_message (cancel now k c) n = n
+counts_message (launched x) n = n
+counts_message (output x b) n = n
+counts_message (discarded x k) n = n
+counts_message (output_closed x) n = n
+counts_message (output_failed x) n = n
+counts_message (output_hung_up x) n = n
+counts_message (input_written k) n = n
+counts_message input_closed n = n
+counts_message (exited now x) n = n
+counts_message (settled ok) n = n
+counts_message (dropped now) n = n
+counts_message (reset now) n = n
+counts_message (disconnect now) n = n
+counts_message (tick now) n = n
+counts_message next_request n = n
+counts_message (next_message k) n = suc n
+counts_message (read_allowance x) n = n
+counts_message pending_input n = n
+counts_message deadline n = n
+counts_message is_finished n = n
+counts_message is_detached n = n
+counts_message awaits_settlement n = n
+counts_message buffered n = n
+counts_message high_water n = n
+counts_message memory_bound n = n
+counts_message key n = n
+counts_message limits n = n
 
 -- how many of the calls are next_message
 abbrev pub messages : List Call → ℕ
 messages [] = 0
-messages (c ∷ cs) = countsMessage c (messages cs)
+messages (c ∷ cs) = counts_message c (messages cs)
 
 -- refused by 10, 11 or 12
-abbrev pub isStop : Answer → Bool
-isStop Ok = false
-isStop Applied = false
-isStop Stale = false
-isStop Late = false
-isStop (Refused n) = (eqb n 10 || eqb n 11) || eqb n 12
-isStop (Taken n) = false
-isStop (Pending b) = false
-isStop (Value n) = false
-isStop (Time d) = false
-isStop (Truth b) = false
-isStop (Asks r) = false
-isStop (Says m) = false
-isStop (IsKey k) = false
-isStop (AreLimits l) = false
-isStop Nothing = false
+abbrev pub is_stop : Answer → Bool
+is_stop Ok = false
+is_stop Applied = false
+is_stop Stale = false
+is_stop Late = false
+is_stop (Refused n) = (eqb n 10 || eqb n 11) || eqb n 12
+is_stop (Taken n) = false
+is_stop (Pending b) = false
+is_stop (Value n) = false
+is_stop (Time d) = false
+is_stop (Truth b) = false
+is_stop (Asks r) = false
+is_stop (Says m) = false
+is_stop (IsKey k) = false
+is_stop (AreLimits l) = false
+is_stop Nothing = false
 
 -- open is answered ok
 abbrev pub Opens : Conf → ℕ → (bytes lengths : List ℕ) → Type 0
@@ -131,19 +131,19 @@ Opens conf now bytes lengths = (Calls.«open» conf.key conf.limits conf.timers 
 -- DEMAND 3, for a runner that open answered ok, stores of any content, and every list of calls
 pub record Demand3 (conf : Conf) (now : ℕ) (bytes lengths : List ℕ) : Type 0 where
   -- on each stream what was sent is a prefix of what was taken
-  pub joined : (cs : List Call) (x : Stream) → IsPrefix (tallyOf x (accountOf conf now bytes lengths cs)).sent (tallyOf x (accountOf conf now bytes lengths cs)).taken
+  pub joined : (cs : List Call) (x : Stream) → IsPrefix (tally_of x (account_of conf now bytes lengths cs)).sent (tally_of x (account_of conf now bytes lengths cs)).taken
   -- no message after Terminal, so Terminal at most once
-  pub once : (cs : List Call) (c : Call) (ds : List Call) → isTerminal (answer (after (opened conf now bytes lengths) cs) c) ≡ true
+  pub once : (cs : List Call) (c : Call) (ds : List Call) → is_terminal (answer (after (opened conf now bytes lengths) cs) c) ≡ true
       → Silent (run (next (after (opened conf now bytes lengths) cs) c) ds)
   -- Terminal marks a stream exactly when the account before it does
   pub marks : (cs : List Call) (c : Call) (o : Outcome) → answer (after (opened conf now bytes lengths) cs) c ≡ Says (Terminal o)
-      → (x : Stream) → isTruncated o x ≡ cut (tallyOf x (accountOf conf now bytes lengths cs))
+      → (x : Stream) → is_truncated o x ≡ cut (tally_of x (account_of conf now bytes lengths cs))
   -- an Applied cancel is itself the first of the three events: none had come before it, nor in its own tick
   pub first : (cs : List Call) (t : ℕ) (k : Key) (c : Cause) → answer (after (opened conf now bytes lengths) cs) (cancel t k c) ≡ Applied
-      → (tickA t (accountOf conf now bytes lengths cs)).rep.begun ≡ false
+      → (tick_a t (account_of conf now bytes lengths cs)).rep.begun ≡ false
   -- after a cancel Applied at t, Terminal has come by the fifth next_message after a tick at or past t + grace + settlement
   pub late : (cs ds es : List Call) (t n : ℕ) (k : Key) (c : Cause) → answer (after (opened conf now bytes lengths) cs) (cancel t k c) ≡ Applied
       → t + conf.timers.grace + conf.timers.settlement < 2 ^ 64 → t + conf.timers.grace + conf.timers.settlement ≤ n → 5 ≤ messages es
-      → anyTerminal (run (opened conf now bytes lengths) (cs ++ (cancel t k c ∷ (ds ++ (tick n ∷ es))))) ≡ true
+      → any_terminal (run (opened conf now bytes lengths) (cs ++ (cancel t k c ∷ (ds ++ (tick n ∷ es))))) ≡ true
   -- from open on no call is refused by 10, 11 or 12
-  pub ranged : (cs : List Call) (c : Call) → isStop (answer (after (opened conf now bytes lengths) cs) c) ≡ false
+  pub ranged : (cs : List Call) (c : Call) → is_stop (answer (after (opened conf now bytes lengths) cs) c) ≡ false

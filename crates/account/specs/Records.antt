@@ -9,7 +9,7 @@ use Rattle.exec.specs.declared.Outcome.{Outcome}
 use Rattle.exec.specs.declared.Pool.TheVariants as Pool
 use Rattle.exec.specs.declared.Receipt.TheVariants as Receipt
 use Rattle.exec.specs.declared.Stream.{Stream}
-use Rattle.exec.specs.Outcome.{isTruncated}
+use Rattle.exec.specs.Outcome.{is_truncated}
 use Rattle.exec.specs.Refusal.{number}
 use Rattle.runner.specs.declared.answer.Message as Messages
 use Rattle.runner.specs.declared.answer.Message.TheVariants as Message
@@ -19,20 +19,20 @@ use Rattle.channel.specs.declared.calls.Wrote.{Wrote}
 use Rattle.codec.specs.declared.Parsed.{Parsed}
 use Rattle.codec.specs.declared.Record.TheVariants as Record
 use Rattle.channel.specs.Calls as Channel
-use Rattle.channel.specs.Calls.{isChannel, room}
+use Rattle.channel.specs.Calls.{is_channel, room}
 use Rattle.codec.specs.Codec.{read}
-use Rattle.exits.specs.Exit.{isUntold}
+use Rattle.exits.specs.Exit.{is_untold}
 use Rattle.calls.specs.Call as Call
 use Rattle.calls.specs.Call.{Conf, Call, Answer, Done}
-use Rattle.account.specs.Step.{State, onRunner, next, answer, opened}
-use Rattle.account.specs.Account.{Account, start, account, tallyOf, cut, tickA}
-use Rattle.account.specs.Claim.{IsPrefix, isMessage, isTerminal, messages, isStop}
+use Rattle.account.specs.Step.{State, on_runner, next, answer, opened}
+use Rattle.account.specs.Account.{Account, start, account, tally_of, cut, tick_a}
+use Rattle.account.specs.Claim.{IsPrefix, is_message, is_terminal, messages, is_stop}
 
 -- an entry of a list: a call, a record read at an instant, or a record written; the stores are lent to each as the last left them
 pub data Entry : Type 0 where
   call : Call → Entry
-  readRecord : (now channel : ℕ) (bytes : List ℕ) → Entry
-  writeRecord : (channel : ℕ) (buffer : List ℕ) → Entry
+  read_record : (now channel : ℕ) (bytes : List ℕ) → Entry
+  write_record : (channel : ℕ) (buffer : List ℕ) → Entry
 
 -- an entry with its answer
 pub record EntryDone : Type 0 where
@@ -41,110 +41,110 @@ pub record EntryDone : Type 0 where
 
 -- ---- what an entry leaves and answers: the definitions that the code's promises cite, and nothing else
 
-unfoldable pub nextEntry : State → Entry → State
-nextEntry s (call c) = next s c
-nextEntry s (readRecord now channel b) = record {
-  runner = (Channel.readRecord s.runner now channel b s.bytes s.lengths).reading.runner;
-  bytes = (Channel.readRecord s.runner now channel b s.bytes s.lengths).bytes;
-  lengths = (Channel.readRecord s.runner now channel b s.bytes s.lengths).lengths;
+unfoldable pub next_entry : State → Entry → State
+next_entry s (call c) = next s c
+next_entry s (read_record now channel b) = record {
+  runner = (Channel.read_record s.runner now channel b s.bytes s.lengths).reading.runner;
+  bytes = (Channel.read_record s.runner now channel b s.bytes s.lengths).bytes;
+  lengths = (Channel.read_record s.runner now channel b s.bytes s.lengths).lengths;
 }
-nextEntry s (writeRecord channel buffer) = onRunner (Channel.writeRecord s.runner channel s.bytes buffer).writing.runner s
+next_entry s (write_record channel buffer) = on_runner (Channel.write_record s.runner channel s.bytes buffer).writing.runner s
 
 -- a record read answers as the call that it makes
-abbrev pub readAs : Answers.Answer → Answer
-readAs (Reads.Receipt Receipt.Applied) = Call.Applied
-readAs (Reads.Receipt Receipt.Stale) = Call.Stale
-readAs (Reads.Receipt Receipt.Late) = Call.Late
-readAs Reads.Ok = Call.Ok
-readAs (Reads.Refused x) = Call.Refused (number x)
+abbrev pub read_as : Answers.Answer → Answer
+read_as (Reads.Receipt Receipt.Applied) = Call.Applied
+read_as (Reads.Receipt Receipt.Stale) = Call.Stale
+read_as (Reads.Receipt Receipt.Late) = Call.Late
+read_as Reads.Ok = Call.Ok
+read_as (Reads.Refused x) = Call.Refused (number x)
 
 -- the message of a record that was written, of whole bytes: the payload of an Output is the last of them
-abbrev pub messageIn : Messages.Message → (whole : ℕ) (buffer : List ℕ) → Answer
-messageIn (Message.Credit n) whole buffer = Call.Says (Call.Credit n)
-messageIn Message.Started whole buffer = Call.Says Call.Started
-messageIn (Message.Output x n) whole buffer = Call.Says (Call.Output x (drop (whole - n) (take whole buffer)))
-messageIn (Message.End x) whole buffer = Call.Says (Call.End x)
-messageIn Message.InputClosed whole buffer = Call.Says Call.InputClosed
-messageIn (Message.Terminal o) whole buffer = Call.Says (Call.Terminal o)
+abbrev pub message_in : Messages.Message → (whole : ℕ) (buffer : List ℕ) → Answer
+message_in (Message.Credit n) whole buffer = Call.Says (Call.Credit n)
+message_in Message.Started whole buffer = Call.Says Call.Started
+message_in (Message.Output x n) whole buffer = Call.Says (Call.Output x (drop (whole - n) (take whole buffer)))
+message_in (Message.End x) whole buffer = Call.Says (Call.End x)
+message_in Message.InputClosed whole buffer = Call.Says Call.InputClosed
+message_in (Message.Terminal o) whole buffer = Call.Says (Call.Terminal o)
 
-abbrev pub wroteAs : Wrote → (buffer : List ℕ) → Answer
-wroteAs Wrote.None buffer = Call.Nothing
-wroteAs (Wrote.Message m whole) buffer = messageIn m whole buffer
-wroteAs (Wrote.Refused x) buffer = Call.Refused (number x)
+abbrev pub wrote_as : Wrote → (buffer : List ℕ) → Answer
+wrote_as Wrote.None buffer = Call.Nothing
+wrote_as (Wrote.Message m whole) buffer = message_in m whole buffer
+wrote_as (Wrote.Refused x) buffer = Call.Refused (number x)
 
-unfoldable pub answerEntry : State → Entry → Answer
-answerEntry s (call c) = answer s c
-answerEntry s (readRecord now channel b) =
-    readAs (Channel.readRecord s.runner now channel b s.bytes s.lengths).reading.answer
-answerEntry s (writeRecord channel buffer) =
-    wroteAs (Channel.writeRecord s.runner channel s.bytes buffer).writing.wrote (Channel.writeRecord s.runner channel s.bytes buffer).buffer
+unfoldable pub answer_entry : State → Entry → Answer
+answer_entry s (call c) = answer s c
+answer_entry s (read_record now channel b) =
+    read_as (Channel.read_record s.runner now channel b s.bytes s.lengths).reading.answer
+answer_entry s (write_record channel buffer) =
+    wrote_as (Channel.write_record s.runner channel s.bytes buffer).writing.wrote (Channel.write_record s.runner channel s.bytes buffer).buffer
 
-abbrev pub afterEntries : State → List Entry → State
-afterEntries s [] = s
-afterEntries s (e ∷ es) = afterEntries (nextEntry s e) es
+abbrev pub after_entries : State → List Entry → State
+after_entries s [] = s
+after_entries s (e ∷ es) = after_entries (next_entry s e) es
 
-abbrev pub runEntries : State → List Entry → List EntryDone
-runEntries s [] = []
-runEntries s (e ∷ es) = record { entry = e; answer = answerEntry s e } ∷ runEntries (nextEntry s e) es
+abbrev pub run_entries : State → List Entry → List EntryDone
+run_entries s [] = []
+run_entries s (e ∷ es) = record { entry = e; answer = answer_entry s e } ∷ run_entries (next_entry s e) es
 
 -- ---- the calls of a list
 
 -- the call that a record's bytes make: 93 credit on pool Output, 94 input, 96 end_input, 97 disconnect
-unfoldable pub callOf : Conf → (now : ℕ) → (bytes : List ℕ) → Parsed → Option Call
-callOf conf now b (Parsed.Read (Record.Adjust units)) = some (Call.credit conf.key Pool.Output units)
-callOf conf now b (Parsed.Read (Record.Data n)) = some (Call.input conf.key (drop 9 b))
-callOf conf now b (Parsed.Read (Record.Extended n)) = none
-callOf conf now b (Parsed.Read Record.Eof) = some (Call.endInput conf.key)
-callOf conf now b (Parsed.Read Record.Close) = some (Call.disconnect now)
-callOf conf now b (Parsed.Refused x) = none
+unfoldable pub call_of : Conf → (now : ℕ) → (bytes : List ℕ) → Parsed → Option Call
+call_of conf now b (Parsed.Read (Record.Adjust units)) = some (Call.credit conf.key Pool.Output units)
+call_of conf now b (Parsed.Read (Record.Data n)) = some (Call.input conf.key (drop 9 b))
+call_of conf now b (Parsed.Read (Record.Extended n)) = none
+call_of conf now b (Parsed.Read Record.Eof) = some (Call.end_input conf.key)
+call_of conf now b (Parsed.Read Record.Close) = some (Call.disconnect now)
+call_of conf now b (Parsed.Refused x) = none
 
 -- a record is written into a buffer of at least chunk + 13 bytes, and 43
 abbrev pub roomy : Conf → (buffer : List ℕ) → Bool
 roomy conf buffer = leb (room conf.limits) (length buffer)
 
 -- refused by 40: the message was not taken
-abbrev pub isUntaken : Answer → Bool
-isUntaken Call.Ok = false
-isUntaken Call.Applied = false
-isUntaken Call.Stale = false
-isUntaken Call.Late = false
-isUntaken (Call.Refused n) = eqb n 40
-isUntaken (Call.Taken n) = false
-isUntaken (Call.Pending b) = false
-isUntaken (Call.Value n) = false
-isUntaken (Call.Time d) = false
-isUntaken (Call.Truth b) = false
-isUntaken (Call.Asks r) = false
-isUntaken (Call.Says m) = false
-isUntaken (Call.IsKey k) = false
-isUntaken (Call.AreLimits l) = false
-isUntaken Call.Nothing = false
+abbrev pub is_untaken : Answer → Bool
+is_untaken Call.Ok = false
+is_untaken Call.Applied = false
+is_untaken Call.Stale = false
+is_untaken Call.Late = false
+is_untaken (Call.Refused n) = eqb n 40
+is_untaken (Call.Taken n) = false
+is_untaken (Call.Pending b) = false
+is_untaken (Call.Value n) = false
+is_untaken (Call.Time d) = false
+is_untaken (Call.Truth b) = false
+is_untaken (Call.Asks r) = false
+is_untaken (Call.Says m) = false
+is_untaken (Call.IsKey k) = false
+is_untaken (Call.AreLimits l) = false
+is_untaken Call.Nothing = false
 
 -- the call that an entry makes, where it is answered so
 unfoldable pub made : Conf → Entry → Answer → Option Call
 made conf (call c) a = some c
-made conf (readRecord now channel b) a = cond (isChannel conf.limits) (callOf conf now b (read channel b)) none
-made conf (writeRecord channel buffer) a =
-    cond (isChannel conf.limits && roomy conf buffer)
-    (cond (isUntaken a) none (some (Call.nextMessage (take conf.limits.chunk (drop 13 buffer)))))
+made conf (read_record now channel b) a = cond (is_channel conf.limits) (call_of conf now b (read channel b)) none
+made conf (write_record channel buffer) a =
+    cond (is_channel conf.limits && roomy conf buffer)
+    (cond (is_untaken a) none (some (Call.next_message (take conf.limits.chunk (drop 13 buffer)))))
     none
 
-abbrev pub consCall : Option Call → List Call → List Call
-consCall none cs = cs
-consCall (some c) cs = c ∷ cs
+abbrev pub cons_call : Option Call → List Call → List Call
+cons_call none cs = cs
+cons_call (some c) cs = c ∷ cs
 
-abbrev pub callsOf : Conf → List EntryDone → List Call
-callsOf conf [] = []
-callsOf conf (d ∷ ds) = consCall (made conf d.entry d.answer) (callsOf conf ds)
+abbrev pub calls_of : Conf → List EntryDone → List Call
+calls_of conf [] = []
+calls_of conf (d ∷ ds) = cons_call (made conf d.entry d.answer) (calls_of conf ds)
 
 -- the calls made, each with its entry's answer
-abbrev pub consDone : Option Call → Answer → List Done → List Done
-consDone none a ds = ds
-consDone (some c) a ds = record { call = c; answer = a } ∷ ds
+abbrev pub cons_done : Option Call → Answer → List Done → List Done
+cons_done none a ds = ds
+cons_done (some c) a ds = record { call = c; answer = a } ∷ ds
 
-abbrev pub donesOf : Conf → List EntryDone → List Done
-donesOf conf [] = []
-donesOf conf (d ∷ ds) = consDone (made conf d.entry d.answer) d.answer (donesOf conf ds)
+abbrev pub dones_of : Conf → List EntryDone → List Done
+dones_of conf [] = []
+dones_of conf (d ∷ ds) = cons_done (made conf d.entry d.answer) d.answer (dones_of conf ds)
 
 -- ---- refusals of a record's own
 
@@ -153,61 +153,61 @@ among n [] = false
 among n (x ∷ xs) = eqb n x || among n xs
 
 -- what a record that is read, or written, is refused by where it makes no call
-abbrev pub ofReads : List ℕ
-ofReads = 13 ∷ 20 ∷ 21 ∷ 22 ∷ 23 ∷ 24 ∷ []
+abbrev pub of_reads : List ℕ
+of_reads = 13 ∷ 20 ∷ 21 ∷ 22 ∷ 23 ∷ 24 ∷ []
 
-abbrev pub ofWrites : List ℕ
-ofWrites = 13 ∷ 25 ∷ 40 ∷ []
+abbrev pub of_writes : List ℕ
+of_writes = 13 ∷ 25 ∷ 40 ∷ []
 
-abbrev pub ofEntry : Entry → List ℕ
-ofEntry (call c) = []
-ofEntry (readRecord now channel b) = ofReads
-ofEntry (writeRecord channel buffer) = ofWrites
+abbrev pub of_entry : Entry → List ℕ
+of_entry (call c) = []
+of_entry (read_record now channel b) = of_reads
+of_entry (write_record channel buffer) = of_writes
 
 -- ---- the demand
 
 -- the account after a list, from its entries and their answers
-abbrev pub entryAccount : Conf → ℕ → (bytes lengths : List ℕ) → List Entry → Account
-entryAccount conf now bytes lengths es = account (start conf now) (donesOf conf (runEntries (opened conf now bytes lengths) es))
+abbrev pub entry_account : Conf → ℕ → (bytes lengths : List ℕ) → List Entry → Account
+entry_account conf now bytes lengths es = account (start conf now) (dones_of conf (run_entries (opened conf now bytes lengths) es))
 
-abbrev pub anyTerminalIn : List EntryDone → Bool
-anyTerminalIn [] = false
-anyTerminalIn (d ∷ ds) = isTerminal d.answer || anyTerminalIn ds
+abbrev pub any_terminal_in : List EntryDone → Bool
+any_terminal_in [] = false
+any_terminal_in (d ∷ ds) = is_terminal d.answer || any_terminal_in ds
 
 abbrev pub SilentIn : List EntryDone → Type 0
 SilentIn [] = Unit
-SilentIn (d ∷ ds) = (isMessage d.answer ≡ false) × SilentIn ds
+SilentIn (d ∷ ds) = (is_message d.answer ≡ false) × SilentIn ds
 
 -- DEMAND 3 WHOLE, for a runner that open answered ok, stores of any content, and every list of calls and records
 pub record Whole (conf : Conf) (now : ℕ) (bytes lengths : List ℕ) : Type 0 where
   -- on each stream what was sent is a prefix of what was taken
-  pub joined : (es : List Entry) (x : Stream) → IsPrefix (tallyOf x (entryAccount conf now bytes lengths es)).sent (tallyOf x (entryAccount conf now bytes lengths es)).taken
+  pub joined : (es : List Entry) (x : Stream) → IsPrefix (tally_of x (entry_account conf now bytes lengths es)).sent (tally_of x (entry_account conf now bytes lengths es)).taken
   -- no message after Terminal, so Terminal at most once
-  pub once : (es : List Entry) (e : Entry) (ds : List Entry) → isTerminal (answerEntry (afterEntries (opened conf now bytes lengths) es) e) ≡ true
-      → SilentIn (runEntries (nextEntry (afterEntries (opened conf now bytes lengths) es) e) ds)
+  pub once : (es : List Entry) (e : Entry) (ds : List Entry) → is_terminal (answer_entry (after_entries (opened conf now bytes lengths) es) e) ≡ true
+      → SilentIn (run_entries (next_entry (after_entries (opened conf now bytes lengths) es) e) ds)
   -- Terminal marks a stream exactly when the account before it does
-  pub marks : (es : List Entry) (e : Entry) (o : Outcome) → answerEntry (afterEntries (opened conf now bytes lengths) es) e ≡ Call.Says (Call.Terminal o)
-      → (x : Stream) → isTruncated o x ≡ cut (tallyOf x (entryAccount conf now bytes lengths es))
+  pub marks : (es : List Entry) (e : Entry) (o : Outcome) → answer_entry (after_entries (opened conf now bytes lengths) es) e ≡ Call.Says (Call.Terminal o)
+      → (x : Stream) → is_truncated o x ≡ cut (tally_of x (entry_account conf now bytes lengths es))
   -- an Applied cancel is itself the first of the three events: none had come before it, nor in its own tick
-  pub first : (es : List Entry) (t : ℕ) (k : Key) (c : Cause) → answerEntry (afterEntries (opened conf now bytes lengths) es) (call (Call.cancel t k c)) ≡ Call.Applied
-      → (tickA t (entryAccount conf now bytes lengths es)).rep.begun ≡ false
+  pub first : (es : List Entry) (t : ℕ) (k : Key) (c : Cause) → answer_entry (after_entries (opened conf now bytes lengths) es) (call (Call.cancel t k c)) ≡ Call.Applied
+      → (tick_a t (entry_account conf now bytes lengths es)).rep.begun ≡ false
   -- after a cancel Applied at t, Terminal has come by the fifth message asked for, by call or by record, after a tick at or past
   -- t + grace + settlement; what is refused asks for none
-  pub late : (cs ds es : List Entry) (t n : ℕ) (k : Key) (c : Cause) → answerEntry (afterEntries (opened conf now bytes lengths) cs) (call (Call.cancel t k c)) ≡ Call.Applied
+  pub late : (cs ds es : List Entry) (t n : ℕ) (k : Key) (c : Cause) → answer_entry (after_entries (opened conf now bytes lengths) cs) (call (Call.cancel t k c)) ≡ Call.Applied
       → t + conf.timers.grace + conf.timers.settlement < 2 ^ 64 → t + conf.timers.grace + conf.timers.settlement ≤ n
-      → 5 ≤ messages (callsOf conf (runEntries (nextEntry (afterEntries (nextEntry (afterEntries (opened conf now bytes lengths) cs) (call (Call.cancel t k c))) ds) (call (Call.tick n))) es))
-      → anyTerminalIn (runEntries (opened conf now bytes lengths) (cs ++ (call (Call.cancel t k c) ∷ (ds ++ (call (Call.tick n) ∷ es))))) ≡ true
+      → 5 ≤ messages (calls_of conf (run_entries (next_entry (after_entries (next_entry (after_entries (opened conf now bytes lengths) cs) (call (Call.cancel t k c))) ds) (call (Call.tick n))) es))
+      → any_terminal_in (run_entries (opened conf now bytes lengths) (cs ++ (call (Call.cancel t k c) ∷ (ds ++ (call (Call.tick n) ∷ es))))) ≡ true
   -- from open on no entry is refused by 10, 11 or 12
-  pub ranged : (es : List Entry) (e : Entry) → isStop (answerEntry (afterEntries (opened conf now bytes lengths) es) e) ≡ false
+  pub ranged : (es : List Entry) (e : Entry) → is_stop (answer_entry (after_entries (opened conf now bytes lengths) es) e) ≡ false
   -- an entry that makes no call is refused by a number of its own, and leaves runner and stores as they were
-  pub refused : (es : List Entry) (e : Entry) → made conf e (answerEntry (afterEntries (opened conf now bytes lengths) es) e) ≡ none
-      → (nextEntry (afterEntries (opened conf now bytes lengths) es) e ≡ afterEntries (opened conf now bytes lengths) es)
-      × ((n : ℕ) × (answerEntry (afterEntries (opened conf now bytes lengths) es) e ≡ Call.Refused n) × (among n (ofEntry e) ≡ true))
+  pub refused : (es : List Entry) (e : Entry) → made conf e (answer_entry (after_entries (opened conf now bytes lengths) es) e) ≡ none
+      → (next_entry (after_entries (opened conf now bytes lengths) es) e ≡ after_entries (opened conf now bytes lengths) es)
+      × ((n : ℕ) × (answer_entry (after_entries (opened conf now bytes lengths) es) e ≡ Call.Refused n) × (among n (of_entry e) ≡ true))
   -- a write answered 40 leaves the Terminal with the runner: next_message gives it, into any buffer, and its status is one that no
   -- request tells
-  pub untold : (es : List Entry) (channel : ℕ) (buffer : List ℕ) → answerEntry (afterEntries (opened conf now bytes lengths) es) (writeRecord channel buffer) ≡ Call.Refused 40
-      → (part : List ℕ) → (o : Outcome) × (answer (afterEntries (opened conf now bytes lengths) es) (Call.nextMessage part) ≡ Call.Says (Call.Terminal o)) × (isUntold o.status ≡ true)
+  pub untold : (es : List Entry) (channel : ℕ) (buffer : List ℕ) → answer_entry (after_entries (opened conf now bytes lengths) es) (write_record channel buffer) ≡ Call.Refused 40
+      → (part : List ℕ) → (o : Outcome) × (answer (after_entries (opened conf now bytes lengths) es) (Call.next_message part) ≡ Call.Says (Call.Terminal o)) × (is_untold o.status ≡ true)
   -- and wherever next_message would give such a Terminal, a write with room is answered 40
-  pub left : (es : List Entry) (part : List ℕ) (o : Outcome) → answer (afterEntries (opened conf now bytes lengths) es) (Call.nextMessage part) ≡ Call.Says (Call.Terminal o)
-      → isUntold o.status ≡ true → (channel : ℕ) (buffer : List ℕ) → (isChannel conf.limits && roomy conf buffer) ≡ true
-      → answerEntry (afterEntries (opened conf now bytes lengths) es) (writeRecord channel buffer) ≡ Call.Refused 40
+  pub left : (es : List Entry) (part : List ℕ) (o : Outcome) → answer (after_entries (opened conf now bytes lengths) es) (Call.next_message part) ≡ Call.Says (Call.Terminal o)
+      → is_untold o.status ≡ true → (channel : ℕ) (buffer : List ℕ) → (is_channel conf.limits && roomy conf buffer) ≡ true
+      → answer_entry (after_entries (opened conf now bytes lengths) es) (write_record channel buffer) ≡ Call.Refused 40

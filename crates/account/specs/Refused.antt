@@ -4,10 +4,10 @@
 use Rattle.std.specs.Prelude.{true, cond, ◌&&◌, ◌||◌, ◌≡◌, List, [], ◌∷◌, ℕ}
 use Rattle.exec.specs.declared.MaybeStatus.{MaybeStatus}
 use Rattle.exec.specs.declared.Refusal.{Refusal}
-use Rattle.exec.specs.Limits.{isValid}
+use Rattle.exec.specs.Limits.{is_valid}
 use Rattle.exec.specs.Refusal.{number}
 use Rattle.runner.specs.Calls as Calls
-use Rattle.runner.specs.Range.{bytesDo, lengthsDo}
+use Rattle.runner.specs.Range.{bytes_do, lengths_do}
 use Rattle.codec.specs.declared.Parsed.TheVariants as Parsed
 use Rattle.codec.specs.declared.Record.{Record}
 use Rattle.codec.specs.declared.Written.TheVariants as Written
@@ -19,14 +19,14 @@ use Rattle.channel.specs.Calls as Channel
 use Rattle.calls.specs.Call as Call
 use Rattle.calls.specs.Call.{Conf, Call, Answer}
 use Rattle.account.specs.Step.{State, replied, next, answer, opened}
-use Rattle.account.specs.Records.{Entry, writeRecord, nextEntry, answerEntry, afterEntries, among, ofEntry}
+use Rattle.account.specs.Records.{Entry, write_record, next_entry, answer_entry, after_entries, among, of_entry}
 
 -- what a call may be refused by
-abbrev pub ofCalls : List ℕ
-ofCalls = 1 ∷ 2 ∷ 3 ∷ 4 ∷ 5 ∷ 6 ∷ 10 ∷ 11 ∷ 12 ∷ []
+abbrev pub of_calls : List ℕ
+of_calls = 1 ∷ 2 ∷ 3 ∷ 4 ∷ 5 ∷ 6 ∷ 10 ∷ 11 ∷ 12 ∷ []
 
-abbrev pub openAnswer : Conf → ℕ → (bytes lengths : List ℕ) → Answer
-openAnswer conf now bytes lengths = replied (Calls.«open» conf.key conf.limits conf.timers now bytes lengths).reply
+abbrev pub open_answer : Conf → ℕ → (bytes lengths : List ℕ) → Answer
+open_answer conf now bytes lengths = replied (Calls.«open» conf.key conf.limits conf.timers now bytes lengths).reply
 
 -- a writer that refuses does so by one of the numbers, and leaves the buffer as it was
 abbrev pub Unwritten : List ℕ → WrittenAfter → (buffer : List ℕ) → Type 0
@@ -37,30 +37,30 @@ pub record Refusals : Type 0 where
   -- a call that is refused leaves the runner and both stores as they were
   pub call_kept : (s : State) (c : Call) (n : ℕ) → answer s c ≡ Call.Refused n → next s c ≡ s
   -- and next_message the buffer
-  pub message-kept : (s : State) (buffer : List ℕ) (n : ℕ) → answer s (Call.nextMessage buffer) ≡ Call.Refused n
-      → (Calls.nextMessage s.runner s.bytes buffer).buffer ≡ buffer
-  pub call-number : (s : State) (c : Call) (n : ℕ) → answer s c ≡ Call.Refused n → among n ofCalls ≡ true
+  pub message_kept : (s : State) (buffer : List ℕ) (n : ℕ) → answer s (Call.next_message buffer) ≡ Call.Refused n
+      → (Calls.next_message s.runner s.bytes buffer).buffer ≡ buffer
+  pub call_number : (s : State) (c : Call) (n : ℕ) → answer s c ≡ Call.Refused n → among n of_calls ≡ true
   -- so does a record that is refused
-  pub entry_kept : (s : State) (e : Entry) (n : ℕ) → answerEntry s e ≡ Call.Refused n → nextEntry s e ≡ s
+  pub entry_kept : (s : State) (e : Entry) (n : ℕ) → answer_entry s e ≡ Call.Refused n → next_entry s e ≡ s
   -- and a record that is not written leaves the record buffer
-  pub buffer-kept : (s : State) (channel : ℕ) (buffer : List ℕ) (n : ℕ) → answerEntry s (writeRecord channel buffer) ≡ Call.Refused n
-      → (Channel.writeRecord s.runner channel s.bytes buffer).buffer ≡ buffer
-  pub entry-number : (s : State) (e : Entry) (n : ℕ) → answerEntry s e ≡ Call.Refused n → (among n ofCalls || among n (ofEntry e)) ≡ true
+  pub buffer_kept : (s : State) (channel : ℕ) (buffer : List ℕ) (n : ℕ) → answer_entry s (write_record channel buffer) ≡ Call.Refused n
+      → (Channel.write_record s.runner channel s.bytes buffer).buffer ≡ buffer
+  pub entry_number : (s : State) (e : Entry) (n : ℕ) → answer_entry s e ≡ Call.Refused n → (among n of_calls || among n (of_entry e)) ≡ true
   -- 'Same id, lower generation: Stale, and nothing else happens, not even the tick of cancel'
-  pub stale-kept : (s : State) (c : Call) → answer s c ≡ Call.Stale → next s c ≡ s
-  pub stale-read : (s : State) (e : Entry) → answerEntry s e ≡ Call.Stale → nextEntry s e ≡ s
+  pub stale_kept : (s : State) (c : Call) → answer s c ≡ Call.Stale → next s c ≡ s
+  pub stale_read : (s : State) (e : Entry) → answer_entry s e ≡ Call.Stale → next_entry s e ≡ s
   -- open is refused by 10 exactly where the limits are not valid, by 11 where they are and a lent store is short, and by nothing
   -- else; it is lent the stores to read only
-  pub open-number : (conf : Conf) (now : ℕ) (bytes lengths : List ℕ)
-      → openAnswer conf now bytes lengths ≡ cond (isValid conf.limits) (cond (bytesDo conf.limits bytes && lengthsDo conf.limits lengths) Call.Ok (Call.Refused 11)) (Call.Refused 10)
+  pub open_number : (conf : Conf) (now : ℕ) (bytes lengths : List ℕ)
+      → open_answer conf now bytes lengths ≡ cond (is_valid conf.limits) (cond (bytes_do conf.limits bytes && lengths_do conf.limits lengths) Call.Ok (Call.Refused 11)) (Call.Refused 10)
   -- and on the runner that it then gives every call and record is refused by 10, with any stores, and after any others
-  pub unopened : (conf : Conf) (now : ℕ) (bytes lengths : List ℕ) (n : ℕ) → openAnswer conf now bytes lengths ≡ Call.Refused n
+  pub unopened : (conf : Conf) (now : ℕ) (bytes lengths : List ℕ) (n : ℕ) → open_answer conf now bytes lengths ≡ Call.Refused n
       → (store slots : List ℕ) (es : List Entry) (e : Entry)
-      → answerEntry (afterEntries (record { runner = (opened conf now bytes lengths).runner; bytes = store; lengths = slots }) es) e ≡ Call.Refused 10
+      → answer_entry (after_entries (record { runner = (opened conf now bytes lengths).runner; bytes = store; lengths = slots }) es) e ≡ Call.Refused 10
   -- what writes the bytes of a record, without a runner
   pub write_kept : (channel : ℕ) (rec : Record) (payload buffer : List ℕ) → Unwritten (20 ∷ 25 ∷ []) (Codec.write channel rec payload buffer) buffer
-  pub lay-kept : (channel : ℕ) (rec : Record) (buffer : List ℕ) → Unwritten (25 ∷ []) (Codec.lay channel rec buffer) buffer
-  pub close-kept : (channel : ℕ) (status : MaybeStatus) (buffer : List ℕ) → Unwritten (25 ∷ 40 ∷ []) (Exit.close channel status buffer) buffer
+  pub lay_kept : (channel : ℕ) (rec : Record) (buffer : List ℕ) → Unwritten (25 ∷ []) (Codec.lay channel rec buffer) buffer
+  pub close_kept : (channel : ℕ) (status : MaybeStatus) (buffer : List ℕ) → Unwritten (25 ∷ 40 ∷ []) (Exit.close channel status buffer) buffer
   -- and what reads them, which changes nothing
   pub read_number : (channel : ℕ) (bytes : List ℕ) (x : Refusal) → Codec.read channel bytes ≡ Parsed.Refused x → among (number x) (20 ∷ 21 ∷ 22 ∷ 23 ∷ []) ≡ true
-  pub request-number : (channel : ℕ) (bytes : List ℕ) (x : Refusal) → Exit.read channel bytes ≡ Told.Refused x → among (number x) (20 ∷ 21 ∷ 22 ∷ 41 ∷ []) ≡ true
+  pub request_number : (channel : ℕ) (bytes : List ℕ) (x : Refusal) → Exit.read channel bytes ≡ Told.Refused x → among (number x) (20 ∷ 21 ∷ 22 ∷ 41 ∷ []) ≡ true

@@ -33,11 +33,11 @@ abbrev pub replied : Reply → Answer
 replied Reply.Ok = Call.Ok
 replied (Reply.Refused x) = Call.Refused (number x)
 
-abbrev pub receivedAs : Received → Answer
-receivedAs (Received.Receipt Receipt.Applied) = Call.Applied
-receivedAs (Received.Receipt Receipt.Stale) = Call.Stale
-receivedAs (Received.Receipt Receipt.Late) = Call.Late
-receivedAs (Received.Refused x) = Call.Refused (number x)
+abbrev pub received_as : Received → Answer
+received_as (Received.Receipt Receipt.Applied) = Call.Applied
+received_as (Received.Receipt Receipt.Stale) = Call.Stale
+received_as (Received.Receipt Receipt.Late) = Call.Late
+received_as (Received.Refused x) = Call.Refused (number x)
 
 abbrev pub took : Taken → Answer
 took (Taken.Bytes n) = Call.Taken n
@@ -55,37 +55,37 @@ abbrev pub fires : When → Answer
 fires (When.Is d) = Call.Time d
 fires (When.Refused x) = Call.Refused (number x)
 
-abbrev pub itsKey : KeyAnswer → Answer
-itsKey (KeyAnswer.Is k) = Call.IsKey k
-itsKey (KeyAnswer.Refused x) = Call.Refused (number x)
+abbrev pub its_key : KeyAnswer → Answer
+its_key (KeyAnswer.Is k) = Call.IsKey k
+its_key (KeyAnswer.Refused x) = Call.Refused (number x)
 
-abbrev pub itsLimits : LimitsAnswer → Answer
-itsLimits (LimitsAnswer.Is l) = Call.AreLimits l
-itsLimits (LimitsAnswer.Refused x) = Call.Refused (number x)
+abbrev pub its_limits : LimitsAnswer → Answer
+its_limits (LimitsAnswer.Is l) = Call.AreLimits l
+its_limits (LimitsAnswer.Refused x) = Call.Refused (number x)
 
-abbrev pub requestOf : Requests.Request → Answer
-requestOf (Request.Terminate c) = Call.Asks (Call.Terminate c)
-requestOf (Request.Discard x) = Call.Asks (Call.Discard x)
-requestOf Request.CloseInput = Call.Asks Call.CloseInput
-requestOf Request.Settle = Call.Asks Call.Settle
+abbrev pub request_of : Requests.Request → Answer
+request_of (Request.Terminate c) = Call.Asks (Call.Terminate c)
+request_of (Request.Discard x) = Call.Asks (Call.Discard x)
+request_of Request.CloseInput = Call.Asks Call.CloseInput
+request_of Request.Settle = Call.Asks Call.Settle
 
 abbrev pub asks : Asked → Answer
 asks Asked.None = Call.Nothing
-asks (Asked.Request q) = requestOf q
+asks (Asked.Request q) = request_of q
 asks (Asked.Refused x) = Call.Refused (number x)
 
 -- the payload of an Output is the first length bytes of the buffer that the call left
-abbrev pub messageOf : Messages.Message → (buffer : List ℕ) → Answer
-messageOf (Message.Credit n) buffer = Call.Says (Call.Credit n)
-messageOf Message.Started buffer = Call.Says Call.Started
-messageOf (Message.Output x n) buffer = Call.Says (Call.Output x (take n buffer))
-messageOf (Message.End x) buffer = Call.Says (Call.End x)
-messageOf Message.InputClosed buffer = Call.Says Call.InputClosed
-messageOf (Message.Terminal o) buffer = Call.Says (Call.Terminal o)
+abbrev pub message_of : Messages.Message → (buffer : List ℕ) → Answer
+message_of (Message.Credit n) buffer = Call.Says (Call.Credit n)
+message_of Message.Started buffer = Call.Says Call.Started
+message_of (Message.Output x n) buffer = Call.Says (Call.Output x (take n buffer))
+message_of (Message.End x) buffer = Call.Says (Call.End x)
+message_of Message.InputClosed buffer = Call.Says Call.InputClosed
+message_of (Message.Terminal o) buffer = Call.Says (Call.Terminal o)
 
 abbrev pub says : Said → (buffer : List ℕ) → Answer
 says Said.None buffer = Call.Nothing
-says (Said.Message m) buffer = messageOf m buffer
+says (Said.Message m) buffer = message_of m buffer
 says (Said.Refused x) buffer = Call.Refused (number x)
 
 -- pending_input's refusal is its number, 0 where there is none
@@ -95,72 +95,72 @@ waits (suc n) bytes = Call.Refused (suc n)
 
 -- ---- a call
 
-abbrev pub onRunner : Runner → State → State
-onRunner r s = record { runner = r; bytes = s.bytes; lengths = s.lengths }
+abbrev pub on_runner : Runner → State → State
+on_runner r s = record { runner = r; bytes = s.bytes; lengths = s.lengths }
 
 unfoldable pub next : State → Call → State
 next s Call.key = s
 next s Call.limits = s
-next s (Call.credit k p u) = onRunner (Calls.credit s.runner k p u).runner s
+next s (Call.credit k p u) = on_runner (Calls.credit s.runner k p u).runner s
 next s (Call.input k b) = record {
   runner = (Calls.input s.runner k b s.bytes s.lengths).hearing.runner;
   bytes = (Calls.input s.runner k b s.bytes s.lengths).bytes;
   lengths = (Calls.input s.runner k b s.bytes s.lengths).lengths;
 }
-next s (Call.endInput k) = onRunner (Calls.endInput s.runner k).runner s
-next s (Call.cancel now k c) = onRunner (Calls.cancel s.runner now k c).runner s
-next s (Call.launched x) = onRunner (Calls.launched s.runner x).runner s
-next s (Call.readAllowance x) = s
+next s (Call.end_input k) = on_runner (Calls.end_input s.runner k).runner s
+next s (Call.cancel now k c) = on_runner (Calls.cancel s.runner now k c).runner s
+next s (Call.launched x) = on_runner (Calls.launched s.runner x).runner s
+next s (Call.read_allowance x) = s
 next s (Call.output x b) = record {
   runner = (Calls.output s.runner x b s.bytes).taking.runner;
   bytes = (Calls.output s.runner x b s.bytes).bytes;
   lengths = s.lengths;
 }
-next s (Call.discarded x n) = onRunner (Calls.discarded s.runner x n).runner s
-next s (Call.outputClosed x) = onRunner (Calls.outputClosed s.runner x).runner s
-next s (Call.outputFailed x) = onRunner (Calls.outputFailed s.runner x).runner s
-next s (Call.outputHungUp x) = onRunner (Calls.outputHungUp s.runner x).runner s
-next s Call.pendingInput = s
-next s (Call.inputWritten n) = record {
-  runner = (Calls.inputWritten s.runner n s.lengths).noting.runner;
+next s (Call.discarded x n) = on_runner (Calls.discarded s.runner x n).runner s
+next s (Call.output_closed x) = on_runner (Calls.output_closed s.runner x).runner s
+next s (Call.output_failed x) = on_runner (Calls.output_failed s.runner x).runner s
+next s (Call.output_hung_up x) = on_runner (Calls.output_hung_up s.runner x).runner s
+next s Call.pending_input = s
+next s (Call.input_written n) = record {
+  runner = (Calls.input_written s.runner n s.lengths).noting.runner;
   bytes = s.bytes;
-  lengths = (Calls.inputWritten s.runner n s.lengths).lengths;
+  lengths = (Calls.input_written s.runner n s.lengths).lengths;
 }
-next s Call.inputClosed = onRunner (Calls.inputClosed s.runner).runner s
-next s (Call.exited now x) = onRunner (Calls.exited s.runner now x).runner s
-next s (Call.settled x) = onRunner (Calls.settled s.runner x).runner s
-next s (Call.dropped now) = onRunner (Calls.dropped s.runner now).runner s
-next s (Call.reset now) = onRunner (Calls.reset s.runner now).runner s
-next s (Call.disconnect now) = onRunner (Calls.disconnect s.runner now).runner s
-next s (Call.tick now) = onRunner (Calls.tick s.runner now).runner s
+next s Call.input_closed = on_runner (Calls.input_closed s.runner).runner s
+next s (Call.exited now x) = on_runner (Calls.exited s.runner now x).runner s
+next s (Call.settled x) = on_runner (Calls.settled s.runner x).runner s
+next s (Call.dropped now) = on_runner (Calls.dropped s.runner now).runner s
+next s (Call.reset now) = on_runner (Calls.reset s.runner now).runner s
+next s (Call.disconnect now) = on_runner (Calls.disconnect s.runner now).runner s
+next s (Call.tick now) = on_runner (Calls.tick s.runner now).runner s
 next s Call.deadline = s
-next s Call.nextRequest = onRunner (Calls.nextRequest s.runner).runner s
-next s (Call.nextMessage buffer) = onRunner (Calls.nextMessage s.runner s.bytes buffer).saying.runner s
-next s Call.isFinished = s
-next s Call.isDetached = s
-next s Call.awaitsSettlement = s
-next s Call.memoryBound = s
+next s Call.next_request = on_runner (Calls.next_request s.runner).runner s
+next s (Call.next_message buffer) = on_runner (Calls.next_message s.runner s.bytes buffer).saying.runner s
+next s Call.is_finished = s
+next s Call.is_detached = s
+next s Call.awaits_settlement = s
+next s Call.memory_bound = s
 next s Call.buffered = s
-next s Call.highWater = s
+next s Call.high_water = s
 
 unfoldable pub answer : State → Call → Answer
-answer s Call.key = itsKey (Calls.key s.runner)
-answer s Call.limits = itsLimits (Calls.limits s.runner)
-answer s (Call.credit k p u) = receivedAs (Calls.credit s.runner k p u).received
-answer s (Call.input k b) = receivedAs (Calls.input s.runner k b s.bytes s.lengths).hearing.received
-answer s (Call.endInput k) = receivedAs (Calls.endInput s.runner k).received
-answer s (Call.cancel now k c) = receivedAs (Calls.cancel s.runner now k c).received
+answer s Call.key = its_key (Calls.key s.runner)
+answer s Call.limits = its_limits (Calls.limits s.runner)
+answer s (Call.credit k p u) = received_as (Calls.credit s.runner k p u).received
+answer s (Call.input k b) = received_as (Calls.input s.runner k b s.bytes s.lengths).hearing.received
+answer s (Call.end_input k) = received_as (Calls.end_input s.runner k).received
+answer s (Call.cancel now k c) = received_as (Calls.cancel s.runner now k c).received
 answer s (Call.launched x) = replied (Calls.launched s.runner x).reply
-answer s (Call.readAllowance x) = counts (Calls.readAllowance s.runner x)
+answer s (Call.read_allowance x) = counts (Calls.read_allowance s.runner x)
 answer s (Call.output x b) = took (Calls.output s.runner x b s.bytes).taking.taken
 answer s (Call.discarded x n) = replied (Calls.discarded s.runner x n).reply
-answer s (Call.outputClosed x) = replied (Calls.outputClosed s.runner x).reply
-answer s (Call.outputFailed x) = replied (Calls.outputFailed s.runner x).reply
-answer s (Call.outputHungUp x) = replied (Calls.outputHungUp s.runner x).reply
-answer s Call.pendingInput =
-    waits (Calls.pendingInput s.runner s.bytes).refusal (Calls.pendingInput s.runner s.bytes).pending
-answer s (Call.inputWritten n) = replied (Calls.inputWritten s.runner n s.lengths).noting.reply
-answer s Call.inputClosed = replied (Calls.inputClosed s.runner).reply
+answer s (Call.output_closed x) = replied (Calls.output_closed s.runner x).reply
+answer s (Call.output_failed x) = replied (Calls.output_failed s.runner x).reply
+answer s (Call.output_hung_up x) = replied (Calls.output_hung_up s.runner x).reply
+answer s Call.pending_input =
+    waits (Calls.pending_input s.runner s.bytes).refusal (Calls.pending_input s.runner s.bytes).pending
+answer s (Call.input_written n) = replied (Calls.input_written s.runner n s.lengths).noting.reply
+answer s Call.input_closed = replied (Calls.input_closed s.runner).reply
 answer s (Call.exited now x) = replied (Calls.exited s.runner now x).reply
 answer s (Call.settled x) = replied (Calls.settled s.runner x).reply
 answer s (Call.dropped now) = replied (Calls.dropped s.runner now).reply
@@ -168,15 +168,15 @@ answer s (Call.reset now) = replied (Calls.reset s.runner now).reply
 answer s (Call.disconnect now) = replied (Calls.disconnect s.runner now).reply
 answer s (Call.tick now) = replied (Calls.tick s.runner now).reply
 answer s Call.deadline = fires (Calls.deadline s.runner)
-answer s Call.nextRequest = asks (Calls.nextRequest s.runner).asked
-answer s (Call.nextMessage buffer) =
-    says (Calls.nextMessage s.runner s.bytes buffer).saying.said (Calls.nextMessage s.runner s.bytes buffer).buffer
-answer s Call.isFinished = holds (Calls.isFinished s.runner)
-answer s Call.isDetached = holds (Calls.isDetached s.runner)
-answer s Call.awaitsSettlement = holds (Calls.awaitsSettlement s.runner)
-answer s Call.memoryBound = counts (Calls.memoryBound s.runner)
+answer s Call.next_request = asks (Calls.next_request s.runner).asked
+answer s (Call.next_message buffer) =
+    says (Calls.next_message s.runner s.bytes buffer).saying.said (Calls.next_message s.runner s.bytes buffer).buffer
+answer s Call.is_finished = holds (Calls.is_finished s.runner)
+answer s Call.is_detached = holds (Calls.is_detached s.runner)
+answer s Call.awaits_settlement = holds (Calls.awaits_settlement s.runner)
+answer s Call.memory_bound = counts (Calls.memory_bound s.runner)
 answer s Call.buffered = counts (Calls.buffered s.runner)
-answer s Call.highWater = counts (Calls.highWater s.runner)
+answer s Call.high_water = counts (Calls.high_water s.runner)
 
 -- ---- open, and a list of calls
 

@@ -5,19 +5,19 @@ ghost use Rattle.std.specs.Prelude.{◌+◌, ◌≤◌, length};
 ghost use Rattle.exec.specs.declared.Received.TheVariants as Received;
 ghost use Rattle.account.specs.Step.{
   replied,
-  receivedAs,
+  received_as,
   took,
   counts,
   holds,
   fires,
   asks,
   says,
-  requestOf,
-  messageOf,
+  request_of,
+  message_of,
 };
-ghost use Rattle.syntax.specs.Answers.{answerText, lineText};
+ghost use Rattle.syntax.specs.Answers.{answer_text, line_text};
 ghost use Rattle.printing.specs.Written.{Wrote};
-ghost use Rattle.answering.specs.Answering.{answerIs, AnswerIs};
+ghost use Rattle.answering.specs.Answering.{answer_is, AnswerIs};
 
 use exec::{Deadline, Receipt, Received, Reply};
 use printing::{
@@ -56,7 +56,7 @@ pub fn replied(reply: Reply) -> Answer
 }
 
 fn receipt(receipt: Receipt) -> Answer
-    ensures { AnswerIs result (λ w. receivedAs (Received.Receipt receipt)) }
+    ensures { AnswerIs result (λ w. received_as (Received.Receipt receipt)) }
 {
     match receipt {
         Receipt::Applied => Answer::Applied,
@@ -66,7 +66,7 @@ fn receipt(receipt: Receipt) -> Answer
 }
 
 pub fn received(received: Received) -> Answer
-    ensures { AnswerIs result (λ w. receivedAs received) }
+    ensures { AnswerIs result (λ w. received_as received) }
 {
     match received {
         Received::Receipt(x) => receipt(x),
@@ -132,10 +132,10 @@ pub fn said(said: Said) -> Answer
 
 // ---- an answer
 
-#[tactic(auto, unfolding(syntax::specs::Words::bytes, syntax::specs::Answers::answerText))]
+#[tactic(auto, unfolding(syntax::specs::Words::bytes, syntax::specs::Answers::answer_text))]
 fn put_request(request: Request, out: &mut [u8], at: usize) -> usize
     requires { at + 131106 ≤ length out.old }
-    ensures { Wrote 131106 out.old out.new at result (answerText (requestOf request)) }
+    ensures { Wrote 131106 out.old out.new at result (answer_text (request_of request)) }
 {
     match request {
         Request::Terminate(x) => with_cause(b"Terminate", x, out, at),
@@ -145,10 +145,10 @@ fn put_request(request: Request, out: &mut [u8], at: usize) -> usize
     }
 }
 
-#[tactic(auto, unfolding(syntax::specs::Words::bytes, syntax::specs::Answers::answerText))]
+#[tactic(auto, unfolding(syntax::specs::Words::bytes, syntax::specs::Answers::answer_text))]
 fn put_message(message: Message, work: &[u8], out: &mut [u8], at: usize) -> usize
     requires { (length work.now ≤ 65536) × (at + 131106 ≤ length out.old) }
-    ensures { Wrote 131106 out.old out.new at result (answerText (messageOf message work.now)) }
+    ensures { Wrote 131106 out.old out.new at result (answer_text (message_of message work.now)) }
 {
     match message {
         Message::Credit(n) => with_number(b"Credit", wide(n), out, at),
@@ -160,10 +160,10 @@ fn put_message(message: Message, work: &[u8], out: &mut [u8], at: usize) -> usiz
     }
 }
 
-#[tactic(auto, unfolding(syntax::specs::Words::bytes, syntax::specs::Answers::answerText))]
+#[tactic(auto, unfolding(syntax::specs::Words::bytes, syntax::specs::Answers::answer_text))]
 fn put_answer(answer: Answer, work: &[u8], out: &mut [u8], at: usize) -> usize
     requires { (length work.now ≤ 65536) × (at + 131106 ≤ length out.old) }
-    ensures { Wrote 131106 out.old out.new at result (answerText (answerIs answer work.now)) }
+    ensures { Wrote 131106 out.old out.new at result (answer_text (answer_is answer work.now)) }
 {
     match answer {
         Answer::Ok => alone(b"ok", out, at),
@@ -185,7 +185,7 @@ fn put_answer(answer: Answer, work: &[u8], out: &mut [u8], at: usize) -> usize
 // The line of an answer, with its end, and the index behind it.
 pub fn write_line(line: u64, answer: Answer, work: &[u8], out: &mut [u8], at: usize) -> usize
     requires { (length work.now ≤ 65536) × (at + 131200 ≤ length out.old) }
-    ensures { Wrote 131200 out.old out.new at result (lineText line (answerIs answer work.now)) }
+    ensures { Wrote 131200 out.old out.new at result (line_text line (answer_is answer work.now)) }
 {
     let m = put_number(line, out, at);
     let m2 = put_byte(44, out, m);

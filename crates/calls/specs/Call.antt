@@ -26,18 +26,18 @@ pub data Call : Type 0 where
   limits : Call
   credit : Key → Pool → (units : ℕ) → Call
   input : Key → (bytes : List ℕ) → Call
-  endInput : Key → Call
+  end_input : Key → Call
   cancel : (now : ℕ) → Key → Cause → Call
   launched : LaunchResult → Call
-  readAllowance : Stream → Call
+  read_allowance : Stream → Call
   output : Stream → (bytes : List ℕ) → Call
   discarded : Stream → (bytes : ℕ) → Call
-  outputClosed : Stream → Call
-  outputFailed : Stream → Call
-  outputHungUp : Stream → Call
-  pendingInput : Call
-  inputWritten : (bytes : ℕ) → Call
-  inputClosed : Call
+  output_closed : Stream → Call
+  output_failed : Stream → Call
+  output_hung_up : Stream → Call
+  pending_input : Call
+  input_written : (bytes : ℕ) → Call
+  input_closed : Call
   exited : (now : ℕ) → MaybeStatus → Call
   settled : Settlement → Call
   dropped : (now : ℕ) → Call
@@ -45,48 +45,48 @@ pub data Call : Type 0 where
   disconnect : (now : ℕ) → Call
   tick : (now : ℕ) → Call
   deadline : Call
-  nextRequest : Call
-  nextMessage : (buffer : List ℕ) → Call
-  isFinished : Call
-  isDetached : Call
-  awaitsSettlement : Call
-  memoryBound : Call
+  next_request : Call
+  next_message : (buffer : List ℕ) → Call
+  is_finished : Call
+  is_detached : Call
+  awaits_settlement : Call
+  memory_bound : Call
   buffered : Call
-  highWater : Call
+  high_water : Call
 
 -- a call's own time
-abbrev pub timeOf : Call → Option ℕ
-timeOf key = none
-timeOf limits = none
-timeOf (credit k p u) = none
-timeOf (input k b) = none
-timeOf (endInput k) = none
-timeOf (cancel now k c) = some now
-timeOf (launched x) = none
-timeOf (readAllowance x) = none
-timeOf (output x b) = none
-timeOf (discarded x n) = none
-timeOf (outputClosed x) = none
-timeOf (outputFailed x) = none
-timeOf (outputHungUp x) = none
-timeOf pendingInput = none
-timeOf (inputWritten n) = none
-timeOf inputClosed = none
-timeOf (exited now x) = some now
-timeOf (settled x) = none
-timeOf (dropped now) = some now
-timeOf (reset now) = some now
-timeOf (disconnect now) = some now
-timeOf (tick now) = some now
-timeOf deadline = none
-timeOf nextRequest = none
-timeOf (nextMessage b) = none
-timeOf isFinished = none
-timeOf isDetached = none
-timeOf awaitsSettlement = none
-timeOf memoryBound = none
-timeOf buffered = none
-timeOf highWater = none
+abbrev pub time_of : Call → Option ℕ
+time_of key = none
+time_of limits = none
+time_of (credit k p u) = none
+time_of (input k b) = none
+time_of (end_input k) = none
+time_of (cancel now k c) = some now
+time_of (launched x) = none
+time_of (read_allowance x) = none
+time_of (output x b) = none
+time_of (discarded x n) = none
+time_of (output_closed x) = none
+time_of (output_failed x) = none
+time_of (output_hung_up x) = none
+time_of pending_input = none
+time_of (input_written n) = none
+time_of input_closed = none
+time_of (exited now x) = some now
+time_of (settled x) = none
+time_of (dropped now) = some now
+time_of (reset now) = some now
+time_of (disconnect now) = some now
+time_of (tick now) = some now
+time_of deadline = none
+time_of next_request = none
+time_of (next_message b) = none
+time_of is_finished = none
+time_of is_detached = none
+time_of awaits_settlement = none
+time_of memory_bound = none
+time_of buffered = none
+time_of high_water = none
 
 -- a message, an Output with its payload
 pub data Message : Type 0 where
@@ -121,40 +121,40 @@ pub data Answer : Type 0 where
   Nothing : Answer
 
 -- refused, by whatever number
-abbrev pub isRefused : Answer → Bool
-isRefused Ok = false
-isRefused Applied = false
-isRefused Stale = false
-isRefused Late = false
-isRefused (Refused n) = true
-isRefused (Taken n) = false
-isRefused (Pending b) = false
-isRefused (Value n) = false
-isRefused (Time d) = false
-isRefused (Truth b) = false
-isRefused (Asks r) = false
-isRefused (Says m) = false
-isRefused (IsKey k) = false
-isRefused (AreLimits l) = false
-isRefused Nothing = false
+abbrev pub is_refused : Answer → Bool
+is_refused Ok = false
+is_refused Applied = false
+is_refused Stale = false
+is_refused Late = false
+is_refused (Refused n) = true
+is_refused (Taken n) = false
+is_refused (Pending b) = false
+is_refused (Value n) = false
+is_refused (Time d) = false
+is_refused (Truth b) = false
+is_refused (Asks r) = false
+is_refused (Says m) = false
+is_refused (IsKey k) = false
+is_refused (AreLimits l) = false
+is_refused Nothing = false
 
 -- and nothing else is
-pub refused-is : (a : Answer) → isRefused a ≡ true → (n : ℕ) × (a ≡ Refused n)
-refused-is Ok e = absurd (false≢true e)
-refused-is Applied e = absurd (false≢true e)
-refused-is Stale e = absurd (false≢true e)
-refused-is Late e = absurd (false≢true e)
-refused-is (Refused n) e = (n, refl)
-refused-is (Taken n) e = absurd (false≢true e)
-refused-is (Pending b) e = absurd (false≢true e)
-refused-is (Value n) e = absurd (false≢true e)
-refused-is (Time d) e = absurd (false≢true e)
-refused-is (Truth b) e = absurd (false≢true e)
-refused-is (Asks r) e = absurd (false≢true e)
-refused-is (Says m) e = absurd (false≢true e)
-refused-is (IsKey k) e = absurd (false≢true e)
-refused-is (AreLimits l) e = absurd (false≢true e)
-refused-is Nothing e = absurd (false≢true e)
+pub refused_is : (a : Answer) → is_refused a ≡ true → (n : ℕ) × (a ≡ Refused n)
+refused_is Ok e = absurd (false≢true e)
+refused_is Applied e = absurd (false≢true e)
+refused_is Stale e = absurd (false≢true e)
+refused_is Late e = absurd (false≢true e)
+refused_is (Refused n) e = (n, refl)
+refused_is (Taken n) e = absurd (false≢true e)
+refused_is (Pending b) e = absurd (false≢true e)
+refused_is (Value n) e = absurd (false≢true e)
+refused_is (Time d) e = absurd (false≢true e)
+refused_is (Truth b) e = absurd (false≢true e)
+refused_is (Asks r) e = absurd (false≢true e)
+refused_is (Says m) e = absurd (false≢true e)
+refused_is (IsKey k) e = absurd (false≢true e)
+refused_is (AreLimits l) e = absurd (false≢true e)
+refused_is Nothing e = absurd (false≢true e)
 
 -- how many bytes it says were taken
 abbrev pub count : Answer → ℕ

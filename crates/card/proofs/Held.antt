@@ -11,15 +11,15 @@ use Rattle.ring.specs.Lent.{copied_all}
 use Rattle.standing.specs.declared.Standing.{Standing}
 use Rattle.answering.specs.declared.Answer.{Answer}
 use Rattle.card.specs.declared.feed.Card.{Card}
-use Rattle.syntax.specs.Answers.{lineText}
+use Rattle.syntax.specs.Answers.{line_text}
 use Rattle.grammar.specs.Feed as Feed
-use Rattle.grammar.specs.Feed.{lineEnds}
-use Rattle.answering.specs.Answering.{answerIs}
+use Rattle.grammar.specs.Feed.{line_ends}
+use Rattle.answering.specs.Answering.{answer_is}
 use Rattle.printing.specs.Written.{Wrote, same_text}
 use Rattle.card.specs.Holding.{Lent, Holds, EndsLine}
-use Rattle.standing.specs.Standing.{placeOf, Answers, answerAt}
+use Rattle.standing.specs.Standing.{place_of, Answers, answer_at}
 use Rattle.card.specs.Laying.{put}
-use Rattle.standing.specs.Standing.{placed-is}
+use Rattle.standing.specs.Standing.{placed_is}
 
 take_less : (k m : ℕ) (s : List ℕ) → k ≤ m → take k (take m s) ≡ take k s
 take_less zero m s h = refl
@@ -28,8 +28,8 @@ take_less (suc k) (suc m) [] h = refl
 take_less (suc k) (suc m) (x ∷ s) h = ap (λ (t : List ℕ). x ∷ t) (take_less k m s (omega arith))
 
 -- the first k of the first m
-take-both : (k m n : ℕ) (s : List ℕ) → m ≤ length s → n ≡ min m k → take k (take m s) ≡ take n s
-take-both k m n s l e =
+take_both : (k m n : ℕ) (s : List ℕ) → m ≤ length s → n ≡ min m k → take k (take m s) ≡ take n s
+take_both k m n s l e =
     elim (dec_lt k m) [
       | yes h ↦ let z : n ≡ k = omega arith in rw z (take_less k m s (omega arith))
       | no h ↦ let z : n ≡ m = omega arith in rw z (take_all k (take m s) (let t = length-take m s in omega (arith, t)))
@@ -48,7 +48,7 @@ holds c line piece from to n h l f t e =
     let head : length (a ++ take n d) ≡ held + n = length_paste_head line held d n (omega arith) (omega arith) in
     let all : 65536 ≡ length a + (65536 - held) = omega arith in
     let size : length (take n d) ≡ n = length-take-le n d (omega arith) in
-    let rest : take (65536 - held) (take (to - from) d) ≡ take n d = take-both (65536 - held) (to - from) n d (omega arith) e in
+    let rest : take (65536 - held) (take (to - from) d) ≡ take n d = take_both (65536 - held) (to - from) n d (omega arith) e in
     record {
       standing = refl;
       lines = refl;
@@ -60,15 +60,15 @@ holds c line piece from to n h l f t e =
     }
 
 -- the line that is held is answered
-pub ends-line : (c : Card) (before : Lent) (s : Standing) (a : Answer) (after : Lent) (work : List ℕ) (at to : ℕ)
-    → Answers (answerAt (take (c.held - 0) before.line)) c.standing before.stores s a after.stores work
-    → Wrote 131200 before.out after.out at to (lineText (c.lines + 1) (answerIs a work))
+pub ends_line : (c : Card) (before : Lent) (s : Standing) (a : Answer) (after : Lent) (work : List ℕ) (at to : ℕ)
+    → Answers (answer_at (take (c.held - 0) before.line)) c.standing before.stores s a after.stores work
+    → Wrote 131200 before.out after.out at to (line_text (c.lines + 1) (answer_is a work))
     → EndsLine at c before (record { standing = s; lines = c.lines + 1; held = 0 }) to after
-unfolding lineEnds
-ends-line c before s a after work at to h w =
+unfolding line_ends
+ends_line c before s a after work at to h w =
     let z : c.held - 0 ≡ c.held = omega arith in
     let k = rw z at h in
-    let stage = placed-is (placeOf s after.stores) _ _ k.0 in
+    let stage = placed_is (place_of s after.stores) _ _ k.0 in
     record {
       stands = record {
         session = ap (λ (s : Feed.Stage). record { stage = s; lines = c.lines + 1; held = [] }) stage;
@@ -76,5 +76,5 @@ ends-line c before s a after work at to h w =
         held = refl;
         most = omega arith;
       };
-      printed = same_text (ap (lineText (c.lines + 1)) k.1) w;
+      printed = same_text (ap (line_text (c.lines + 1)) k.1) w;
     }

@@ -2,9 +2,9 @@
 use Rattle.std.specs.Prelude.{◌≡◌, List, ◌++◌, ℕ, ◌-◌, ◌≤◌, length, take}
 use Rattle.card.specs.declared.feed.Card.{Card}
 use Rattle.printing.specs.Written.{Wrote}
-use Rattle.grammar.specs.Feed.{Session, lineEnds}
+use Rattle.grammar.specs.Feed.{Session, line_ends}
 use Rattle.card.specs.Laying.{put}
-use Rattle.standing.specs.Standing.{Stores, stores, Place, placeOf, stageAt, placed}
+use Rattle.standing.specs.Standing.{Stores, stores, Place, place_of, stage_at, placed}
 
 -- what is lent to a card: the line area, the runner's stores and the output area
 pub record Lent : Type 0 where
@@ -19,17 +19,17 @@ lent line bytes lengths out = record { line = line; stores = stores bytes length
 abbrev pub Areas : (line bytes lengths work : List ℕ) → Type 0
 Areas line bytes lengths work = (length line ≡ 65536) × (length bytes ≡ 65536) × (length lengths ≡ 1024) × (length work ≡ 65536)
 
-abbrev pub placeIn : Card → Lent → Place
-placeIn c x = placeOf c.standing x.stores
+abbrev pub place_in : Card → Lent → Place
+place_in c x = place_of c.standing x.stores
 
 -- the session: the line that has not ended stands at the start of the line area
-abbrev pub sessionOf : Card → Lent → Session
-sessionOf c x = record { stage = stageAt (placeIn c x); lines = c.lines; held = take c.held x.line }
+abbrev pub session_of : Card → Lent → Session
+session_of c x = record { stage = stage_at (place_in c x); lines = c.lines; held = take c.held x.line }
 
 -- A CARD AND ITS STORES ARE A SESSION'S, all of them; `was` is the place before
 pub record Stands (s : Session) (was : Place) (c : Card) (x : Lent) : Type 0 where
-  pub session : sessionOf c x ≡ s
-  pub place : placeIn c x ≡ placed s.stage was  -- the standing and both stores
+  pub session : session_of c x ≡ s
+  pub place : place_in c x ≡ placed s.stage was  -- the standing and both stores
   pub held : c.held ≡ length s.held
   pub most : c.held ≤ 65536
 
@@ -43,5 +43,5 @@ pub record Holds (bytes : List ℕ) (c : Card) (line : List ℕ) (r : Card) (lin
 
 -- the line that is held is answered, and its answer written from index `at` to before index `to`
 pub record EndsLine (at : ℕ) (c : Card) (before : Lent) (r : Card) (to : ℕ) (after : Lent) : Type 0 where
-  pub stands : Stands (lineEnds (sessionOf c before)).session (placeIn c before) r after
-  pub printed : Wrote 131200 before.out after.out at to (lineEnds (sessionOf c before)).printed
+  pub stands : Stands (line_ends (session_of c before)).session (place_in c before) r after
+  pub printed : Wrote 131200 before.out after.out at to (line_ends (session_of c before)).printed

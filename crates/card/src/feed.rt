@@ -1,8 +1,8 @@
 // A session that is fed pieces of input: each line is answered where it ends, into a lent output area.
 ghost use Rattle.std.specs.Prelude.{◌≡◌, false, ◌+◌, ◌-◌, ◌≤◌, ◌<◌, length, take, drop};
-ghost use Rattle.card.specs.Feeding.{lineLength};
+ghost use Rattle.card.specs.Feeding.{line_length};
 ghost use Rattle.card.specs.Holding.{lent, Areas, Holds, EndsLine};
-ghost use Rattle.card.specs.Turning.{Passes, Goes, newCard, isReady, Fed, Eats, Ended, Finishes};
+ghost use Rattle.card.specs.Turning.{Passes, Goes, new_card, is_ready, Fed, Eats, Ended, Finishes};
 
 use exec::{Key, Limits, Timers};
 use ring::{copy_in, smaller};
@@ -31,7 +31,7 @@ pub struct Eaten {
 // The index of the first end of a line (0a) from `from` on, or the length where there is none.
 fn line_end(piece: &[u8], from: usize) -> usize
     requires { from ≤ length piece.now }
-    ensures { (result ≡ from + lineLength (drop from piece.now)) × (result ≤ length piece.now) }
+    ensures { (result ≡ from + line_length (drop from piece.now)) × (result ≤ length piece.now) }
 {
     from + search::find(&piece[from..piece.len()], 10)
 }
@@ -131,9 +131,9 @@ impl Turn {
 
 impl Card {
     // A session before its first line.
-    #[tactic(auto, unfolding(crate::specs::Turning::newCard))]
+    #[tactic(auto, unfolding(crate::specs::Turning::new_card))]
     pub fn new() -> Card
-        ensures { result ≡ newCard }
+        ensures { result ≡ new_card }
     {
         let none = Limits::none();
         let noting = Runner::open(Key::new(0, 0), none, Timers::new(0, 0), 0, &[], &[]);
@@ -150,7 +150,7 @@ impl Card {
 
     // Whether the areas are a session's: 65,536 bytes for a line, and the runner's stores of 65,536 bytes and 1,024 lengths.
     fn is_ready(self, line: usize, store: usize, lengths: usize) -> bool
-        ensures { result ≡ isReady self line store lengths }
+        ensures { result ≡ is_ready self line store lengths }
     {
         (self.held <= 65536) & (line == 65536) & (store == 65536) & (lengths == 1024)
     }

@@ -7,70 +7,70 @@ use mathlib.Core.Option.{Option, none, some}
 use Prim.Native.Nat.{ℕ}
 use Rattle.calls.specs.Call as Call
 use Rattle.calls.specs.Call.{Call, Answer, Done}
-use Rattle.account.specs.Claim.{isMessage, isTerminal, Silent}
-use Rattle.account.specs.Records.{Entry, EntryDone, call, consCall, consDone, nextEntry, answerEntry, afterEntries, runEntries}
+use Rattle.account.specs.Claim.{is_message, is_terminal, Silent}
+use Rattle.account.specs.Records.{Entry, EntryDone, call, cons_call, cons_done, next_entry, answer_entry, after_entries, run_entries}
 use Rattle.account.specs.TurnClaim.{Has}
 use Rattle.account.specs.Step.{State, next, answer, after, run}
 use Rattle.grammar.specs.Feed.{Running}
-use Rattle.grammar.specs.ByLine.{Line, callSaid, nextBy, answerBy, linesFrom, stageAfter}
-use Rattle.grammar.proofs.Later.{later-line}
-use Rattle.cards.specs.Runs.{callsOf, donesOf, entriesOf}
+use Rattle.grammar.specs.ByLine.{Line, call_said, next_by, answer_by, lines_from, stage_after}
+use Rattle.grammar.proofs.Later.{later_line}
+use Rattle.cards.specs.Runs.{calls_of, dones_of, entries_of}
 
 -- a line is answered as its call is, or by 30 where it makes none
 abbrev pub Follows : State → Line → Type 0
-Follows s l = l.answer ≡ answerBy s l.call
+Follows s l = l.answer ≡ answer_by s l.call
 
 abbrev pub Follow : State → List Line → Type 0
 Follow s [] = Unit
-Follow s (l ∷ ls) = Follows s l × Follow (nextBy s l.call) ls
+Follow s (l ∷ ls) = Follows s l × Follow (next_by s l.call) ls
 
-after-cons : (o : Option Call) (s : State) (cs : List Call) → after s (consCall o cs) ≡ after (nextBy s o) cs
-after-cons none s cs = refl
-after-cons (some c) s cs = refl
+after_cons : (o : Option Call) (s : State) (cs : List Call) → after s (cons_call o cs) ≡ after (next_by s o) cs
+after_cons none s cs = refl
+after_cons (some c) s cs = refl
 
-cons-append : (o : Option Call) (xs ys : List Call) → consCall o (xs ++ ys) ≡ consCall o xs ++ ys
-cons-append none xs ys = refl
-cons-append (some c) xs ys = refl
+cons_append : (o : Option Call) (xs ys : List Call) → cons_call o (xs ++ ys) ≡ cons_call o xs ++ ys
+cons_append none xs ys = refl
+cons_append (some c) xs ys = refl
 
 -- from a stage with a runner on
-pub follow : (s : State) (ls : List (List ℕ)) → Follow s (linesFrom (Running s) ls)
+pub follow : (s : State) (ls : List (List ℕ)) → Follow s (lines_from (Running s) ls)
 follow s [] = tt
-follow s (l ∷ ls) = let h = later-line s l in rw h (refl, follow (nextBy s (callSaid l)) ls)
+follow s (l ∷ ls) = let h = later_line s l in rw h (refl, follow (next_by s (call_said l)) ls)
 
-pub leaves : (s : State) (ls : List (List ℕ)) → stageAfter (Running s) ls ≡ Running (after s (callsOf (linesFrom (Running s) ls)))
+pub leaves : (s : State) (ls : List (List ℕ)) → stage_after (Running s) ls ≡ Running (after s (calls_of (lines_from (Running s) ls)))
 leaves s [] = refl
 leaves s (l ∷ ls) =
-    rw (later-line s l) (leaves (nextBy s (callSaid l)) ls ∙ ap Running (sym (after-cons (callSaid l) s (callsOf (linesFrom (Running (nextBy s (callSaid l))) ls)))))
+    rw (later_line s l) (leaves (next_by s (call_said l)) ls ∙ ap Running (sym (after_cons (call_said l) s (calls_of (lines_from (Running (next_by s (call_said l))) ls)))))
 
 -- their calls are those that they say
-pub called : (s : State) (ls : List (List ℕ)) → map (λ (l : Line). l.call) (linesFrom (Running s) ls) ≡ map callSaid ls
+pub called : (s : State) (ls : List (List ℕ)) → map (λ (l : Line). l.call) (lines_from (Running s) ls) ≡ map call_said ls
 called s [] = refl
-called s (l ∷ ls) = rw (later-line s l) (ap (λ (rest : List (Option Call)). callSaid l ∷ rest) (called (nextBy s (callSaid l)) ls))
+called s (l ∷ ls) = rw (later_line s l) (ap (λ (rest : List (Option Call)). call_said l ∷ rest) (called (next_by s (call_said l)) ls))
 
 -- their answers are those of the list of their calls
-pub dones : (s : State) (ls : List Line) → Follow s ls → donesOf ls ≡ run s (callsOf ls)
+pub dones : (s : State) (ls : List Line) → Follow s ls → dones_of ls ≡ run s (calls_of ls)
 dones s [] f = refl
-dones s (l ∷ ls) f = by l.call l.answer f.0 (dones (nextBy s l.call) ls f.1)
+dones s (l ∷ ls) f = by l.call l.answer f.0 (dones (next_by s l.call) ls f.1)
   where
-    by : (o : Option Call) (a : Answer) → a ≡ answerBy s o → donesOf ls ≡ run (nextBy s o) (callsOf ls) → consDone o a (donesOf ls) ≡ run s (consCall o (callsOf ls))
+    by : (o : Option Call) (a : Answer) → a ≡ answer_by s o → dones_of ls ≡ run (next_by s o) (calls_of ls) → cons_done o a (dones_of ls) ≡ run s (cons_call o (calls_of ls))
     by none a e h = h
     by (some c) a e h = rw (e, h) refl
 
 -- lines one after the other
-pub calls-append : (xs ys : List Line) → callsOf (xs ++ ys) ≡ callsOf xs ++ callsOf ys
-calls-append [] ys = refl
-calls-append (l ∷ xs) ys = ap (consCall l.call) (calls-append xs ys) ∙ cons-append l.call (callsOf xs) (callsOf ys)
+pub calls_append : (xs ys : List Line) → calls_of (xs ++ ys) ≡ calls_of xs ++ calls_of ys
+calls_append [] ys = refl
+calls_append (l ∷ xs) ys = ap (cons_call l.call) (calls_append xs ys) ∙ cons_append l.call (calls_of xs) (calls_of ys)
 
-pub parts : (s : State) (xs ys : List Line) → Follow s (xs ++ ys) → Follow s xs × Follow (after s (callsOf xs)) ys
+pub parts : (s : State) (xs ys : List Line) → Follow s (xs ++ ys) → Follow s xs × Follow (after s (calls_of xs)) ys
 parts s [] ys f = (tt, f)
-parts s (l ∷ xs) ys f = let p = parts (nextBy s l.call) xs ys f.1 in ((f.0, p.0), rw (after-cons l.call s (callsOf xs)) p.1)
+parts s (l ∷ xs) ys f = let p = parts (next_by s l.call) xs ys f.1 in ((f.0, p.0), rw (after_cons l.call s (calls_of xs)) p.1)
 
 -- one that is no call, and one that is
-pub no-call : (s : State) (l : Line) → Follows s l → l.call ≡ none → l.answer ≡ Call.Refused 30
-no-call s l f e = rw e at f
+pub no_call : (s : State) (l : Line) → Follows s l → l.call ≡ none → l.answer ≡ Call.Refused 30
+no_call s l f e = rw e at f
 
-pub its-call : (s : State) (l : Line) (c : Call) → Follows s l → l.call ≡ some c → l.answer ≡ answer s c
-its-call s l c f e = rw e at f
+pub its_call : (s : State) (l : Line) (c : Call) → Follows s l → l.call ≡ some c → l.answer ≡ answer s c
+its_call s l c f e = rw e at f
 
 pub data Said (s : State) (l : Line) : Type 0 where
   bad : l.call ≡ none → l.answer ≡ Call.Refused 30 → Said s l
@@ -80,21 +80,21 @@ pub said : (s : State) (l : Line) → Follows s l → Said s l
 said s l f = by l.call refl
   where
     by : (o : Option Call) → l.call ≡ o → Said s l
-    by none e = bad e (no-call s l f e)
-    by (some c) e = made c e (its-call s l c f e)
+    by none e = bad e (no_call s l f e)
+    by (some c) e = made c e (its_call s l c f e)
 
 -- Terminal answers a call
-pub terminal-call : (s : State) (l : Line) → Follows s l → isTerminal l.answer ≡ true → (c : Call) × (l.call ≡ some c) × (l.answer ≡ answer s c)
-terminal-call s l f h = by (said s l f)
+pub terminal_call : (s : State) (l : Line) → Follows s l → is_terminal l.answer ≡ true → (c : Call) × (l.call ≡ some c) × (l.answer ≡ answer s c)
+terminal_call s l f h = by (said s l f)
   where
     by : Said s l → (c : Call) × (l.call ≡ some c) × (l.answer ≡ answer s c)
     by (made c e a) = (c, e, a)
-    by (bad e a) = absurd (true≢false (sym h ∙ ap isTerminal a))
+    by (bad e a) = absurd (true≢false (sym h ∙ ap is_terminal a))
 
 -- the last of a silent list is no message
-pub last-silent : (s : State) (cs : List Call) (c : Call) → Silent (run s (cs ++ (c ∷ []))) → isMessage (answer (after s cs) c) ≡ false
-last-silent s [] c q = q.0
-last-silent s (b ∷ cs) c q = last-silent (next s b) cs c q.1
+pub last_silent : (s : State) (cs : List Call) (c : Call) → Silent (run s (cs ++ (c ∷ []))) → is_message (answer (after s cs) c) ≡ false
+last_silent s [] c q = q.0
+last_silent s (b ∷ cs) c q = last_silent (next s b) cs c q.1
 
 -- ---- as entries
 
@@ -102,21 +102,21 @@ abbrev pub entered : List Call → List Entry
 entered [] = []
 entered (c ∷ cs) = call c ∷ entered cs
 
-pub entered-append : (xs ys : List Call) → entered (xs ++ ys) ≡ entered xs ++ entered ys
-entered-append [] ys = refl
-entered-append (c ∷ xs) ys = ap (λ (es : List Entry). call c ∷ es) (entered-append xs ys)
+pub entered_append : (xs ys : List Call) → entered (xs ++ ys) ≡ entered xs ++ entered ys
+entered_append [] ys = refl
+entered_append (c ∷ xs) ys = ap (λ (es : List Entry). call c ∷ es) (entered_append xs ys)
 
-pub entries-run : (s : State) (cs : List Call) → runEntries s (entered cs) ≡ entriesOf (run s cs)
-unfolding nextEntry answerEntry
-entries-run s [] = refl
-entries-run s (c ∷ cs) = ap (λ (ds : List EntryDone). record { entry = call c; answer = answer s c } ∷ ds) (entries-run (next s c) cs)
+pub entries_run : (s : State) (cs : List Call) → run_entries s (entered cs) ≡ entries_of (run s cs)
+unfolding next_entry answer_entry
+entries_run s [] = refl
+entries_run s (c ∷ cs) = ap (λ (ds : List EntryDone). record { entry = call c; answer = answer s c } ∷ ds) (entries_run (next s c) cs)
 
-pub entry-answer : (s : State) (cs : List Call) (c : Call) → answerEntry (afterEntries s (entered cs)) (call c) ≡ answer (after s cs) c
-unfolding nextEntry answerEntry
-entry-answer s [] c = refl
-entry-answer s (b ∷ cs) c = entry-answer (next s b) cs c
+pub entry_answer : (s : State) (cs : List Call) (c : Call) → answer_entry (after_entries s (entered cs)) (call c) ≡ answer (after s cs) c
+unfolding next_entry answer_entry
+entry_answer s [] c = refl
+entry_answer s (b ∷ cs) c = entry_answer (next s b) cs c
 
-pub has-entered : (c : Call) (cs : List Call) → Has c cs → Has (call c) (entered cs)
-has-entered c [] h = h
-has-entered c (b ∷ cs) (inl e) = inl (ap call e)
-has-entered c (b ∷ cs) (inr h) = inr (has-entered c cs h)
+pub has_entered : (c : Call) (cs : List Call) → Has c cs → Has (call c) (entered cs)
+has_entered c [] h = h
+has_entered c (b ∷ cs) (inl e) = inl (ap call e)
+has_entered c (b ∷ cs) (inr h) = inr (has_entered c cs h)

@@ -5,7 +5,7 @@ use Rattle.card.specs.declared.feed.Card.{Card}
 use Rattle.card.specs.declared.feed.Eaten.{Eaten}
 use Rattle.grammar.specs.Feed.{start, feeds, prints}
 use Rattle.card.specs.Holding.{Lent}
-use Rattle.card.specs.Turning.{newCard, Eats, Finishes}
+use Rattle.card.specs.Turning.{new_card, Eats, Finishes}
 
 -- ---- calls of eat
 
@@ -26,22 +26,22 @@ AllEat c x [] = Unit
 AllEat c x (m ∷ ms) = Eats m.piece c (lending x m.out) m.result m.after × AllEat m.result.card m.after ms
 
 -- the card, and what is lent, after them
-abbrev pub cardAfter : Card → List EatCall → Card
-cardAfter c [] = c
-cardAfter c (m ∷ ms) = cardAfter m.result.card ms
+abbrev pub card_after : Card → List EatCall → Card
+card_after c [] = c
+card_after c (m ∷ ms) = card_after m.result.card ms
 
-abbrev pub lentAfter : Lent → List EatCall → Lent
-lentAfter x [] = x
-lentAfter x (m ∷ ms) = lentAfter m.after ms
+abbrev pub lent_after : Lent → List EatCall → Lent
+lent_after x [] = x
+lent_after x (m ∷ ms) = lent_after m.after ms
 
 -- the bytes that they have eaten, of each piece as many as the result says; and those that they have printed, at the start of each output area
-abbrev pub eatenBy : List EatCall → List ℕ
-eatenBy [] = []
-eatenBy (m ∷ ms) = take m.result.used m.piece ++ eatenBy ms
+abbrev pub eaten_by : List EatCall → List ℕ
+eaten_by [] = []
+eaten_by (m ∷ ms) = take m.result.used m.piece ++ eaten_by ms
 
-abbrev pub printedBy : List EatCall → List ℕ
-printedBy [] = []
-printedBy (m ∷ ms) = take m.result.printed m.after.out ++ printedBy ms
+abbrev pub printed_by : List EatCall → List ℕ
+printed_by [] = []
+printed_by (m ∷ ms) = take m.result.printed m.after.out ++ printed_by ms
 
 -- ---- the claim
 
@@ -56,14 +56,14 @@ pub record Room (c : Card) (x : Lent) : Type 0 where
 -- after these calls from a new card, which left the card c and what is lent as x
 pub record AfterCalls (ms : List EatCall) (c : Card) (x : Lent) : Type 0 where
   -- what they have printed depends on the bytes that they have eaten, and on nothing else
-  pub so-far : printedBy ms ≡ (feeds start (eatenBy ms)).printed
+  pub so_far : printed_by ms ≡ (feeds start (eaten_by ms)).printed
   -- with the end of the input, where there is room, it is what the card prints
   pub whole : (out : List ℕ) (r : Eaten) (after : Lent) → Room c (lending x out) → Finishes c (lending x out) r after
-      → printedBy ms ++ take r.printed after.out ≡ prints (eatenBy ms)
+      → printed_by ms ++ take r.printed after.out ≡ prints (eaten_by ms)
   -- and where there is room, one more call eats a byte at least: so a host that goes on with the rest of a piece comes to its end
   pub further : (m : EatCall) → Room c (lending x m.out) → Eats m.piece c (lending x m.out) m.result m.after → 0 < length m.piece
       → 0 < m.result.used
 
 -- HOW A HOST FEEDS A CARD MAKES NO DIFFERENCE, for a line area and stores of any length and content at first, and every list of calls
 abbrev pub Hosted : Type 0
-Hosted = (x : Lent) (ms : List EatCall) → AllEat newCard x ms → AfterCalls ms (cardAfter newCard ms) (lentAfter x ms)
+Hosted = (x : Lent) (ms : List EatCall) → AllEat new_card x ms → AfterCalls ms (card_after new_card ms) (lent_after x ms)

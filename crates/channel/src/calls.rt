@@ -1,35 +1,35 @@
 // The two record calls on a runner: a record read is the call that it stands for, a record written is the next message.
 ghost use Rattle.std.specs.Prelude.{◌≡◌, ◌+◌, ◌≤◌, length};
 ghost use Rattle.channel.specs.Calls.{
-  isBytes,
-  isChannel,
-  readAfter,
-  heardAs,
+  is_bytes,
+  is_channel,
+  read_after,
+  heard_as,
   heard,
-  notedAs,
+  noted_as,
   noted,
   made,
-  parsedRead,
-  admittedRead,
-  readRecord,
-  writeAfter,
-  outputRecord,
-  sentAs,
-  hasEnded,
-  lengthOf,
-  sentBuffer,
+  parsed_read,
+  admitted_read,
+  read_record,
+  write_after,
+  output_record,
+  sent_as,
+  has_ended,
+  length_of,
+  sent_buffer,
   wrote,
-  wroteBuffer,
+  wrote_buffer,
   told,
-  isLeftMessage,
-  isLeft,
+  is_left_message,
+  is_left,
   sent,
   room,
-  roomyWrite,
-  admittedWrite,
-  writeRecord,
+  roomy_write,
+  admitted_write,
+  write_record,
 };
-ghost use Rattle.channel.specs.CallLaws.{admittedLimits, admittedBy, Whole, Narrow, Sayable, Roomy, count};
+ghost use Rattle.channel.specs.CallLaws.{admitted_limits, admitted_by, Whole, Narrow, Sayable, Roomy, count};
 ghost use Rattle.codec.specs.Codec.{start};
 
 use codec::{Parsed, Record, Written};
@@ -82,7 +82,7 @@ pub enum Sending {
 // ---- what is met before a record: 12, 10, 11, 13
 
 fn is_bytes(unit: Unit) -> bool
-    ensures { result ≡ isBytes unit }
+    ensures { result ≡ is_bytes unit }
 {
     match unit {
         Unit::Bytes => true,
@@ -92,7 +92,7 @@ fn is_bytes(unit: Unit) -> bool
 
 // Whether both streams have one pool, and bytes are counted both ways, as on a channel.
 fn is_channel(limits: Limits) -> bool
-    ensures { result ≡ isChannel limits }
+    ensures { result ≡ is_channel limits }
 {
     let input = limits.input;
     let output = limits.output;
@@ -102,9 +102,9 @@ fn is_channel(limits: Limits) -> bool
 }
 
 // The runner's own limits tell 12 and 10; `enough` is whether the lent stores do.
-#[tactic(auto, unfolding(crate::specs::CallLaws::admittedBy))]
+#[tactic(auto, unfolding(crate::specs::CallLaws::admitted_by))]
 fn admit(limits: LimitsAnswer, enough: bool) -> Reply
-    ensures { result ≡ admittedBy limits enough }
+    ensures { result ≡ admitted_by limits enough }
 {
     match limits {
         LimitsAnswer::Is(limits) => admit_limits(limits, enough),
@@ -112,9 +112,9 @@ fn admit(limits: LimitsAnswer, enough: bool) -> Reply
     }
 }
 
-#[tactic(auto, unfolding(crate::specs::CallLaws::admittedLimits))]
+#[tactic(auto, unfolding(crate::specs::CallLaws::admitted_limits))]
 fn admit_limits(limits: Limits, enough: bool) -> Reply
-    ensures { result ≡ admittedLimits limits enough }
+    ensures { result ≡ admitted_limits limits enough }
 {
     if enough {
         if is_channel(limits) {
@@ -128,7 +128,7 @@ fn admit_limits(limits: Limits, enough: bool) -> Reply
 // ---- a record read
 
 // Reads a record for the channel at an instant, and makes the call that it stands for under the runner's own key.
-#[tactic(auto, unfolding(crate::specs::Calls::readRecord), using(crate::proofs::Steps::admitted_by))]
+#[tactic(auto, unfolding(crate::specs::Calls::read_record), using(crate::proofs::Steps::admitted_by_lem))]
 pub fn read_record(
     runner: Runner,
     at: u64,
@@ -137,7 +137,7 @@ pub fn read_record(
     store: &mut [u8],
     lengths: &mut [u32],
 ) -> Reading
-    ensures { readAfter result store.new lengths.new ≡ readRecord runner at channel bytes.now store.old lengths.old }
+    ensures { read_after result store.new lengths.new ≡ read_record runner at channel bytes.now store.old lengths.old }
 {
     let limits = runner.limits;
     let enough = (inbox::need::byte_need(limits) <= store.len())
@@ -146,7 +146,7 @@ pub fn read_record(
     read_admitted(reply, runner, at, channel, bytes, store, lengths)
 }
 
-#[tactic(auto, unfolding(crate::specs::Calls::admittedRead))]
+#[tactic(auto, unfolding(crate::specs::Calls::admitted_read))]
 fn read_admitted(
     reply: Reply,
     runner: Runner,
@@ -156,7 +156,7 @@ fn read_admitted(
     store: &mut [u8],
     lengths: &mut [u32],
 ) -> Reading
-    ensures { readAfter result store.new lengths.new ≡ admittedRead reply runner at channel bytes.now store.old lengths.old }
+    ensures { read_after result store.new lengths.new ≡ admitted_read reply runner at channel bytes.now store.old lengths.old }
 {
     match reply {
         Reply::Ok => {
@@ -170,7 +170,7 @@ fn read_admitted(
     }
 }
 
-#[tactic(auto, unfolding(crate::specs::CallLaws::Whole, crate::specs::Calls::parsedRead))]
+#[tactic(auto, unfolding(crate::specs::CallLaws::Whole, crate::specs::Calls::parsed_read))]
 fn read_parsed(
     parsed: Parsed,
     runner: Runner,
@@ -180,7 +180,7 @@ fn read_parsed(
     lengths: &mut [u32],
 ) -> Reading
     requires { Whole parsed bytes.now }
-    ensures { readAfter result store.new lengths.new ≡ parsedRead parsed runner at bytes.now store.old lengths.old }
+    ensures { read_after result store.new lengths.new ≡ parsed_read parsed runner at bytes.now store.old lengths.old }
 {
     match parsed {
         Parsed::Read(rec) => make(rec, runner, at, bytes, store, lengths),
@@ -202,7 +202,7 @@ fn make(
     lengths: &mut [u32],
 ) -> Reading
     requires { start rec ≤ length bytes.now }
-    ensures { readAfter result store.new lengths.new ≡ made rec runner at bytes.now store.old lengths.old }
+    ensures { read_after result store.new lengths.new ≡ made rec runner at bytes.now store.old lengths.old }
 {
     let own = runner.key;
     match rec {
@@ -230,7 +230,7 @@ fn heard(hearing: Hearing) -> Reading
 }
 
 fn heard_as(received: Received) -> Answer
-    ensures { result ≡ heardAs received }
+    ensures { result ≡ heard_as received }
 {
     match received {
         Received::Receipt(receipt) => Answer::Receipt(receipt),
@@ -248,7 +248,7 @@ fn noted(noting: Noting) -> Reading
 }
 
 fn noted_as(reply: Reply) -> Answer
-    ensures { result ≡ notedAs reply }
+    ensures { result ≡ noted_as reply }
 {
     match reply {
         Reply::Ok => Answer::Ok,
@@ -260,9 +260,9 @@ fn noted_as(reply: Reply) -> Answer
 
 // Takes the next message, and leaves its record for the channel at the buffer's start. A buffer below chunk + 13 bytes, or
 // below 43, is refused before a message is taken; so is a Terminal whose status no request tells, which next_message still gives.
-#[tactic(auto, unfolding(crate::specs::Calls::writeRecord), using(crate::proofs::Steps::admitted_by))]
+#[tactic(auto, unfolding(crate::specs::Calls::write_record), using(crate::proofs::Steps::admitted_by_lem))]
 pub fn write_record(runner: Runner, channel: u32, store: &[u8], buffer: &mut [u8]) -> Writing
-    ensures { writeAfter result buffer.new ≡ writeRecord runner channel store.now buffer.old }
+    ensures { write_after result buffer.new ≡ write_record runner channel store.now buffer.old }
 {
     let limits = runner.limits;
     let enough = inbox::need::byte_need(limits) <= store.len();
@@ -270,7 +270,7 @@ pub fn write_record(runner: Runner, channel: u32, store: &[u8], buffer: &mut [u8
     write_admitted(reply, runner, channel, store, buffer)
 }
 
-#[tactic(auto, unfolding(crate::specs::Calls::admittedWrite))]
+#[tactic(auto, unfolding(crate::specs::Calls::admitted_write))]
 fn write_admitted(
     reply: Reply,
     runner: Runner,
@@ -278,7 +278,7 @@ fn write_admitted(
     store: &[u8],
     buffer: &mut [u8],
 ) -> Writing
-    ensures { writeAfter result buffer.new ≡ admittedWrite reply runner channel store.now buffer.old }
+    ensures { write_after result buffer.new ≡ admitted_write reply runner channel store.now buffer.old }
 {
     match reply {
         Reply::Ok => write_in(runner, channel, store, buffer),
@@ -289,9 +289,9 @@ fn write_admitted(
     }
 }
 
-#[tactic(auto, unfolding(crate::specs::Calls::roomyWrite))]
+#[tactic(auto, unfolding(crate::specs::Calls::roomy_write))]
 fn write_in(runner: Runner, channel: u32, store: &[u8], buffer: &mut [u8]) -> Writing
-    ensures { writeAfter result buffer.new ≡ roomyWrite runner channel store.now buffer.old }
+    ensures { write_after result buffer.new ≡ roomy_write runner channel store.now buffer.old }
 {
     let limits = runner.limits;
     if room(limits) <= buffer.len() {
@@ -318,7 +318,7 @@ fn room(limits: Limits) -> usize
 // it is left, the runner is handed back as it was given.
 fn send(runner: Runner, channel: u32, store: &[u8], buffer: &mut [u8]) -> Writing
     requires { room runner.limits ≤ length buffer.old }
-    ensures { writeAfter result buffer.new ≡ sent runner channel store.now buffer.old }
+    ensures { write_after result buffer.new ≡ sent runner channel store.now buffer.old }
 {
     let limits = runner.limits;
     let ended = has_ended(runner);
@@ -334,9 +334,9 @@ fn send(runner: Runner, channel: u32, store: &[u8], buffer: &mut [u8]) -> Writin
     tell(saying, ended, channel, buffer)
 }
 
-#[tactic(auto, unfolding(crate::specs::Calls::isLeft))]
+#[tactic(auto, unfolding(crate::specs::Calls::is_left))]
 fn is_left(said: Said) -> bool
-    ensures { result ≡ isLeft said }
+    ensures { result ≡ is_left said }
 {
     match said {
         Said::None => false,
@@ -346,7 +346,7 @@ fn is_left(said: Said) -> bool
 }
 
 fn is_left_message(message: Message) -> bool
-    ensures { result ≡ isLeftMessage message }
+    ensures { result ≡ is_left_message message }
 {
     match message {
         Message::Credit(_) => false,
@@ -363,7 +363,7 @@ fn is_left_message(message: Message) -> bool
 
 // Whether an End has come.
 fn has_ended(runner: Runner) -> bool
-    ensures { result ≡ hasEnded runner }
+    ensures { result ≡ has_ended runner }
 {
     let stdout = runner.outputs[0];
     let stderr = runner.outputs[1];
@@ -373,7 +373,7 @@ fn has_ended(runner: Runner) -> bool
 #[tactic(auto, unfolding(crate::specs::Calls::told))]
 fn tell(saying: Saying, ended: bool, channel: u32, buffer: &mut [u8]) -> Writing
     requires { Sayable saying.said (length buffer.old) }
-    ensures { writeAfter result buffer.new ≡ told saying ended channel buffer.old }
+    ensures { write_after result buffer.new ≡ told saying ended channel buffer.old }
 {
     let said = saying.said;
     let wrote = tell_said(said, ended, channel, buffer);
@@ -381,10 +381,10 @@ fn tell(saying: Saying, ended: bool, channel: u32, buffer: &mut [u8]) -> Writing
     Writing { runner, wrote }
 }
 
-#[tactic(auto, unfolding(crate::specs::CallLaws::Sayable, crate::specs::Calls::wrote, crate::specs::Calls::wroteBuffer))]
+#[tactic(auto, unfolding(crate::specs::CallLaws::Sayable, crate::specs::Calls::wrote, crate::specs::Calls::wrote_buffer))]
 fn tell_said(said: Said, ended: bool, channel: u32, buffer: &mut [u8]) -> Wrote
     requires { Sayable said (length buffer.old) }
-    ensures { (result ≡ wrote channel ended said) × (buffer.new ≡ wroteBuffer channel ended said buffer.old) }
+    ensures { (result ≡ wrote channel ended said) × (buffer.new ≡ wrote_buffer channel ended said buffer.old) }
 {
     match said {
         Said::None => Wrote::None,
@@ -398,10 +398,10 @@ fn tell_said(said: Said, ended: bool, channel: u32, buffer: &mut [u8]) -> Wrote
 }
 
 // What a message is sent as, where `ended` is whether an End came before it.
-#[tactic(auto, unfolding(crate::specs::Calls::sentAs, crate::specs::CallLaws::Narrow))]
+#[tactic(auto, unfolding(crate::specs::Calls::sent_as, crate::specs::CallLaws::Narrow))]
 fn sent_as(ended: bool, message: Message) -> Sending
     requires { Narrow message }
-    ensures { result ≡ sentAs ended message }
+    ensures { result ≡ sent_as ended message }
 {
     match message {
         Message::Credit(units) => Sending::Record(Record::Adjust(units)),
@@ -425,7 +425,7 @@ fn sent_as(ended: bool, message: Message) -> Sending
 }
 
 fn output_record(stream: Stream, n: u32) -> Record
-    ensures { result ≡ outputRecord stream n }
+    ensures { result ≡ output_record stream n }
 {
     match stream {
         Stream::Stdout => Record::Data(n),
@@ -434,10 +434,10 @@ fn output_record(stream: Stream, n: u32) -> Record
 }
 
 // Lays what is sent at the buffer's start, and returns how many bytes of it that has.
-#[tactic(auto, unfolding(crate::specs::Calls::sentBuffer, crate::specs::CallLaws::Roomy, codec::specs::Codec::lay, exits::specs::Exit::close, exits::specs::Exit::closed))]
+#[tactic(auto, unfolding(crate::specs::Calls::sent_buffer, crate::specs::CallLaws::Roomy, codec::specs::Codec::lay, exits::specs::Exit::close, exits::specs::Exit::closed))]
 fn lay_out(out: Sending, channel: u32, buffer: &mut [u8]) -> usize
     requires { Roomy out (length buffer.old) }
-    ensures { (result ≡ lengthOf channel out) × (buffer.new ≡ sentBuffer channel out buffer.old) }
+    ensures { (result ≡ length_of channel out) × (buffer.new ≡ sent_buffer channel out buffer.old) }
 {
     match out {
         Sending::Nothing => 0,

@@ -3,14 +3,14 @@ use Rattle.std.specs.Prelude.{◌≡◌, refl, Bool, true, false, ℕ}
 use Rattle.exec.specs.declared.Stream.{Stream}
 use Rattle.exec.specs.declared.Stream.TheVariants.{Stdout, Stderr}
 use Rattle.choice.specs.declared.Choice.TheVariants as Choice
-use Rattle.choice.specs.Order.{ifElse, order}
+use Rattle.choice.specs.Order.{if_else, order}
 
 -- "Once detached, only Terminal": whatever else waits; and no message after it
 detached : (can credited started closed awaits end0 end1 : Bool) (x : Stream) (n1 n2 : ℕ)
     → (order false true can credited started closed awaits end0 end1 false x n1 n2 ≡ Choice.None)
     × (order false true can credited started closed awaits end0 end1 true x n1 n2 ≡ Choice.Terminal)
     × (order true true can credited started closed awaits end0 end1 true x n1 n2 ≡ Choice.None)
-unfolding order ifElse
+unfolding order if_else
 detached can credited started closed awaits end0 end1 x n1 n2 = (refl, refl, refl)
 
 -- "Credit unless the last message was one; then Started, InputClosed .."
@@ -18,7 +18,7 @@ first : (closed awaits end0 end1 ready : Bool) (x : Stream) (n1 n2 : ℕ)
     → (order false false true false true closed awaits end0 end1 ready x n1 n2 ≡ Choice.Credit)
     × (order false false true true true closed awaits end0 end1 ready x n1 n2 ≡ Choice.Started)
     × (order false false true true false true awaits end0 end1 ready x n1 n2 ≡ Choice.InputClosed)
-unfolding order ifElse
+unfolding order if_else
 first closed awaits end0 end1 ready x n1 n2 = (refl, refl, refl)
 
 -- ".. End, Output by turns": stdout's end, then stderr's; the stream whose turn it is, then the other
@@ -27,7 +27,7 @@ streams : (ready : Bool)
     × (order false false true true false false false false true ready Stderr 3 5 ≡ Choice.End Stderr)
     × (order false false true true false false false false false ready Stderr 3 5 ≡ Choice.Output Stderr 3)
     × (order false false true true false false false false false ready Stderr 0 5 ≡ Choice.Output Stdout 5)
-unfolding order ifElse
+unfolding order if_else
 streams ready = (refl, refl, refl, refl)
 
 -- "unless the launch is still awaited"; "then Credit; then Terminal"; and none where neither stream can send and nothing else waits
@@ -36,5 +36,5 @@ last : (x : Stream)
     × (order false false true true false false false false false true x 0 0 ≡ Choice.Credit)
     × (order false false false true false false false false false true x 0 0 ≡ Choice.Terminal)
     × (order false false false false false false false false false false x 0 0 ≡ Choice.None)
-unfolding order ifElse
+unfolding order if_else
 last x = (refl, refl, refl, refl)

@@ -6,23 +6,23 @@ use Rattle.exec.specs.Stream.{following}
 use Rattle.choice.specs.declared.Choice.{Choice}
 
 -- a choice that stays shut: `cond` computes everywhere, so that a law over `cond b x y` would never be found by its shape
-unfoldable pub ifElse {ℓ} : {A : Type ℓ} → Bool → A → A → A
-ifElse true x y = x
-ifElse false x y = y
+unfoldable pub if_else {ℓ} : {A : Type ℓ} → Bool → A → A → A
+if_else true x y = x
+if_else false x y = y
 
 -- the order of messages: Credit unless the last message was one; then Started, InputClosed and, unless the launch is still
 -- awaited, End, Output by turns; then Credit; then Terminal. Once detached, only Terminal.
 -- (x is the stream whose turn it is, n1 and n2 what it and the one that follows can send)
 unfoldable pub order : (finished detached can credited started closed awaits end0 end1 ready : Bool) (x : Stream) (n1 n2 : ℕ) → Choice
 order finished detached can credited started closed awaits end0 end1 ready x n1 n2 =
-    ifElse finished Choice.None
-    (ifElse detached (ifElse ready Choice.Terminal Choice.None)
-    (ifElse (can && not credited) Choice.Credit
-    (ifElse started Choice.Started
-    (ifElse closed Choice.InputClosed
-    (ifElse (not awaits && end0) (Choice.End Stdout)
-    (ifElse (not awaits && end1) (Choice.End Stderr)
-    (ifElse (not awaits && ltb 0 n1) (Choice.Output x n1)
-    (ifElse (not awaits && ltb 0 n2) (Choice.Output (following x) n2)
-    (ifElse can Choice.Credit
-    (ifElse ready Choice.Terminal Choice.None))))))))))
+    if_else finished Choice.None
+    (if_else detached (if_else ready Choice.Terminal Choice.None)
+    (if_else (can && not credited) Choice.Credit
+    (if_else started Choice.Started
+    (if_else closed Choice.InputClosed
+    (if_else (not awaits && end0) (Choice.End Stdout)
+    (if_else (not awaits && end1) (Choice.End Stderr)
+    (if_else (not awaits && ltb 0 n1) (Choice.Output x n1)
+    (if_else (not awaits && ltb 0 n2) (Choice.Output (following x) n2)
+    (if_else can Choice.Credit
+    (if_else ready Choice.Terminal Choice.None))))))))))

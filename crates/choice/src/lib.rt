@@ -19,7 +19,7 @@ pub enum Choice {
 }
 
 // The order of messages. `x` is the stream whose turn it is, n1 and n2 are what it and the one that follows can send.
-#[tactic(auto, unfolding(crate::specs::Order::order, crate::specs::Order::ifElse))]
+#[tactic(auto, unfolding(crate::specs::Order::order, crate::specs::Order::if_else))]
 pub fn order(
     finished: bool,
     detached: bool,

@@ -5,11 +5,11 @@ use Prim.Native.Nat.{ℕ, ◌+◌, ◌≤◌}
 use native.Mathlib.Omega.{arith}
 use lib.ListN.{length, take, drop, take-append-drop}
 use lib.Seq.{drop-drop}
-use Rattle.ring.specs.Runs.{copied, copied-length}
+use Rattle.ring.specs.Runs.{copied, copied_length}
 use Rattle.codec.specs.declared.Record.{Record}
 use Rattle.codec.specs.declared.Record.TheVariants.{Adjust, Data, Extended, Eof, Close}
-use Rattle.codec.specs.Codec.{header, start, size, laidRecord}
-use Rattle.codec.specs.CodecLaws.{header-laid}
+use Rattle.codec.specs.Codec.{header, start, size, laid_record}
+use Rattle.codec.specs.CodecLaws.{header_laid}
 
 -- bytes that are not moved
 pub unmoved : (d : List ℕ) (at n : ℕ) → d ≡ copied d at d at n
@@ -20,21 +20,21 @@ unmoved d at n =
     ∙ ap (λ (x : List ℕ). take at d ++ x) (take-append-drop n (drop at d))
     ∙ take-append-drop at d)
 
-pub start-most : (rec : Record) → start rec ≤ 13
-start-most (Adjust units) = omega arith
-start-most (Data n) = omega arith
-start-most (Extended n) = omega arith
-start-most Eof = omega arith
-start-most Close = omega arith
+pub start_most : (rec : Record) → start rec ≤ 13
+start_most (Adjust units) = omega arith
+start_most (Data n) = omega arith
+start_most (Extended n) = omega arith
+start_most Eof = omega arith
+start_most Close = omega arith
 
 module _ (rec : Record) (d b : List ℕ) (room : 13 + size rec ≤ length d) (e : b ≡ copied d (start rec) d 13 (size rec)) where
   -- and the header is laid before it
-  pub laid_by : (channel : ℕ) (e₁ : List ℕ) → e₁ ≡ header channel rec ++ drop (start rec) b → e₁ ≡ laidRecord channel rec d
-  unfolding laidRecord
+  pub laid_by : (channel : ℕ) (e₁ : List ℕ) → e₁ ≡ header channel rec ++ drop (start rec) b → e₁ ≡ laid_record channel rec d
+  unfolding laid_record
   laid_by channel e₁ h =
       h
       ∙ ap (λ (x : List ℕ). header channel rec ++ drop (start rec) x) e
-      ∙ header-laid channel rec d d 13 (size rec) (omega (arith, start-most rec))
+      ∙ header_laid channel rec d d 13 (size rec) (omega (arith, start_most rec))
 
-  pub room-kept : start rec ≤ length b
-  room-kept = rw e (omega (arith, start-most rec, copied-length d (start rec) d 13 (size rec) (omega (arith, start-most rec)) room))
+  pub room_kept : start rec ≤ length b
+  room_kept = rw e (omega (arith, start_most rec, copied_length d (start rec) d 13 (size rec) (omega (arith, start_most rec)) room))

@@ -5,7 +5,7 @@ use Rattle.codec.specs.declared.Parsed.{Parsed}
 use Rattle.codec.specs.declared.Record.{Record}
 use Rattle.codec.specs.declared.Record.TheVariants.{Adjust, Data, Extended, Eof, Close}
 use Rattle.codec.specs.declared.Written.{Written}
-use Rattle.octets.specs.Bytes.{be32, numberAt}
+use Rattle.octets.specs.Bytes.{be32, number_at}
 
 -- ---- a record in bytes
 
@@ -45,34 +45,34 @@ abbrev pub Fits : Record → Type 0
 Fits rec = number rec < 2 ^ 32
 
 -- the whole record
-unfoldable pub bytesOf : (channel : ℕ) → Record → (payload : List ℕ) → List ℕ
-bytesOf channel rec payload = header channel rec ++ payload
+unfoldable pub bytes_of : (channel : ℕ) → Record → (payload : List ℕ) → List ℕ
+bytes_of channel rec payload = header channel rec ++ payload
 
 -- ---- reading: 20 (empty), 21, 20, 22, 23
 
 -- the record of a kind, with the number that its bytes have where that kind has one
 unfoldable pub kinded : (kind : ℕ) → List ℕ → Parsed
 kinded kind s =
-    cond (eqb kind 93) (Parsed.Read (Adjust (numberAt s 5)))
-    (cond (eqb kind 94) (Parsed.Read (Data (numberAt s 5)))
-    (cond (eqb kind 95) (Parsed.Read (Extended (numberAt s 9)))
+    cond (eqb kind 93) (Parsed.Read (Adjust (number_at s 5)))
+    (cond (eqb kind 94) (Parsed.Read (Data (number_at s 5)))
+    (cond (eqb kind 95) (Parsed.Read (Extended (number_at s 9)))
     (cond (eqb kind 96) (Parsed.Read Eof)
     (cond (eqb kind 97) (Parsed.Read Close) (Parsed.Refused UnknownKind)))))
 
 -- the type of extended data is 1
-abbrev pub isTyped : Record → List ℕ → Bool
-isTyped (Adjust units) s = true
-isTyped (Data n) s = true
-isTyped (Extended n) s = eqb (numberAt s 5) 1
-isTyped Eof s = true
-isTyped Close s = true
+abbrev pub is_typed : Record → List ℕ → Bool
+is_typed (Adjust units) s = true
+is_typed (Data n) s = true
+is_typed (Extended n) s = eqb (number_at s 5) 1
+is_typed Eof s = true
+is_typed Close s = true
 
 -- exactly its length, for the channel, and of a type that is known
 unfoldable pub fitting : (channel : ℕ) → List ℕ → Record → Parsed
 fitting channel s rec =
     cond (eqb (length s) (start rec + size rec))
-    (cond (eqb (numberAt s 1) channel)
-    (cond (isTyped rec s) (Parsed.Read rec) (Parsed.Refused BadType))
+    (cond (eqb (number_at s 1) channel)
+    (cond (is_typed rec s) (Parsed.Read rec) (Parsed.Refused BadType))
     (Parsed.Refused OtherChannel))
     (Parsed.Refused BadLength)
 
@@ -91,26 +91,26 @@ pub record WrittenAfter : Type 0 where
   pub answer : Written
   pub buffer : List ℕ
 
-abbrev pub writtenAfter : Written → List ℕ → WrittenAfter
-writtenAfter answer buffer = record { answer = answer; buffer = buffer }
+abbrev pub written_after : Written → List ℕ → WrittenAfter
+written_after answer buffer = record { answer = answer; buffer = buffer }
 
 -- the record at the buffer's start; nothing else is written
 unfoldable pub write : (channel : ℕ) → Record → (payload buffer : List ℕ) → WrittenAfter
 write channel rec payload buffer =
     cond (leb (start rec + size rec) (length buffer))
     (cond (eqb (length payload) (size rec))
-    (writtenAfter (Written.Bytes (start rec + size rec)) (bytesOf channel rec payload ++ drop (start rec + size rec) buffer))
-    (writtenAfter (Written.Refused BadLength) buffer))
-    (writtenAfter (Written.Refused BufferShort) buffer)
+    (written_after (Written.Bytes (start rec + size rec)) (bytes_of channel rec payload ++ drop (start rec + size rec) buffer))
+    (written_after (Written.Refused BadLength) buffer))
+    (written_after (Written.Refused BufferShort) buffer)
 
 -- the record at the buffer's start, with its payload from byte 13 on of the buffer
-unfoldable pub laidRecord : (channel : ℕ) → Record → List ℕ → List ℕ
-laidRecord channel rec buffer =
-    bytesOf channel rec (take (size rec) (drop 13 buffer)) ++ drop (start rec + size rec) buffer
+unfoldable pub laid_record : (channel : ℕ) → Record → List ℕ → List ℕ
+laid_record channel rec buffer =
+    bytes_of channel rec (take (size rec) (drop 13 buffer)) ++ drop (start rec + size rec) buffer
 
 -- 25 where the buffer has no room for the payload there
 unfoldable pub lay : (channel : ℕ) → Record → List ℕ → WrittenAfter
 lay channel rec buffer =
     cond (leb (13 + size rec) (length buffer))
-    (writtenAfter (Written.Bytes (start rec + size rec)) (laidRecord channel rec buffer))
-    (writtenAfter (Written.Refused BufferShort) buffer)
+    (written_after (Written.Bytes (start rec + size rec)) (laid_record channel rec buffer))
+    (written_after (Written.Refused BufferShort) buffer)

@@ -7,28 +7,28 @@ use Rattle.exec.specs.Refusal.{number}
 use Rattle.codec.specs.declared.Parsed.TheVariants as Parsed
 use Rattle.codec.specs.declared.Record.TheVariants.{Data, Extended, Eof, Close}
 use Rattle.codec.specs.declared.Written.TheVariants.{Bytes, Refused}
-use Rattle.codec.specs.Codec.{header, bytesOf, kinded, checked, read, writtenAfter, laidRecord, lay}
+use Rattle.codec.specs.Codec.{header, bytes_of, kinded, checked, read, written_after, laid_record, lay}
 
 -- twelve bytes
 abbrev twelve : List ℕ
 twelve = 1 ∷ 2 ∷ 3 ∷ 4 ∷ 5 ∷ 6 ∷ 7 ∷ 8 ∷ 9 ∷ 10 ∷ 11 ∷ 12 ∷ []
 
 -- a record without a payload is laid in thirteen bytes, and twelve are left
-eof : (lay 5 Eof twelve ≡ writtenAfter (Refused BufferShort) twelve)
-    × (lay 5 Eof (twelve ++ (13 ∷ [])) ≡ writtenAfter (Bytes 5) (96 ∷ 0 ∷ 0 ∷ 0 ∷ 5 ∷ 6 ∷ 7 ∷ 8 ∷ 9 ∷ 10 ∷ 11 ∷ 12 ∷ 13 ∷ []))
-unfolding lay laidRecord bytesOf header
+eof : (lay 5 Eof twelve ≡ written_after (Refused BufferShort) twelve)
+    × (lay 5 Eof (twelve ++ (13 ∷ [])) ≡ written_after (Bytes 5) (96 ∷ 0 ∷ 0 ∷ 0 ∷ 5 ∷ 6 ∷ 7 ∷ 8 ∷ 9 ∷ 10 ∷ 11 ∷ 12 ∷ 13 ∷ []))
+unfolding lay laid_record bytes_of header
 eof = (refl, refl)
 
 -- a payload "ab" from byte 13 on is brought to byte 9; where its second byte is not there, nothing is
-data-ab : (lay 5 (Data 2) (twelve ++ (13 ∷ 97 ∷ [])) ≡ writtenAfter (Refused BufferShort) (twelve ++ (13 ∷ 97 ∷ [])))
-    × (lay 5 (Data 2) (twelve ++ (13 ∷ 97 ∷ 98 ∷ [])) ≡ writtenAfter (Bytes 11) (94 ∷ 0 ∷ 0 ∷ 0 ∷ 5 ∷ 0 ∷ 0 ∷ 0 ∷ 2 ∷ 97 ∷ 98 ∷ 12 ∷ 13 ∷ 97 ∷ 98 ∷ []))
-unfolding lay laidRecord bytesOf header
-data-ab = (refl, refl)
+data_ab : (lay 5 (Data 2) (twelve ++ (13 ∷ 97 ∷ [])) ≡ written_after (Refused BufferShort) (twelve ++ (13 ∷ 97 ∷ [])))
+    × (lay 5 (Data 2) (twelve ++ (13 ∷ 97 ∷ 98 ∷ [])) ≡ written_after (Bytes 11) (94 ∷ 0 ∷ 0 ∷ 0 ∷ 5 ∷ 0 ∷ 0 ∷ 0 ∷ 2 ∷ 97 ∷ 98 ∷ 12 ∷ 13 ∷ 97 ∷ 98 ∷ []))
+unfolding lay laid_record bytes_of header
+data_ab = (refl, refl)
 
 -- "kind not 93 to 97": every other kind is 21, whatever stands behind it, 92 and 98 among them
-pub kind-over : (channel k : ℕ) (s : List ℕ) → 97 < k → read channel (k ∷ s) ≡ Parsed.Refused UnknownKind
+pub kind_over : (channel k : ℕ) (s : List ℕ) → 97 < k → read channel (k ∷ s) ≡ Parsed.Refused UnknownKind
 unfolding read checked kinded
-kind-over channel k s h =
+kind_over channel k s h =
     simp (
       ne_eqb (length (k ∷ s)) 0 (omega arith),
       ne_eqb k 93 (omega arith),
@@ -38,9 +38,9 @@ kind-over channel k s h =
       ne_eqb k 97 (omega arith),
     )
 
-pub kind-under : (channel k : ℕ) (s : List ℕ) → k < 93 → read channel (k ∷ s) ≡ Parsed.Refused UnknownKind
+pub kind_under : (channel k : ℕ) (s : List ℕ) → k < 93 → read channel (k ∷ s) ≡ Parsed.Refused UnknownKind
 unfolding read checked kinded
-kind-under channel k s h =
+kind_under channel k s h =
     simp (
       ne_eqb (length (k ∷ s)) 0 (omega arith),
       ne_eqb k 93 (omega arith),
@@ -51,9 +51,9 @@ kind-under channel k s h =
     )
 
 -- the bytes of the other three kinds, for channel 5: EXTENDED_DATA of type 1 with "a", EOF, CLOSE
-others : (bytesOf 5 (Extended 1) (97 ∷ []) ≡ 95 ∷ 0 ∷ 0 ∷ 0 ∷ 5 ∷ 0 ∷ 0 ∷ 0 ∷ 1 ∷ 0 ∷ 0 ∷ 0 ∷ 1 ∷ 97 ∷ [])
-    × (bytesOf 5 Eof [] ≡ 96 ∷ 0 ∷ 0 ∷ 0 ∷ 5 ∷ [])
-    × (bytesOf 5 Close [] ≡ 97 ∷ 0 ∷ 0 ∷ 0 ∷ 5 ∷ [])
+others : (bytes_of 5 (Extended 1) (97 ∷ []) ≡ 95 ∷ 0 ∷ 0 ∷ 0 ∷ 5 ∷ 0 ∷ 0 ∷ 0 ∷ 1 ∷ 0 ∷ 0 ∷ 0 ∷ 1 ∷ 97 ∷ [])
+    × (bytes_of 5 Eof [] ≡ 96 ∷ 0 ∷ 0 ∷ 0 ∷ 5 ∷ [])
+    × (bytes_of 5 Close [] ≡ 97 ∷ 0 ∷ 0 ∷ 0 ∷ 5 ∷ [])
     × (number UnknownKind ≡ 21)
-unfolding bytesOf header
+unfolding bytes_of header
 others = (refl, refl, refl, refl)

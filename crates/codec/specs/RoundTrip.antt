@@ -6,45 +6,45 @@ use Rattle.std.proofs.Math.Seq.{take_at}
 use Rattle.codec.specs.declared.Parsed.TheVariants as Parsed
 use Rattle.codec.specs.declared.Record.{Record}
 use Rattle.octets.specs.BytesLaws.{number_fits}
-use Rattle.codec.specs.Codec.{header, start, size, Fits, bytesOf, read, laidRecord}
-use Rattle.codec.specs.CodecLaws.{header-length, holds-written, read_of, read_is, written-again, held_fits}
+use Rattle.codec.specs.Codec.{header, start, size, Fits, bytes_of, read, laid_record}
+use Rattle.codec.specs.CodecLaws.{header_length, holds_written, read_of, read_is, written_again, held_fits}
 
 -- WRITTEN, THEN READ
 pub back : (channel : ℕ) (rec : Record) (payload : List ℕ) → channel < 2 ^ 32 → Fits rec → length payload ≡ size rec
-    → read channel (bytesOf channel rec payload) ≡ Parsed.Read rec
-back channel rec payload known fits e = read_of channel _ rec (holds-written channel rec payload known fits e)
+    → read channel (bytes_of channel rec payload) ≡ Parsed.Read rec
+back channel rec payload known fits e = read_of channel _ rec (holds_written channel rec payload known fits e)
 
-pub payload-back : (channel : ℕ) (rec : Record) (payload : List ℕ) → drop (start rec) (bytesOf channel rec payload) ≡ payload
-unfolding bytesOf
-payload-back channel rec payload = drop_at (header channel rec) payload (start rec) (header-length channel rec)
+pub payload_back : (channel : ℕ) (rec : Record) (payload : List ℕ) → drop (start rec) (bytes_of channel rec payload) ≡ payload
+unfolding bytes_of
+payload_back channel rec payload = drop_at (header channel rec) payload (start rec) (header_length channel rec)
 
 -- READ, THEN WRITTEN; and what was read meets what `back` asks
 module _ (channel : ℕ) (s : List ℕ) (rec : Record) (bytes : (i : ℕ) → get_or s i 0 < 256) (accepted : read channel s ≡ Parsed.Read rec) where
-  pub forth : bytesOf channel rec (drop (start rec) s) ≡ s
-  forth = written-again channel s bytes rec (read_is channel s rec accepted)
+  pub forth : bytes_of channel rec (drop (start rec) s) ≡ s
+  forth = written_again channel s bytes rec (read_is channel s rec accepted)
 
-  pub forth-channel : channel < 2 ^ 32
-  forth-channel = omega (arith, number_fits s bytes 1, (read_is channel s rec accepted).mine)
+  pub forth_channel : channel < 2 ^ 32
+  forth_channel = omega (arith, number_fits s bytes 1, (read_is channel s rec accepted).mine)
 
-  pub forth-fits : Fits rec
-  forth-fits = held_fits channel s bytes rec (read_is channel s rec accepted)
+  pub forth_fits : Fits rec
+  forth_fits = held_fits channel s bytes rec (read_is channel s rec accepted)
 
-  pub forth-size : length (drop (start rec) s) ≡ size rec
-  forth-size = simp length-drop (omega (arith, (read_is channel s rec accepted).whole))
+  pub forth_size : length (drop (start rec) s) ≡ size rec
+  forth_size = simp length-drop (omega (arith, (read_is channel s rec accepted).whole))
 
 -- ---- a record that was laid
 
 module _ (channel : ℕ) (rec : Record) (b : List ℕ) (room : 13 + size rec ≤ length b) where
-  payload-length : length (take (size rec) (drop 13 b)) ≡ size rec
-  payload-length = length-take-le (size rec) (drop 13 b) (simp length-drop (omega arith))
+  payload_length : length (take (size rec) (drop 13 b)) ≡ size rec
+  payload_length = length-take-le (size rec) (drop 13 b) (simp length-drop (omega arith))
 
   -- its bytes stand at the buffer's start
-  pub laid-front : take (start rec + size rec) (laidRecord channel rec b) ≡ bytesOf channel rec (take (size rec) (drop 13 b))
-  unfolding laidRecord bytesOf
-  laid-front =
+  pub laid_front : take (start rec + size rec) (laid_record channel rec b) ≡ bytes_of channel rec (take (size rec) (drop 13 b))
+  unfolding laid_record bytes_of
+  laid_front =
       take_at (header channel rec ++ take (size rec) (drop 13 b)) (drop (start rec + size rec) b) (start rec + size rec)
-      (simp (length-append, header-length channel rec, payload-length))
+      (simp (length-append, header_length channel rec, payload_length))
 
   -- WHAT IS LAID READS BACK
-  pub laid-reads : channel < 2 ^ 32 → Fits rec → read channel (take (start rec + size rec) (laidRecord channel rec b)) ≡ Parsed.Read rec
-  laid-reads known fits = ap (read channel) laid-front ∙ back channel rec (take (size rec) (drop 13 b)) known fits payload-length
+  pub laid_reads : channel < 2 ^ 32 → Fits rec → read channel (take (start rec + size rec) (laid_record channel rec b)) ≡ Parsed.Read rec
+  laid_reads known fits = ap (read channel) laid_front ∙ back channel rec (take (size rec) (drop 13 b)) known fits payload_length

@@ -9,13 +9,13 @@ ghost use Rattle.codec.specs.Codec.{
   size,
   header,
   kinded,
-  isTyped,
+  is_typed,
   checked,
   fitting,
   read,
-  writtenAfter,
+  written_after,
   write,
-  laidRecord,
+  laid_record,
   lay,
 };
 
@@ -110,7 +110,7 @@ fn kinded(kind: u8, bytes: &[u8]) -> Parsed
 
 // Whether extended data is of type 1.
 fn is_typed(rec: Record, bytes: &[u8]) -> bool
-    ensures { result ≡ isTyped rec bytes.now }
+    ensures { result ≡ is_typed rec bytes.now }
 {
     match rec {
         Record::Adjust(_) => true,
@@ -204,7 +204,7 @@ fn put_header(buffer: &mut [u8], channel: u32, rec: Record)
 
 // Writes the record and its payload at the buffer's start, and nothing else.
 pub fn write(channel: u32, rec: Record, payload: &[u8], buffer: &mut [u8]) -> Written
-    ensures { writtenAfter result buffer.new ≡ write channel rec payload.now buffer.old }
+    ensures { written_after result buffer.new ≡ write channel rec payload.now buffer.old }
 {
     let whole = rec.whole();
     if buffer.len() < whole {
@@ -221,7 +221,7 @@ pub fn write(channel: u32, rec: Record, payload: &[u8], buffer: &mut [u8]) -> Wr
 
 // The same with a payload that stands in the buffer already, from byte 13 on, where the longest header ends.
 pub fn lay(channel: u32, rec: Record, buffer: &mut [u8]) -> Written
-    ensures { writtenAfter result buffer.new ≡ lay channel rec buffer.old }
+    ensures { written_after result buffer.new ≡ lay channel rec buffer.old }
 {
     let room = buffer.len();
     if room < 13 {
@@ -236,7 +236,7 @@ pub fn lay(channel: u32, rec: Record, buffer: &mut [u8]) -> Written
 
 fn lay_in(channel: u32, rec: Record, buffer: &mut [u8])
     requires { 13 + size rec ≤ length buffer.old }
-    ensures { buffer.new ≡ laidRecord channel rec buffer.old }
+    ensures { buffer.new ≡ laid_record channel rec buffer.old }
 {
     bring(buffer, rec.start(), rec.size());
     put_header(buffer, channel, rec);

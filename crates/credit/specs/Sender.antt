@@ -7,8 +7,8 @@ use Rattle.exec.specs.declared.Unit.TheVariants.{Bytes, Frames}
 use Rattle.credit.specs.declared.sender.Credit.{Credit}
 use Rattle.credit.specs.declared.sender.Granting.{Granting}
 
-abbrev pub newCredit : ℕ → Credit
-newCredit window = record { window = window; available = 0 }
+abbrev pub new_credit : ℕ → Credit
+new_credit window = record { window = window; available = 0 }
 
 -- a grant of 0, or of a sum above the window, is refused
 abbrev pub grantable : Credit → ℕ → Bool
@@ -28,5 +28,5 @@ sendable Frames available length = cond (ltb 0 available) length 0
 abbrev pub spent : Credit → ℕ → Credit
 spent c cost = record { window = c.window; available = c.available - cost }
 
-abbrev pub creditFits : Credit → Bool
-creditFits c = leb c.available c.window
+abbrev pub credit_fits : Credit → Bool
+credit_fits c = leb c.available c.window

@@ -1,6 +1,6 @@
 // The sender's side of a pool.
 ghost use Rattle.std.specs.Prelude.{◌≡◌, ◌≤◌};
-ghost use Rattle.credit.specs.Sender.{newCredit, grant, sendable, spent, creditFits};
+ghost use Rattle.credit.specs.Sender.{new_credit, grant, sendable, spent, credit_fits};
 
 use exec::{Refusal, Reply, Unit};
 
@@ -21,7 +21,7 @@ pub struct Granting {
 impl Credit {
     // The credit before the receiver's first grant.
     pub fn new(window: u32) -> Self
-        ensures { result ≡ newCredit window }
+        ensures { result ≡ new_credit window }
     {
         Credit {
             window,
@@ -109,7 +109,7 @@ impl Credit {
 
     // Whether no more is available than the window has.
     pub fn fits(self) -> bool
-        ensures { result ≡ creditFits self }
+        ensures { result ≡ credit_fits self }
     {
         self.available <= self.window
     }

@@ -4,13 +4,13 @@ use Rattle.std.specs.Prelude.{ℕ, ◌≤◌, ℤ, pos, neg_ℤ}
 use Rattle.decimal.specs.declared.MaybeNumber.{MaybeNumber}
 use Rattle.decimal.specs.declared.MaybeSigned.{MaybeSigned}
 
-abbrev pub maybeNumber : Option ℕ → MaybeNumber
-maybeNumber none = MaybeNumber.None
-maybeNumber (some n) = MaybeNumber.Some n
+abbrev pub maybe_number : Option ℕ → MaybeNumber
+maybe_number none = MaybeNumber.None
+maybe_number (some n) = MaybeNumber.Some n
 
-abbrev pub maybeSigned : Option ℤ → MaybeSigned
-maybeSigned none = MaybeSigned.None
-maybeSigned (some n) = MaybeSigned.Some n
+abbrev pub maybe_signed : Option ℤ → MaybeSigned
+maybe_signed none = MaybeSigned.None
+maybe_signed (some n) = MaybeSigned.Some n
 
 -- a number that was read, if it is at most `most`, as one with no minus and as one with a minus
 abbrev pub AtMost : (most : ℕ) → MaybeNumber → Type 0

@@ -9,15 +9,15 @@ use Rattle.std.proofs.Math.Seq.{drop-length, append_snoc}
 use Rattle.std.proofs.lemmas.List.{set-append_left, set_at}
 use Rattle.ring.specs.Runs.{copied}
 use Rattle.ring.specs.Lent.{copied_all}
-use Rattle.decimal.specs.Decimal.{isDigit, areDigits, valueFrom, numberFrom, number, takes, digitsBefore, digitsOf}
+use Rattle.decimal.specs.Decimal.{is_digit, are_digits, value_from, number_from, number, takes, digits_before, digits_of}
 
 -- ---- read
 
 -- the ways of a byte b behind a number v
 data Way (most v b : ℕ) : Type 0 where
-  taken : 48 ≤ b → b < 58 → v * 10 + (b - 48) ≤ most → isDigit b ≡ true → takes most v b ≡ true → Way most v b
-  other : isDigit b ≡ false → takes most v b ≡ false → Way most v b
-  over : most < v * 10 + (b - 48) → isDigit b ≡ true → takes most v b ≡ false → Way most v b
+  taken : 48 ≤ b → b < 58 → v * 10 + (b - 48) ≤ most → is_digit b ≡ true → takes most v b ≡ true → Way most v b
+  other : is_digit b ≡ false → takes most v b ≡ false → Way most v b
+  over : most < v * 10 + (b - 48) → is_digit b ≡ true → takes most v b ≡ false → Way most v b
 
 way : (most v b : ℕ) → Way most v b
 way most v b =
@@ -31,7 +31,7 @@ way most v b =
                 other (rw (low, high) refl) (rw (low, high) refl)
             | yes h ↦
                 let high : ltb b 58 ≡ true = lt-ltb b 58 h in
-                let is : isDigit b ≡ true = rw (low, high) refl in
+                let is : is_digit b ≡ true = rw (low, high) refl in
                 elim (dec_lt v (most / 10)) [
                   | yes m ↦ taken (omega arith) h (omega arith) is (rw (low, high, lt-ltb v (most / 10) m) refl)
                   | no m ↦
@@ -51,43 +51,43 @@ way most v b =
     ]
 
 -- a byte that is taken is a digit, and the number with it is at most `most`
-pub takes-fits : (most v b : ℕ) → takes most v b ≡ true → (48 ≤ b) × (b < 58) × (v * 10 + (b - 48) ≤ most)
-takes-fits most v b h =
+pub takes_fits : (most v b : ℕ) → takes most v b ≡ true → (48 ≤ b) × (b < 58) × (v * 10 + (b - 48) ≤ most)
+takes_fits most v b h =
     elim (way most v b) [
       | taken l m f is e ↦ (l, m, f)
       | other is e ↦ absurd (true≢false cc)
       | over m is e ↦ absurd (true≢false cc)
     ]
 
-pub value-least : (v : ℕ) (t : List ℕ) → v ≤ valueFrom v t
-unfolding valueFrom
-value-least v [] = omega arith
-value-least v (b ∷ t) = omega (arith, value-least (v * 10 + (b - 48)) t)
+pub value_least : (v : ℕ) (t : List ℕ) → v ≤ value_from v t
+unfolding value_from
+value_least v [] = omega arith
+value_least v (b ∷ t) = omega (arith, value_least (v * 10 + (b - 48)) t)
 
 -- an empty text is no number
-pub number-none : (most : ℕ) (t : List ℕ) → length t ≡ 0 → number most t ≡ none
+pub number_none : (most : ℕ) (t : List ℕ) → length t ≡ 0 → number most t ≡ none
 unfolding number
-number-none most [] h = refl
-number-none most (b ∷ t) h = absurd (omega arith)
+number_none most [] h = refl
+number_none most (b ∷ t) h = absurd (omega arith)
 
 -- where reading begins: a text that is not empty
-pub number-from : (most : ℕ) (t : List ℕ) → 0 < length t → number most t ≡ numberFrom most 0 t
+pub number_from_lem : (most : ℕ) (t : List ℕ) → 0 < length t → number most t ≡ number_from most 0 t
 unfolding number
-number-from most [] h = absurd (omega arith)
-number-from most (b ∷ t) h = refl
+number_from_lem most [] h = absurd (omega arith)
+number_from_lem most (b ∷ t) h = refl
 
 -- its end
 pub drop_all : (i : ℕ) (s : List ℕ) → i ≡ length s → drop i s ≡ []
 drop_all i s h = rw h (drop-length s)
 
-pub from_end : (most v : ℕ) → v ≤ most → numberFrom most v [] ≡ some v
-unfolding numberFrom areDigits valueFrom
+pub from_end : (most v : ℕ) → v ≤ most → number_from most v [] ≡ some v
+unfolding number_from are_digits value_from
 from_end most v h = rw (le-leb v most h) refl
 
 -- a byte that is taken
-from-taken : (most v b : ℕ) (t : List ℕ) → takes most v b ≡ true → numberFrom most v (b ∷ t) ≡ numberFrom most (v * 10 + (b - 48)) t
-unfolding numberFrom areDigits valueFrom
-from-taken most v b t h =
+from_taken : (most v b : ℕ) (t : List ℕ) → takes most v b ≡ true → number_from most v (b ∷ t) ≡ number_from most (v * 10 + (b - 48)) t
+unfolding number_from are_digits value_from
+from_taken most v b t h =
     elim (way most v b) [
       | taken l m f is e ↦ rw is refl
       | other is e ↦ absurd (true≢false cc)
@@ -95,109 +95,109 @@ from-taken most v b t h =
     ]
 
 -- and one that is not
-from-refused : (most v b : ℕ) (t : List ℕ) → takes most v b ≡ false → numberFrom most v (b ∷ t) ≡ none
-unfolding numberFrom areDigits valueFrom
-from-refused most v b t h =
+from_refused : (most v b : ℕ) (t : List ℕ) → takes most v b ≡ false → number_from most v (b ∷ t) ≡ none
+unfolding number_from are_digits value_from
+from_refused most v b t h =
     elim (way most v b) [
       | taken l m f is e ↦ absurd (true≢false cc)
       | other is e ↦ rw is refl
       | over m is e ↦
           let w = v * 10 + (b - 48) in
-          let big : leb (valueFrom w t) most ≡ false = lt-leb (valueFrom w t) most (omega (arith, value-least w t)) in
-          rw (is, big, and-false (areDigits t)) refl
+          let big : leb (value_from w t) most ≡ false = lt-leb (value_from w t) most (omega (arith, value_least w t)) in
+          rw (is, big, and-false (are_digits t)) refl
     ]
 
 -- both in a text of which the first i bytes are read
-pub turn-taken : (most v b : ℕ) (s : List ℕ) (i : ℕ) → i < length s → b ≡ get_or s i 0 → takes most v b ≡ true
-    → numberFrom most v (drop i s) ≡ numberFrom most (v * 10 + (b - 48)) (drop (i + 1) s)
-turn-taken most v b s i l e h =
-    ap (numberFrom most v) (drop-cons s i 0 l ∙ rw (e, add-one) refl) ∙ from-taken most v b (drop (i + 1) s) h
+pub turn_taken : (most v b : ℕ) (s : List ℕ) (i : ℕ) → i < length s → b ≡ get_or s i 0 → takes most v b ≡ true
+    → number_from most v (drop i s) ≡ number_from most (v * 10 + (b - 48)) (drop (i + 1) s)
+turn_taken most v b s i l e h =
+    ap (number_from most v) (drop-cons s i 0 l ∙ rw (e, add-one) refl) ∙ from_taken most v b (drop (i + 1) s) h
 
-pub turn-refused : (most v b : ℕ) (s : List ℕ) (i : ℕ) → i < length s → b ≡ get_or s i 0 → takes most v b ≡ false
-    → numberFrom most v (drop i s) ≡ none
-turn-refused most v b s i l e h =
-    ap (numberFrom most v) (drop-cons s i 0 l ∙ rw e refl) ∙ from-refused most v b (drop (suc i) s) h
+pub turn_refused : (most v b : ℕ) (s : List ℕ) (i : ℕ) → i < length s → b ≡ get_or s i 0 → takes most v b ≡ false
+    → number_from most v (drop i s) ≡ none
+turn_refused most v b s i l e h =
+    ap (number_from most v) (drop-cons s i 0 l ∙ rw e refl) ∙ from_refused most v b (drop (suc i) s) h
 
 -- ---- written
 
 -- more than enough changes nothing
-before-enough : (k j n : ℕ) (t : List ℕ) → n ≤ k → n ≤ j → digitsBefore k n t ≡ digitsBefore j n t
-unfolding digitsBefore
-before-enough zero zero n t h i = refl
-before-enough zero (suc j) n t h i = rw (lt-ltb n 10 (omega arith)) refl
-before-enough (suc k) zero n t h i = rw (lt-ltb n 10 (omega arith)) refl
-before-enough (suc k) (suc j) n t h i =
+before_enough : (k j n : ℕ) (t : List ℕ) → n ≤ k → n ≤ j → digits_before k n t ≡ digits_before j n t
+unfolding digits_before
+before_enough zero zero n t h i = refl
+before_enough zero (suc j) n t h i = rw (lt-ltb n 10 (omega arith)) refl
+before_enough (suc k) zero n t h i = rw (lt-ltb n 10 (omega arith)) refl
+before_enough (suc k) (suc j) n t h i =
     elim (dec_lt n 10) [
       | yes l ↦ rw (lt-ltb n 10 l) refl
-      | no l ↦ rw (le-ltb n 10 (omega arith)) (before-enough k j (n / 10) ((48 + n % 10) ∷ t) (omega arith) (omega arith))
+      | no l ↦ rw (le-ltb n 10 (omega arith)) (before_enough k j (n / 10) ((48 + n % 10) ∷ t) (omega arith) (omega arith))
     ]
 
 -- the digits of n in front of t: one, or those of its tenth and one more
-pub before-one : (k n : ℕ) (t : List ℕ) → n < 10 → digitsBefore k n t ≡ (48 + n) ∷ t
-unfolding digitsBefore
-before-one zero n t h = refl
-before-one (suc k) n t h = rw (lt-ltb n 10 h) refl
+pub before_one : (k n : ℕ) (t : List ℕ) → n < 10 → digits_before k n t ≡ (48 + n) ∷ t
+unfolding digits_before
+before_one zero n t h = refl
+before_one (suc k) n t h = rw (lt-ltb n 10 h) refl
 
-pub before_more : (k n : ℕ) (t : List ℕ) → n ≤ k → 10 ≤ n → digitsBefore k n t ≡ digitsBefore (n / 10) (n / 10) ((48 + n % 10) ∷ t)
-unfolding digitsBefore
+pub before_more : (k n : ℕ) (t : List ℕ) → n ≤ k → 10 ≤ n → digits_before k n t ≡ digits_before (n / 10) (n / 10) ((48 + n % 10) ∷ t)
+unfolding digits_before
 before_more zero n t e h = absurd (omega arith)
-before_more (suc k) n t e h = rw (le-ltb n 10 h) (before-enough k (n / 10) (n / 10) ((48 + n % 10) ∷ t) (omega arith) (omega arith))
+before_more (suc k) n t e h = rw (le-ltb n 10 h) (before_enough k (n / 10) (n / 10) ((48 + n % 10) ∷ t) (omega arith) (omega arith))
 
 -- their count
-before-length : (k n : ℕ) (t : List ℕ) → length (digitsBefore k n t) ≡ length (digitsBefore k n []) + length t
-unfolding digitsBefore
-before-length zero n t = omega arith
-before-length (suc k) n t =
+before_length : (k n : ℕ) (t : List ℕ) → length (digits_before k n t) ≡ length (digits_before k n []) + length t
+unfolding digits_before
+before_length zero n t = omega arith
+before_length (suc k) n t =
     elim (dec_lt n 10) [
       | yes l ↦ rw (lt-ltb n 10 l) (omega arith)
       | no l ↦
           let x = 48 + n % 10 in
-          rw (le-ltb n 10 (omega arith)) (omega (arith, before-length k (n / 10) (x ∷ t), before-length k (n / 10) (x ∷ [])))
+          rw (le-ltb n 10 (omega arith)) (omega (arith, before_length k (n / 10) (x ∷ t), before_length k (n / 10) (x ∷ [])))
     ]
 
-pub before-count : (n : ℕ) (t : List ℕ) → length (digitsBefore n n t) ≡ length (digitsOf n) + length t
-unfolding digitsOf
-before-count n t = before-length n n t
+pub before_count : (n : ℕ) (t : List ℕ) → length (digits_before n n t) ≡ length (digits_of n) + length t
+unfolding digits_of
+before_count n t = before_length n n t
 
-pub count-one : (n : ℕ) → n < 10 → length (digitsOf n) ≡ 1
-unfolding digitsOf
-count-one n h = ap length (before-one n n [] h)
+pub count_one : (n : ℕ) → n < 10 → length (digits_of n) ≡ 1
+unfolding digits_of
+count_one n h = ap length (before_one n n [] h)
 
-pub count-more : (n : ℕ) → 10 ≤ n → length (digitsOf n) ≡ length (digitsOf (n / 10)) + 1
-unfolding digitsOf
-count-more n h =
-    ap length (before_more n n [] (omega arith) h) ∙ before-length (n / 10) (n / 10) ((48 + n % 10) ∷ [])
+pub count_more : (n : ℕ) → 10 ≤ n → length (digits_of n) ≡ length (digits_of (n / 10)) + 1
+unfolding digits_of
+count_more n h =
+    ap length (before_more n n [] (omega arith) h) ∙ before_length (n / 10) (n / 10) ((48 + n % 10) ∷ [])
 
-pub count-least : (n : ℕ) → 1 ≤ length (digitsOf n)
-count-least n =
+pub count_least : (n : ℕ) → 1 ≤ length (digits_of n)
+count_least n =
     elim (dec_lt n 10) [
-      | yes l ↦ omega (arith, count-one n l)
-      | no l ↦ omega (arith, count-more n (omega arith))
+      | yes l ↦ omega (arith, count_one n l)
+      | no l ↦ omega (arith, count_more n (omega arith))
     ]
 
-pub count_most : (p n : ℕ) → n < 10 ^ suc p → length (digitsOf n) ≤ suc p
-count_most zero n h = omega (arith, count-one n (omega arith))
+pub count_most : (p n : ℕ) → n < 10 ^ suc p → length (digits_of n) ≤ suc p
+count_most zero n h = omega (arith, count_one n (omega arith))
 count_most (suc p) n h =
     elim (dec_lt n 10) [
-      | yes l ↦ omega (arith, count-one n l)
-      | no l ↦ omega (arith, count-more n (omega arith), count_most p (n / 10) (omega arith))
+      | yes l ↦ omega (arith, count_one n l)
+      | no l ↦ omega (arith, count_more n (omega arith), count_most p (n / 10) (omega arith))
     ]
 
 -- where writing begins
-pub digits-begin : (n : ℕ) → digitsOf n ≡ digitsBefore n n []
-unfolding digitsOf
-digits-begin n = refl
+pub digits_begin : (n : ℕ) → digits_of n ≡ digits_before n n []
+unfolding digits_of
+digits_begin n = refl
 
 -- with t written up to `end` and more than one digit to come, there is room for two
-pub digits-room : (n rest : ℕ) (t : List ℕ) → digitsOf n ≡ digitsBefore rest rest t → 10 ≤ rest → 2 + length t ≤ length (digitsOf n)
-digits-room n rest t e h =
+pub digits_room : (n rest : ℕ) (t : List ℕ) → digits_of n ≡ digits_before rest rest t → 10 ≤ rest → 2 + length t ≤ length (digits_of n)
+digits_room n rest t e h =
     let c = ap length e in
-    omega (arith, before-count rest t, count-more rest h, count-least (rest / 10))
+    omega (arith, before_count rest t, count_more rest h, count_least (rest / 10))
 
 -- a digit written in front of a copy
-copied-front : (d : List ℕ) (i x : ℕ) (t : List ℕ) (m : ℕ) → length t ≡ m → i + 1 + m ≤ length d
+copied_front : (d : List ℕ) (i x : ℕ) (t : List ℕ) (m : ℕ) → length t ≡ m → i + 1 + m ≤ length d
     → set (copied d (i + 1) t 0 m) i x ≡ copied d i (x ∷ t) 0 (m + 1)
-copied-front d i x t m h room =
+copied_front d i x t m h room =
     let y = get_or d i 0 in
     let l : length (take i d) ≡ i = length-take-le i d (omega arith) in
     let one : take (i + 1) d ≡ take i d ++ (y ∷ []) = rw add-one (take-suc d i 0 (omega arith)) in
@@ -213,16 +213,16 @@ copied-front d i x t m h room =
     ∙ sym (copied_all d i (x ∷ t) (m + 1) (omega arith))
 
 -- a digit that is not the first
-pub spell-turn : (d : List ℕ) (i x : ℕ) (t : List ℕ) → 1 ≤ i → i + 1 + length t ≤ length d
+pub spell_turn : (d : List ℕ) (i x : ℕ) (t : List ℕ) → 1 ≤ i → i + 1 + length t ≤ length d
     → set (copied d (i + 1) t 0 (length t)) i x ≡ copied d (i - 1 + 1) (x ∷ t) 0 (length (x ∷ t))
-spell-turn d i x t h room =
+spell_turn d i x t h room =
     let k : i - 1 + 1 ≡ i = omega arith in
-    rw k (copied-front d i x t (length t) refl room ∙ ap (copied d i (x ∷ t) 0) (omega arith))
+    rw k (copied_front d i x t (length t) refl room ∙ ap (copied d i (x ∷ t) 0) (omega arith))
 
 -- the first
-pub spell-end : (d s : List ℕ) (i x : ℕ) (t : List ℕ) (end : ℕ) → s ≡ x ∷ t → i + 1 + length t ≡ end → end ≤ length d
+pub spell_end : (d s : List ℕ) (i x : ℕ) (t : List ℕ) (end : ℕ) → s ≡ x ∷ t → i + 1 + length t ≡ end → end ≤ length d
     → set (copied d (i + 1) t 0 (length t)) i x ≡ copied d (end - length s) s 0 (length s)
-spell-end d s i x t end e h room =
+spell_end d s i x t end e h room =
     let m : length s ≡ length t + 1 = omega (arith, ap length e) in
     let j : end - length s ≡ i = omega arith in
-    rw (j, m, e) (copied-front d i x t (length t) refl (omega arith))
+    rw (j, m, e) (copied_front d i x t (length t) refl (omega arith))

@@ -3,8 +3,8 @@
 
 ghost use Rattle.std.specs.Prelude.{◌≡◌, [], ◌∷◌, ◌+◌, ◌-◌, ◌≤◌, ◌<◌, length, pos, neg_ℤ, nat_abs};
 ghost use Rattle.ring.specs.Runs.{copied};
-ghost use Rattle.decimal.specs.Decimal.{takes, number, startsMinus, signed, digitsOf, signedOf};
-ghost use Rattle.decimal.specs.Answers.{maybeNumber, maybeSigned, AtMost, positive, negative};
+ghost use Rattle.decimal.specs.Decimal.{takes, number, starts_minus, signed, digits_of, signed_of};
+ghost use Rattle.decimal.specs.Answers.{maybe_number, maybe_signed, AtMost, positive, negative};
 
 #[derive(Clone, Copy)]
 pub enum MaybeNumber {
@@ -35,7 +35,7 @@ fn takes(most: u64, v: u64, b: u64) -> bool
 
 // The number that all of text is, if it is at most `most`.
 pub fn read(text: &[u8], most: u64) -> MaybeNumber
-    ensures { result ≡ maybeNumber (number most text.now) }
+    ensures { result ≡ maybe_number (number most text.now) }
 {
     let n = text.len();
     if n == 0 {
@@ -96,7 +96,7 @@ fn negative(n: MaybeNumber) -> MaybeSigned
 }
 
 fn starts_minus(text: &[u8]) -> bool
-    ensures { result ≡ startsMinus text.now }
+    ensures { result ≡ starts_minus text.now }
 {
     if text.len() == 0 {
         return false;
@@ -106,7 +106,7 @@ fn starts_minus(text: &[u8]) -> bool
 
 // The number that all of text is, with a minus in front or none, if an i32 holds it.
 pub fn read_signed(text: &[u8]) -> MaybeSigned
-    ensures { result ≡ maybeSigned (signed text.now) }
+    ensures { result ≡ maybe_signed (signed text.now) }
 {
     if starts_minus(text) {
         let n = text.len();
@@ -120,7 +120,7 @@ pub fn read_signed(text: &[u8]) -> MaybeSigned
 
 // How many digits n has.
 pub fn places(n: u64) -> usize
-    ensures { (result ≡ length (digitsOf n)) × (result ≤ 20) }
+    ensures { (result ≡ length (digits_of n)) × (result ≤ 20) }
 {
     let mut rest = n;
     let mut k: usize = 1;
@@ -133,9 +133,9 @@ pub fn places(n: u64) -> usize
 
 // Writes the digits of n, the last of them at index end - 1.
 fn spell(n: u64, out: &mut [u8], end: usize)
-    requires { (length (digitsOf n) ≤ end) × (end ≤ length out.old) }
+    requires { (length (digits_of n) ≤ end) × (end ≤ length out.old) }
     ensures { out.new
-        ≡ copied out.old (end - length (digitsOf n)) (digitsOf n) 0 (length (digitsOf n)) }
+        ≡ copied out.old (end - length (digits_of n)) (digits_of n) 0 (length (digits_of n)) }
 {
     let mut rest = n;
     let mut i = end - 1;
@@ -150,8 +150,8 @@ fn spell(n: u64, out: &mut [u8], end: usize)
 // Writes the digits of n from index at on, and returns the index behind them.
 pub fn write(n: u64, out: &mut [u8], at: usize) -> usize
     requires { at + 20 ≤ length out.old }
-    ensures out_after { out.new ≡ copied out.old at (digitsOf n) 0 (length (digitsOf n)) }
-    ensures value { result ≡ at + length (digitsOf n) }
+    ensures out_after { out.new ≡ copied out.old at (digits_of n) 0 (length (digits_of n)) }
+    ensures value { result ≡ at + length (digits_of n) }
 {
     let end = at + places(n);
     spell(n, out, end);
@@ -176,11 +176,11 @@ fn put_minus(out: &mut [u8], at: usize)
 }
 
 // Writes n, with a minus in front where it is negative, from index at on, and returns the index behind it.
-#[tactic(auto, unfolding(crate::specs::Decimal::signedOf))]
+#[tactic(auto, unfolding(crate::specs::Decimal::signed_of))]
 pub fn write_signed(n: i32, out: &mut [u8], at: usize) -> usize
     requires { at + 21 ≤ length out.old }
-    ensures out_after { out.new ≡ copied out.old at (signedOf n) 0 (length (signedOf n)) }
-    ensures value { result ≡ at + length (signedOf n) }
+    ensures out_after { out.new ≡ copied out.old at (signed_of n) 0 (length (signed_of n)) }
+    ensures value { result ≡ at + length (signed_of n) }
 {
     if n < 0 {
         put_minus(out, at);

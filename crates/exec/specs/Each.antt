@@ -2,7 +2,7 @@
 use Rattle.std.specs.Prelude.{Bool}
 use Rattle.exec.specs.declared.Stream.{Stream}
 use Rattle.exec.specs.declared.Stream.TheVariants.{Stdout, Stderr}
-use Rattle.exec.specs.Stream.{pick, everyStream}
+use Rattle.exec.specs.Stream.{pick, every_stream}
 
 pub record Each (A : Type 0) : Type 0 where
   pub stdout : A
@@ -17,9 +17,9 @@ abbrev pub per : {A : Type 0} → (Stream → A) → Each A
 per f = record { stdout = f Stdout; stderr = f Stderr }
 
 -- that of one stream changed
-abbrev pub onOne : {A : Type 0} → Stream → (A → A) → Each A → Each A
-onOne Stdout f e = record { stdout = f e.stdout; stderr = e.stderr }
-onOne Stderr f e = record { stdout = e.stdout; stderr = f e.stderr }
+abbrev pub on_one : {A : Type 0} → Stream → (A → A) → Each A → Each A
+on_one Stdout f e = record { stdout = f e.stdout; stderr = e.stderr }
+on_one Stderr f e = record { stdout = e.stdout; stderr = f e.stderr }
 
 abbrev pub alike : {A : Type 0} → A → Each A
 alike a = per (λ (x : Stream). a)
@@ -33,4 +33,4 @@ abbrev pub both : {A B C : Type 0} → (A → B → C) → Each A → Each B →
 both f e d = per (λ (x : Stream). f (one x e) (one x d))
 
 abbrev pub every : Each Bool → Bool
-every e = everyStream (λ (x : Stream). one x e)
+every e = every_stream (λ (x : Stream). one x e)

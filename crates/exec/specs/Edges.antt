@@ -2,11 +2,11 @@
 use Rattle.std.specs.Prelude.{◌≡◌, refl, true, false, ◌-◌, ◌^◌}
 use Rattle.exec.specs.declared.Admission.TheVariants.{Own}
 use Rattle.exec.specs.declared.Deadline.TheVariants.{At}
-use Rattle.exec.specs.Key.{newKey, admits}
+use Rattle.exec.specs.Key.{new_key, admits}
 use Rattle.exec.specs.Time.{due}
 
 -- its own key
-own : admits (newKey 7 2) (newKey 7 2) ≡ Own
+own : admits (new_key 7 2) (new_key 7 2) ≡ Own
 unfolding admits
 own = refl
 

@@ -5,8 +5,8 @@ use Rattle.exec.specs.declared.Admission.{Admission}
 use Rattle.exec.specs.declared.Admission.TheVariants.{Own, Stale, Refused}
 use Rattle.exec.specs.declared.Refusal.TheVariants as Refusal
 
-abbrev pub newKey : ℕ → ℕ → Key
-newKey id generation = record { id = id; generation = generation }
+abbrev pub new_key : ℕ → ℕ → Key
+new_key id generation = record { id = id; generation = generation }
 
 unfoldable pub admits : Key → Key → Admission
 admits own message =

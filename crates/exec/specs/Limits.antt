@@ -13,11 +13,11 @@ use Rattle.exec.specs.declared.ChunkLength.{ChunkLength}
 use Rattle.exec.specs.declared.Refusal.TheVariants as Refusal
 use Rattle.exec.specs.Stream.{index}
 
-abbrev pub bytesWindow : ℕ → Window
-bytesWindow size = record { unit = Bytes; size = size }
+abbrev pub bytes_window : ℕ → Window
+bytes_window size = record { unit = Bytes; size = size }
 
-abbrev pub framesWindow : ℕ → Window
-framesWindow size = record { unit = Frames; size = size }
+abbrev pub frames_window : ℕ → Window
+frames_window size = record { unit = Frames; size = size }
 
 -- Bytes costs the length, Frames costs 1
 unfoldable pub cost : Units.Unit → ℕ → ℕ
@@ -25,52 +25,52 @@ cost Bytes length = length
 cost Frames length = 1
 
 -- the bytes that a window of so many units holds with chunks of so many bytes
-unfoldable pub bytesWith : Units.Unit → (size chunk : ℕ) → ℕ
-bytesWith Bytes size chunk = size
-bytesWith Frames size chunk = size * chunk
+unfoldable pub bytes_with : Units.Unit → (size chunk : ℕ) → ℕ
+bytes_with Bytes size chunk = size
+bytes_with Frames size chunk = size * chunk
 
 -- 01's I, the size of the inbox's ring
-abbrev pub inputBytes : Limits → ℕ
-inputBytes l = bytesWith l.input.unit l.input.size l.chunk
+abbrev pub input_bytes : Limits → ℕ
+input_bytes l = bytes_with l.input.unit l.input.size l.chunk
 
 -- neither the chunk nor a size is 0
-abbrev pub isValid : Limits → Bool
-isValid l = (ltb 0 l.chunk && ltb 0 l.input.size) && ltb 0 l.output.size
+abbrev pub is_valid : Limits → Bool
+is_valid l = (ltb 0 l.chunk && ltb 0 l.input.size) && ltb 0 l.output.size
 
 -- limits of any numbers, valid or not
-abbrev pub limitsFor : (chunk : ℕ) (input output : Window) (shared : Bool) → Limits
-limitsFor chunk input output shared = record { chunk = chunk; input = input; output = output; shared = shared }
+abbrev pub limits_for : (chunk : ℕ) (input output : Window) (shared : Bool) → Limits
+limits_for chunk input output shared = record { chunk = chunk; input = input; output = output; shared = shared }
 
 -- limits that are none
-abbrev pub noLimits : Limits
-noLimits = limitsFor 0 (bytesWindow 0) (bytesWindow 0) false
+abbrev pub no_limits : Limits
+no_limits = limits_for 0 (bytes_window 0) (bytes_window 0) false
 
-unfoldable pub newLimits : ℕ → Window → Window → NewLimits
-newLimits chunk input output =
-    let l : Limits = limitsFor chunk input output false in
-    cond (isValid l) (NewLimits.Made l) (NewLimits.Refused Refusal.NoLimits)
+unfoldable pub new_limits : ℕ → Window → Window → NewLimits
+new_limits chunk input output =
+    let l : Limits = limits_for chunk input output false in
+    cond (is_valid l) (NewLimits.Made l) (NewLimits.Refused Refusal.NoLimits)
 
-abbrev pub sharedOutput : Limits → Limits
-sharedOutput l = limitsFor l.chunk l.input l.output true
+abbrev pub shared_output : Limits → Limits
+shared_output l = limits_for l.chunk l.input l.output true
 
 -- with shared, pool Output alone is good; without it, Stdout and Stderr are; Input never is
-abbrev pub outputPool : Bool → Pool → PoolIndex
-outputPool true Input = PoolIndex.Refused Refusal.Pool
-outputPool true Stdout = PoolIndex.Refused Refusal.Pool
-outputPool true Stderr = PoolIndex.Refused Refusal.Pool
-outputPool true Output = PoolIndex.At 0
-outputPool false Input = PoolIndex.Refused Refusal.Pool
-outputPool false Stdout = PoolIndex.At 0
-outputPool false Stderr = PoolIndex.At 1
-outputPool false Output = PoolIndex.Refused Refusal.Pool
+abbrev pub output_pool : Bool → Pool → PoolIndex
+output_pool true Input = PoolIndex.Refused Refusal.Pool
+output_pool true Stdout = PoolIndex.Refused Refusal.Pool
+output_pool true Stderr = PoolIndex.Refused Refusal.Pool
+output_pool true Output = PoolIndex.At 0
+output_pool false Input = PoolIndex.Refused Refusal.Pool
+output_pool false Stdout = PoolIndex.At 0
+output_pool false Stderr = PoolIndex.At 1
+output_pool false Output = PoolIndex.Refused Refusal.Pool
 
 -- the position of a stream's pool
-abbrev pub poolOf : Limits → Stream → ℕ
-poolOf l x = cond l.shared 0 (index x)
+abbrev pub pool_of : Limits → Stream → ℕ
+pool_of l x = cond l.shared 0 (index x)
 
 -- a data message that is empty or longer than a chunk is refused
-abbrev pub offChunk : Limits → ℕ → Bool
-offChunk l length = eqb length 0 || ltb l.chunk length
+abbrev pub off_chunk : Limits → ℕ → Bool
+off_chunk l length = eqb length 0 || ltb l.chunk length
 
-unfoldable pub checkChunk : Limits → ℕ → ChunkLength
-checkChunk l length = cond (offChunk l length) (ChunkLength.Refused Refusal.Chunk) (ChunkLength.Is length)
+unfoldable pub check_chunk : Limits → ℕ → ChunkLength
+check_chunk l length = cond (off_chunk l length) (ChunkLength.Refused Refusal.Chunk) (ChunkLength.Is length)

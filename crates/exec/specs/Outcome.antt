@@ -10,8 +10,8 @@ use Rattle.exec.specs.declared.Stream.{Stream}
 use Rattle.exec.specs.declared.Stream.TheVariants.{Stdout, Stderr}
 
 -- no cause, no launch failure, no truncation, and fenced
-abbrev pub newOutcome : MaybeStatus → Outcome
-newOutcome status = record {
+abbrev pub new_outcome : MaybeStatus → Outcome
+new_outcome status = record {
   status = status;
   cause = MaybeCause.None;
   launch_failure = MaybeLaunchFailure.None;
@@ -20,8 +20,8 @@ newOutcome status = record {
   reusable = false;
 }
 
-abbrev pub withCause : Outcome → Cause → Outcome
-withCause o cause = record {
+abbrev pub with_cause : Outcome → Cause → Outcome
+with_cause o cause = record {
   status = o.status;
   cause = MaybeCause.Some cause;
   launch_failure = o.launch_failure;
@@ -30,8 +30,8 @@ withCause o cause = record {
   reusable = o.reusable;
 }
 
-abbrev pub withLaunchFailure : Outcome → LaunchFailure → Outcome
-withLaunchFailure o failure = record {
+abbrev pub with_launch_failure : Outcome → LaunchFailure → Outcome
+with_launch_failure o failure = record {
   status = o.status;
   cause = o.cause;
   launch_failure = MaybeLaunchFailure.Some failure;
@@ -40,8 +40,8 @@ withLaunchFailure o failure = record {
   reusable = o.reusable;
 }
 
-abbrev pub withTruncated : Outcome → Stream → Outcome
-withTruncated o Stdout = record {
+abbrev pub with_truncated : Outcome → Stream → Outcome
+with_truncated o Stdout = record {
   status = o.status;
   cause = o.cause;
   launch_failure = o.launch_failure;
@@ -49,7 +49,7 @@ withTruncated o Stdout = record {
   stderr_truncated = o.stderr_truncated;
   reusable = o.reusable;
 }
-withTruncated o Stderr = record {
+with_truncated o Stderr = record {
   status = o.status;
   cause = o.cause;
   launch_failure = o.launch_failure;
@@ -58,8 +58,8 @@ withTruncated o Stderr = record {
   reusable = o.reusable;
 }
 
-abbrev pub withReusable : Outcome → Outcome
-withReusable o = record {
+abbrev pub with_reusable : Outcome → Outcome
+with_reusable o = record {
   status = o.status;
   cause = o.cause;
   launch_failure = o.launch_failure;
@@ -68,6 +68,6 @@ withReusable o = record {
   reusable = true;
 }
 
-abbrev pub isTruncated : Outcome → Stream → Bool
-isTruncated o Stdout = o.stdout_truncated
-isTruncated o Stderr = o.stderr_truncated
+abbrev pub is_truncated : Outcome → Stream → Bool
+is_truncated o Stdout = o.stdout_truncated
+is_truncated o Stderr = o.stderr_truncated

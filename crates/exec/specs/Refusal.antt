@@ -40,27 +40,27 @@ find n (x ∷ xs) = cond (eqb (number x) n) (some x) (find n xs)
 abbrev pub refusal : ℕ → Option Refusal
 refusal n = find n stops
 
-pub refusal-number : (x : Refusal) → refusal (number x) ≡ some x
+pub refusal_number : (x : Refusal) → refusal (number x) ≡ some x
 unfolding find
-refusal-number Key = refl
-refusal-number Pool = refl
-refusal-number Credit = refl
-refusal-number Chunk = refl
-refusal-number Window = refl
-refusal-number Ended = refl
-refusal-number NoLimits = refl
-refusal-number StoreShort = refl
-refusal-number StateOutOfRange = refl
-refusal-number NotAChannel = refl
-refusal-number BadLength = refl
-refusal-number UnknownKind = refl
-refusal-number OtherChannel = refl
-refusal-number BadType = refl
-refusal-number NotInbound = refl
-refusal-number BufferShort = refl
-refusal-number BadLine = refl
-refusal-number UntoldStatus = refl
-refusal-number BadRequest = refl
+refusal_number Key = refl
+refusal_number Pool = refl
+refusal_number Credit = refl
+refusal_number Chunk = refl
+refusal_number Window = refl
+refusal_number Ended = refl
+refusal_number NoLimits = refl
+refusal_number StoreShort = refl
+refusal_number StateOutOfRange = refl
+refusal_number NotAChannel = refl
+refusal_number BadLength = refl
+refusal_number UnknownKind = refl
+refusal_number OtherChannel = refl
+refusal_number BadType = refl
+refusal_number NotInbound = refl
+refusal_number BufferShort = refl
+refusal_number BadLine = refl
+refusal_number UntoldStatus = refl
+refusal_number BadRequest = refl
 
 -- a refusal that was found, at the head of a list or behind it, has the number
 found : (b : Bool) (n : ℕ) (x y : Refusal) (rest : Option Refusal) → eqb (number y) n ≡ b → (rest ≡ some x → number x ≡ n)
@@ -68,13 +68,13 @@ found : (b : Bool) (n : ℕ) (x y : Refusal) (rest : Option Refusal) → eqb (nu
 found true n x y rest e behind h = cc (eqb-true (number y) n e)
 found false n x y rest e behind h = behind h
 
-find-number : (n : ℕ) (x : Refusal) (xs : List Refusal) → find n xs ≡ some x → number x ≡ n
+find_number : (n : ℕ) (x : Refusal) (xs : List Refusal) → find n xs ≡ some x → number x ≡ n
 unfolding find
-find-number n x [] h = let z : ◌≡◌ {A = ℕ} 0 1 = cc in absurd (omega arith)
-find-number n x (y ∷ ys) h = found (eqb (number y) n) n x y (find n ys) refl (find-number n x ys) h
+find_number n x [] h = let z : ◌≡◌ {A = ℕ} 0 1 = cc in absurd (omega arith)
+find_number n x (y ∷ ys) h = found (eqb (number y) n) n x y (find n ys) refl (find_number n x ys) h
 
-pub number-refusal : (n : ℕ) (x : Refusal) → refusal n ≡ some x → number x ≡ n
-number-refusal n x h = find-number n x stops h
+pub number_refusal : (n : ℕ) (x : Refusal) → refusal n ≡ some x → number x ≡ n
+number_refusal n x h = find_number n x stops h
 
 -- 31 was the card's, for times that fall; 02's A5 retired it: never given again
 pub retired : refusal 31 ≡ none

@@ -13,39 +13,39 @@ abbrev pub index : Stream → ℕ
 index Stdout = 0
 index Stderr = 1
 
-abbrev pub streamAt : ℕ → Stream
-streamAt i = get_or all i Stdout
+abbrev pub stream_at : ℕ → Stream
+stream_at i = get_or all i Stdout
 
-pub streamAt-index : (x : Stream) → streamAt (index x) ≡ x
-streamAt-index Stdout = refl
-streamAt-index Stderr = refl
+pub stream_at_index : (x : Stream) → stream_at (index x) ≡ x
+stream_at_index Stdout = refl
+stream_at_index Stderr = refl
 
-pub index-streamAt : (i : ℕ) → i < 2 → index (streamAt i) ≡ i
-index-streamAt zero h = refl
-index-streamAt (suc zero) h = refl
-index-streamAt (suc (suc i)) h = absurd (omega arith)
+pub index_stream_at : (i : ℕ) → i < 2 → index (stream_at i) ≡ i
+index_stream_at zero h = refl
+index_stream_at (suc zero) h = refl
+index_stream_at (suc (suc i)) h = absurd (omega arith)
 
 -- ---- one of the streams
 
-abbrev pub isStdout : Stream → Bool
-isStdout Stdout = true
-isStdout Stderr = false
+abbrev pub is_stdout : Stream → Bool
+is_stdout Stdout = true
+is_stdout Stderr = false
 
-abbrev pub isStderr : Stream → Bool
-isStderr Stdout = false
-isStderr Stderr = true
+abbrev pub is_stderr : Stream → Bool
+is_stderr Stdout = false
+is_stderr Stderr = true
 
 -- what stands for a stream among what stands for each
 abbrev pub pick : {A : Type 0} → Stream → (stdout stderr : A) → A
-pick x stdout stderr = cond (isStdout x) stdout stderr
+pick x stdout stderr = cond (is_stdout x) stdout stderr
 
 -- picked from what a function gives for each, it is what it gives for that stream
 pub picked : {A : Type 0} (f : Stream → A) (x : Stream) → pick x (f Stdout) (f Stderr) ≡ f x
 picked f Stdout = refl
 picked f Stderr = refl
 
-abbrev pub sameStream : Stream → Stream → Bool
-sameStream x y = pick x (isStdout y) (isStderr y)
+abbrev pub same_stream : Stream → Stream → Bool
+same_stream x y = pick x (is_stdout y) (is_stderr y)
 
 -- the stream that has its turn after this one
 abbrev pub following : Stream → Stream
@@ -53,17 +53,17 @@ following Stdout = Stderr
 following Stderr = Stdout
 
 -- the round: another one follows, and then it is this one's turn again
-pub round : (x : Stream) → (sameStream x (following x) ≡ false) × (following (following x) ≡ x)
+pub round : (x : Stream) → (same_stream x (following x) ≡ false) × (following (following x) ≡ x)
 round Stdout = (refl, refl)
 round Stderr = (refl, refl)
 
 -- ---- over all of them
 
-abbrev pub everyStream : (Stream → Bool) → Bool
-everyStream p = p Stdout && p Stderr
+abbrev pub every_stream : (Stream → Bool) → Bool
+every_stream p = p Stdout && p Stderr
 
-pub every-stream : (p : Stream → Bool) → everyStream p ≡ true → (x : Stream) → p x ≡ true
-every-stream p h x = by (p Stdout) (p Stderr) h refl refl x
+pub every_stream_lem : (p : Stream → Bool) → every_stream p ≡ true → (x : Stream) → p x ≡ true
+every_stream_lem p h x = by (p Stdout) (p Stderr) h refl refl x
   where
     by : (a b : Bool) → (a && b) ≡ true → p Stdout ≡ a → p Stderr ≡ b → (x : Stream) → p x ≡ true
     by true true h e d Stdout = e
@@ -71,8 +71,8 @@ every-stream p h x = by (p Stdout) (p Stderr) h refl refl x
     by true false h e d x = absurd (false≢true h)
     by false b h e d x = absurd (false≢true h)
 
-abbrev pub anyStream : (Stream → Bool) → Bool
-anyStream p = p Stdout || p Stderr
+abbrev pub any_stream : (Stream → Bool) → Bool
+any_stream p = p Stdout || p Stderr
 
-abbrev pub sumOfStreams : (Stream → ℕ) → ℕ
-sumOfStreams f = f Stdout + f Stderr
+abbrev pub sum_of_streams : (Stream → ℕ) → ℕ
+sum_of_streams f = f Stdout + f Stderr

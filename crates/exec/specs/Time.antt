@@ -11,8 +11,8 @@ use Rattle.exec.specs.declared.Timers.{Timers}
 abbrev pub after : (now duration : ℕ) → Deadline
 after now duration = cond (leb (now + duration) (2 ^ 64 - 1)) (At (now + duration)) Never
 
-pub after-at : (now duration : ℕ) → now + duration ≤ 2 ^ 64 - 1 → after now duration ≡ At (now + duration)
-after-at now duration h = simp (le-leb (now + duration) (2 ^ 64 - 1) h)
+pub after_at : (now duration : ℕ) → now + duration ≤ 2 ^ 64 - 1 → after now duration ≡ At (now + duration)
+after_at now duration h = simp (le-leb (now + duration) (2 ^ 64 - 1) h)
 
 pub after_never : (now duration : ℕ) → 2 ^ 64 - 1 < now + duration → after now duration ≡ Never
 after_never now duration h = simp (lt-leb (now + duration) (2 ^ 64 - 1) h)
@@ -33,13 +33,13 @@ abbrev pub due : Deadline → ℕ → Bool
 due Never now = false
 due (At at) now = leb at now
 
-abbrev pub newTimers : (grace settlement : ℕ) → Timers
-newTimers grace settlement = record { timeout = MaybeDuration.None; grace = grace; settlement = settlement }
+abbrev pub new_timers : (grace settlement : ℕ) → Timers
+new_timers grace settlement = record { timeout = MaybeDuration.None; grace = grace; settlement = settlement }
 
-abbrev pub withTimeout : Timers → ℕ → Timers
-withTimeout t timeout = record { timeout = MaybeDuration.Some timeout; grace = t.grace; settlement = t.settlement }
+abbrev pub with_timeout : Timers → ℕ → Timers
+with_timeout t timeout = record { timeout = MaybeDuration.Some timeout; grace = t.grace; settlement = t.settlement }
 
 -- when the timeout of an execution that begins at now passes
-abbrev pub timeoutAt : MaybeDuration → ℕ → Deadline
-timeoutAt MaybeDuration.None now = Never
-timeoutAt (MaybeDuration.Some duration) now = after now duration
+abbrev pub timeout_at : MaybeDuration → ℕ → Deadline
+timeout_at MaybeDuration.None now = Never
+timeout_at (MaybeDuration.Some duration) now = after now duration

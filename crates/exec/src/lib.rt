@@ -3,31 +3,31 @@
 #![tactic(auto)]
 
 ghost use Rattle.std.specs.Prelude.{◌≡◌, cond, length};
-ghost use Rattle.exec.specs.Key.{newKey, admits};
-ghost use Rattle.exec.specs.Stream.{index, isStdout, isStderr, pick, following};
+ghost use Rattle.exec.specs.Key.{new_key, admits};
+ghost use Rattle.exec.specs.Stream.{index, is_stdout, is_stderr, pick, following};
 ghost use Rattle.exec.specs.Limits.{
-  bytesWindow,
-  framesWindow,
+  bytes_window,
+  frames_window,
   cost,
-  bytesWith,
-  isValid,
-  limitsFor,
-  noLimits,
-  newLimits,
-  sharedOutput,
-  checkChunk,
-  outputPool,
-  poolOf,
-  inputBytes,
+  bytes_with,
+  is_valid,
+  limits_for,
+  no_limits,
+  new_limits,
+  shared_output,
+  check_chunk,
+  output_pool,
+  pool_of,
+  input_bytes,
 };
-ghost use Rattle.exec.specs.Time.{after, then, earliest, due, newTimers, withTimeout, timeoutAt};
+ghost use Rattle.exec.specs.Time.{after, then, earliest, due, new_timers, with_timeout, timeout_at};
 ghost use Rattle.exec.specs.Outcome.{
-  newOutcome,
-  withCause,
-  withLaunchFailure,
-  withTruncated,
-  withReusable,
-  isTruncated,
+  new_outcome,
+  with_cause,
+  with_launch_failure,
+  with_truncated,
+  with_reusable,
+  is_truncated,
 };
 ghost use Rattle.exec.specs.Refusal.{number};
 
@@ -48,7 +48,7 @@ pub enum Admission {
 
 impl Key {
     pub fn new(id: u64, generation: u64) -> Self
-        ensures { result ≡ newKey id generation }
+        ensures { result ≡ new_key id generation }
     {
         Key { id, generation }
     }
@@ -83,7 +83,7 @@ impl Stream {
     pub const ALL: [Stream; 2] = [Stream::Stdout, Stream::Stderr];
 
     pub fn is_stdout(self) -> bool
-        ensures { result ≡ isStdout self }
+        ensures { result ≡ is_stdout self }
     {
         match self {
             Stream::Stdout => true,
@@ -92,7 +92,7 @@ impl Stream {
     }
 
     pub fn is_stderr(self) -> bool
-        ensures { result ≡ isStderr self }
+        ensures { result ≡ is_stderr self }
     {
         match self {
             Stream::Stdout => false,
@@ -164,7 +164,7 @@ pub struct Window {
 impl Window {
     // A window of `size` bytes.
     pub fn bytes(size: u32) -> Self
-        ensures { result ≡ bytesWindow size }
+        ensures { result ≡ bytes_window size }
     {
         Window {
             unit: Unit::Bytes,
@@ -174,7 +174,7 @@ impl Window {
 
     // A window of `size` data messages.
     pub fn frames(size: u32) -> Self
-        ensures { result ≡ framesWindow size }
+        ensures { result ≡ frames_window size }
     {
         Window {
             unit: Unit::Frames,
@@ -195,9 +195,9 @@ impl Window {
     }
 
     // The most data bytes that the window holds with chunks of `chunk` bytes.
-    #[tactic(auto, unfolding(crate::specs::Limits::bytesWith))]
+    #[tactic(auto, unfolding(crate::specs::Limits::bytes_with))]
     pub fn bytes_with(self, chunk: u32) -> usize
-        ensures { result ≡ bytesWith self.unit self.size chunk }
+        ensures { result ≡ bytes_with self.unit self.size chunk }
     {
         let unit = self.unit;
         match unit {
@@ -232,9 +232,9 @@ pub enum ChunkLength {
 
 impl Limits {
     // Limits with one output pool a stream; a chunk or a window of 0 is refused.
-    #[tactic(auto, unfolding(crate::specs::Limits::newLimits))]
+    #[tactic(auto, unfolding(crate::specs::Limits::new_limits))]
     pub fn new(chunk: u32, input: Window, output: Window) -> NewLimits
-        ensures { result ≡ newLimits chunk input output }
+        ensures { result ≡ new_limits chunk input output }
     {
         let limits = Limits::of(chunk, input, output, false);
         if limits.is_valid() {
@@ -245,7 +245,7 @@ impl Limits {
 
     // Limits of any numbers, valid or not: `open` looks at them.
     pub fn of(chunk: u32, input: Window, output: Window, shared: bool) -> Limits
-        ensures { result ≡ limitsFor chunk input output shared }
+        ensures { result ≡ limits_for chunk input output shared }
     {
         Limits {
             chunk,
@@ -257,7 +257,7 @@ impl Limits {
 
     // Limits that are none.
     pub fn none() -> Limits
-        ensures { result ≡ noLimits }
+        ensures { result ≡ no_limits }
     {
         let input = Window::bytes(0);
         let output = Window::bytes(0);
@@ -266,7 +266,7 @@ impl Limits {
 
     // Whether neither the chunk nor a window is 0.
     pub fn is_valid(self) -> bool
-        ensures { result ≡ isValid self }
+        ensures { result ≡ is_valid self }
     {
         let input = self.input;
         let output = self.output;
@@ -275,7 +275,7 @@ impl Limits {
 
     // The same limits, with one pool that both output streams share.
     pub fn shared_output(mut self) -> Limits
-        ensures { result ≡ sharedOutput self }
+        ensures { result ≡ shared_output self }
     {
         self.shared = true;
         self
@@ -283,7 +283,7 @@ impl Limits {
 
     // The position of a stream's output pool.
     pub fn pool_of(self, stream: Stream) -> usize
-        ensures { result ≡ poolOf self stream }
+        ensures { result ≡ pool_of self stream }
     {
         if self.shared {
             return 0;
@@ -293,7 +293,7 @@ impl Limits {
 
     // The position of the output pool `pool`.
     pub fn output_pool(self, pool: Pool) -> PoolIndex
-        ensures { result ≡ outputPool self.shared pool }
+        ensures { result ≡ output_pool self.shared pool }
     {
         if self.shared {
             return match pool {
@@ -312,9 +312,9 @@ impl Limits {
     }
 
     // The checked length of a data message of `length` bytes.
-    #[tactic(auto, unfolding(crate::specs::Limits::checkChunk))]
+    #[tactic(auto, unfolding(crate::specs::Limits::check_chunk))]
     pub fn check_chunk(self, length: usize) -> ChunkLength
-        ensures { result ≡ checkChunk self length }
+        ensures { result ≡ check_chunk self length }
     {
         if length == 0 {
             return ChunkLength::Refused(Refusal::Chunk);
@@ -328,7 +328,7 @@ impl Limits {
 
     // The most data bytes that the input's window holds.
     pub fn input_bytes(self) -> usize
-        ensures { result ≡ inputBytes self }
+        ensures { result ≡ input_bytes self }
     {
         let input = self.input;
         input.bytes_with(self.chunk)
@@ -354,7 +354,7 @@ pub struct Timers {
 impl Timers {
     // Timers with no timeout.
     pub fn new(grace: u64, settlement: u64) -> Self
-        ensures { result ≡ newTimers grace settlement }
+        ensures { result ≡ new_timers grace settlement }
     {
         Timers {
             timeout: MaybeDuration::None,
@@ -365,7 +365,7 @@ impl Timers {
 
     // The same timers, with a timeout.
     pub fn timeout(self, timeout: u64) -> Timers
-        ensures { result ≡ withTimeout self timeout }
+        ensures { result ≡ with_timeout self timeout }
     {
         Timers {
             timeout: MaybeDuration::Some(timeout),
@@ -376,7 +376,7 @@ impl Timers {
 
     // When the timeout of an execution that begins at `now` passes.
     pub fn timeout_at(self, now: u64) -> Deadline
-        ensures { result ≡ timeoutAt self.timeout now }
+        ensures { result ≡ timeout_at self.timeout now }
     {
         let timeout = self.timeout;
         match timeout {
@@ -456,7 +456,7 @@ pub struct Outcome {
 impl Outcome {
     // The outcome of a workload that ended with `status`, if known: no cause, no launch failure, no truncation, fenced.
     pub fn new(status: MaybeStatus) -> Self
-        ensures { result ≡ newOutcome status }
+        ensures { result ≡ new_outcome status }
     {
         Outcome {
             status,
@@ -469,7 +469,7 @@ impl Outcome {
     }
 
     pub fn with_cause(self, cause: Cause) -> Outcome
-        ensures { result ≡ withCause self cause }
+        ensures { result ≡ with_cause self cause }
     {
         let status = self.status;
         let launch_failure = self.launch_failure;
@@ -484,7 +484,7 @@ impl Outcome {
     }
 
     pub fn with_launch_failure(self, failure: LaunchFailure) -> Outcome
-        ensures { result ≡ withLaunchFailure self failure }
+        ensures { result ≡ with_launch_failure self failure }
     {
         let status = self.status;
         let cause = self.cause;
@@ -499,7 +499,7 @@ impl Outcome {
     }
 
     pub fn with_truncated(mut self, stream: Stream) -> Outcome
-        ensures { result ≡ withTruncated self stream }
+        ensures { result ≡ with_truncated self stream }
     {
         match stream {
             Stream::Stdout => {
@@ -514,14 +514,14 @@ impl Outcome {
     }
 
     pub fn with_reusable(mut self) -> Outcome
-        ensures { result ≡ withReusable self }
+        ensures { result ≡ with_reusable self }
     {
         self.reusable = true;
         self
     }
 
     pub fn is_truncated(self, stream: Stream) -> bool
-        ensures { result ≡ isTruncated self stream }
+        ensures { result ≡ is_truncated self stream }
     {
         match stream {
             Stream::Stdout => self.stdout_truncated,

@@ -9,23 +9,23 @@ use borrow.Author.Tests.{le-leb}
 use Rattle.exec.specs.declared.MaybeStatus.{MaybeStatus}
 use Rattle.codec.specs.declared.Record.TheVariants.{Close}
 use Rattle.codec.specs.declared.Written.{Written}
-use Rattle.codec.specs.Codec.{bytesOf, WrittenAfter, writtenAfter, write}
-use Rattle.exits.specs.Exit.{requestOf, ending, closed}
-use Rattle.exits.specs.ExitLaws.{ending-length}
+use Rattle.codec.specs.Codec.{bytes_of, WrittenAfter, written_after, write}
+use Rattle.exits.specs.Exit.{request_of, ending, closed}
+use Rattle.exits.specs.ExitLaws.{ending_length}
 
-close-written : (channel : ℕ) (t : List ℕ) → 5 ≤ length t
-    → write channel Close [] t ≡ writtenAfter (Written.Bytes 5) (bytesOf channel Close [] ++ drop 5 t)
+close_written : (channel : ℕ) (t : List ℕ) → 5 ≤ length t
+    → write channel Close [] t ≡ written_after (Written.Bytes 5) (bytes_of channel Close [] ++ drop 5 t)
 unfolding write
-close-written channel t h = simp (le-leb 5 (length t) h)
+close_written channel t h = simp (le-leb 5 (length t) h)
 
-pub close-laid : (channel : ℕ) (status : MaybeStatus) (d b : List ℕ) (n : ℕ) (w : Written) (p : List ℕ) → 43 ≤ length d
-    → (n ≡ length (requestOf channel status)) × (n ≤ 38) → b ≡ requestOf channel status ++ drop (length (requestOf channel status)) d
-    → writtenAfter w p ≡ write channel Close [] (take (length b - n) (drop n b))
-    → writtenAfter (Written.Bytes (n + 5)) (take n b ++ (p ++ drop (length b - n) (drop n b))) ≡ closed channel status d
+pub close_laid : (channel : ℕ) (status : MaybeStatus) (d b : List ℕ) (n : ℕ) (w : Written) (p : List ℕ) → 43 ≤ length d
+    → (n ≡ length (request_of channel status)) × (n ≤ 38) → b ≡ request_of channel status ++ drop (length (request_of channel status)) d
+    → written_after w p ≡ write channel Close [] (take (length b - n) (drop n b))
+    → written_after (Written.Bytes (n + 5)) (take n b ++ (p ++ drop (length b - n) (drop n b))) ≡ closed channel status d
 unfolding closed ending
-close-laid channel status d b n w p room m e h =
-    let q : List ℕ = requestOf channel status in
-    let c : List ℕ = bytesOf channel Close [] in
+close_laid channel status d b n w p room m e h =
+    let q : List ℕ = request_of channel status in
+    let c : List ℕ = bytes_of channel Close [] in
     let t : List ℕ = drop (length q) d in
     let front : take n b ≡ q = ap (take n) e ∙ take_at q t n (sym m.0) in
     let rest : drop n b ≡ t = ap (drop n) e ∙ drop_at q t n (sym m.0) in
@@ -33,11 +33,11 @@ close-laid channel status d b n w p room m e h =
     let part : take (length b - n) (drop n b) ≡ t = rw (size, rest) (take_all (length t) t (omega arith)) in
     let none : drop (length b - n) (drop n b) ≡ [] = rw (size, rest) (drop-length t) in
     let long : 5 ≤ length t = simp length-drop (omega (arith, m.0, m.1)) in
-    let done : p ≡ c ++ drop 5 t = ap (λ (x : WrittenAfter). x.buffer) (h ∙ ap (write channel Close []) part ∙ close-written channel t long) in
-    let whole : n + 5 ≡ length (ending channel status) = ap (λ (k : ℕ). k + 5) m.0 ∙ ending-length channel status in
+    let done : p ≡ c ++ drop 5 t = ap (λ (x : WrittenAfter). x.buffer) (h ∙ ap (write channel Close []) part ∙ close_written channel t long) in
+    let whole : n + 5 ≡ length (ending channel status) = ap (λ (k : ℕ). k + 5) m.0 ∙ ending_length channel status in
     let all : take n b ++ (p ++ drop (length b - n) (drop n b)) ≡ ending channel status ++ drop (length (ending channel status)) d =
     rw (front, none, done)
     (ap (λ (x : List ℕ). q ++ x) (append-nil (c ++ drop 5 t))
     ∙ sym (append_assoc q c (drop 5 t))
-    ∙ ap (λ (x : List ℕ). (q ++ c) ++ x) (drop-drop 5 (length q) d ∙ ap (λ (k : ℕ). drop k d) (ending-length channel status))) in
+    ∙ ap (λ (x : List ℕ). (q ++ c) ++ x) (drop-drop 5 (length q) d ∙ ap (λ (k : ℕ). drop k d) (ending_length channel status))) in
     rw (whole, all) refl

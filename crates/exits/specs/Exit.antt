@@ -4,14 +4,14 @@ use Rattle.exec.specs.declared.MaybeStatus.{MaybeStatus}
 use Rattle.exec.specs.declared.Refusal.TheVariants.{BadLength, UnknownKind, OtherChannel, BufferShort, UntoldStatus, BadRequest}
 use Rattle.exec.specs.declared.Status.{Status}
 use Rattle.exec.specs.declared.Status.TheVariants.{Exited, Signaled}
-use Rattle.octets.specs.Bytes.{be32, numberAt}
+use Rattle.octets.specs.Bytes.{be32, number_at}
 use Rattle.octets.specs.Text.{bytes, same}
 use Rattle.codec.specs.declared.Record.TheVariants.{Close}
 use Rattle.codec.specs.declared.Written.TheVariants as Written
-use Rattle.codec.specs.Codec.{bytesOf, WrittenAfter, writtenAfter}
+use Rattle.codec.specs.Codec.{bytes_of, WrittenAfter, written_after}
 use Rattle.exits.specs.declared.Told.{Told}
 use Rattle.exits.specs.declared.signals.Signal.{Signal}
-use Rattle.exits.specs.Signals.{nameOf, signalNamed, signalFor}
+use Rattle.exits.specs.Signals.{name_of, signal_named, signal_for}
 
 -- ---- the request of a status
 
@@ -25,70 +25,70 @@ head channel name = 98 ∷ be32 channel ++ string name ++ 0 ∷ []
 
 -- behind it a signal's name, a false byte (no core was dumped), no error message and no language
 abbrev pub named : (channel : ℕ) → Signal → List ℕ
-named channel x = head channel (bytes "exit-signal") ++ string (nameOf x) ++ (0 ∷ string [] ++ string [])
+named channel x = head channel (bytes "exit-signal") ++ string (name_of x) ++ (0 ∷ string [] ++ string [])
 
 -- or the code
 unfoldable pub request : (channel : ℕ) → Status → List ℕ
 request channel (Exited (pos code)) = head channel (bytes "exit-status") ++ be32 code
 request channel (Exited (negsuc n)) = []
-request channel (Signaled n) = named channel (signalFor n)
+request channel (Signaled n) = named channel (signal_for n)
 
 -- a request tells a code from 0 to 2^31 − 1, and a signal of the table
-unfoldable pub isTold : Status → Bool
-isTold (Exited (pos code)) = ltb code (2 ^ 31)
-isTold (Exited (negsuc n)) = false
-isTold (Signaled n) = ltb 0 (signalFor n).length
+unfoldable pub is_told : Status → Bool
+is_told (Exited (pos code)) = ltb code (2 ^ 31)
+is_told (Exited (negsuc n)) = false
+is_told (Signaled n) = ltb 0 (signal_for n).length
 
 -- ---- the end of a channel
 
 -- a missing status has no request, and none is left untold
-abbrev pub requestOf : (channel : ℕ) → MaybeStatus → List ℕ
-requestOf channel MaybeStatus.None = []
-requestOf channel (MaybeStatus.Some status) = request channel status
+abbrev pub request_of : (channel : ℕ) → MaybeStatus → List ℕ
+request_of channel MaybeStatus.None = []
+request_of channel (MaybeStatus.Some status) = request channel status
 
-unfoldable pub isUntold : MaybeStatus → Bool
-isUntold MaybeStatus.None = false
-isUntold (MaybeStatus.Some status) = not (isTold status)
+unfoldable pub is_untold : MaybeStatus → Bool
+is_untold MaybeStatus.None = false
+is_untold (MaybeStatus.Some status) = not (is_told status)
 
 -- the request, and CLOSE directly behind it
 unfoldable pub ending : (channel : ℕ) → MaybeStatus → List ℕ
-ending channel status = requestOf channel status ++ bytesOf channel Close []
+ending channel status = request_of channel status ++ bytes_of channel Close []
 
 -- both at the buffer's start, and nothing else is written
 unfoldable pub closed : (channel : ℕ) → MaybeStatus → List ℕ → WrittenAfter
 closed channel status buffer =
-    writtenAfter (Written.Bytes (length (ending channel status))) (ending channel status ++ drop (length (ending channel status)) buffer)
+    written_after (Written.Bytes (length (ending channel status))) (ending channel status ++ drop (length (ending channel status)) buffer)
 
 -- 25 asks for the longest, 43 bytes; then 40
 unfoldable pub close : (channel : ℕ) → MaybeStatus → List ℕ → WrittenAfter
 close channel status buffer =
     cond (leb 43 (length buffer))
-    (cond (isUntold status)
-    (writtenAfter (Written.Refused UntoldStatus) buffer)
+    (cond (is_untold status)
+    (written_after (Written.Refused UntoldStatus) buffer)
     (closed channel status buffer))
-    (writtenAfter (Written.Refused BufferShort) buffer)
+    (written_after (Written.Refused BufferShort) buffer)
 
 -- ---- reading a request: 20 (empty), 21, 22 (which fewer than 5 bytes skip), 41
 
 -- a signal's name would stand between byte 25 and the last 9
-abbrev pub nameIn : List ℕ → List ℕ
-nameIn s = take (length s - 34) (drop 25 s)
+abbrev pub name_in : List ℕ → List ℕ
+name_in s = take (length s - 34) (drop 25 s)
 
 -- the only status that bytes can tell, by their length
 unfoldable pub guess : List ℕ → Status
-guess s = cond (eqb (length s) 25) (Exited (pos (numberAt s 21))) (Signaled (pos (signalNamed (nameIn s)).number))
+guess s = cond (eqb (length s) 25) (Exited (pos (number_at s 21))) (Signaled (pos (signal_named (name_in s)).number))
 
 -- bytes tell a status where they are its request, and no others
 unfoldable pub matching : (channel : ℕ) → List ℕ → Status → Told
-matching channel s status = cond (isTold status && same (request channel status) s) (Told.Status status) (Told.Refused BadRequest)
+matching channel s status = cond (is_told status && same (request channel status) s) (Told.Status status) (Told.Refused BadRequest)
 
 -- bytes are for the channel, as far as they name one
-abbrev pub isMine : (channel : ℕ) → List ℕ → Bool
-isMine channel s = ltb (length s) 5 || eqb (numberAt s 1) channel
+abbrev pub is_mine : (channel : ℕ) → List ℕ → Bool
+is_mine channel s = ltb (length s) 5 || eqb (number_at s 1) channel
 
 unfoldable pub read : (channel : ℕ) → List ℕ → Told
 read channel s =
     cond (eqb (length s) 0) (Told.Refused BadLength)
     (cond (eqb (get_or s 0 0) 98)
-    (cond (isMine channel s) (matching channel s (guess s)) (Told.Refused OtherChannel))
+    (cond (is_mine channel s) (matching channel s (guess s)) (Told.Refused OtherChannel))
     (Told.Refused UnknownKind))

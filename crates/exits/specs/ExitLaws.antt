@@ -6,25 +6,25 @@ use Rattle.exec.specs.declared.Status.{Status}
 use Rattle.exec.specs.declared.Status.TheVariants.{Exited, Signaled}
 use Rattle.octets.specs.Text.{bytes}
 use Rattle.codec.specs.declared.Record.TheVariants.{Close}
-use Rattle.codec.specs.Codec.{bytesOf, header}
-use Rattle.exits.specs.Signals.{signalFor}
-use Rattle.exits.specs.SignalLaws.{signal-fit}
-use Rattle.exits.specs.Exit.{request, requestOf, ending}
+use Rattle.codec.specs.Codec.{bytes_of, header}
+use Rattle.exits.specs.Signals.{signal_for}
+use Rattle.exits.specs.SignalLaws.{signal_fit}
+use Rattle.exits.specs.Exit.{request, request_of, ending}
 
 -- an ending has 5 bytes more than its request
-pub ending-length : (channel : ℕ) (status : MaybeStatus) → length (requestOf channel status) + 5 ≡ length (ending channel status)
-unfolding ending bytesOf header
-ending-length channel status = sym (length-append (requestOf channel status) (bytesOf channel Close []))
+pub ending_length : (channel : ℕ) (status : MaybeStatus) → length (request_of channel status) + 5 ≡ length (ending channel status)
+unfolding ending bytes_of header
+ending_length channel status = sym (length-append (request_of channel status) (bytes_of channel Close []))
 
 -- and at most 43
-request-bound : (channel : ℕ) (status : Status) → length (request channel status) ≤ 38
+request_bound : (channel : ℕ) (status : Status) → length (request channel status) ≤ 38
 unfolding request bytes
-request-bound channel (Exited (pos code)) = omega arith
-request-bound channel (Exited (negsuc n)) = omega arith
-request-bound channel (Signaled n) =
-    let fit = signal-fit n in
-    simp length-append (omega (arith, length-take-le (signalFor n).length (signalFor n).name (omega (arith, fit.0, fit.1)), fit.0))
+request_bound channel (Exited (pos code)) = omega arith
+request_bound channel (Exited (negsuc n)) = omega arith
+request_bound channel (Signaled n) =
+    let fit = signal_fit n in
+    simp length-append (omega (arith, length-take-le (signal_for n).length (signal_for n).name (omega (arith, fit.0, fit.1)), fit.0))
 
-pub ending-bound : (channel : ℕ) (status : MaybeStatus) → length (ending channel status) ≤ 43
-ending-bound channel MaybeStatus.None = omega (arith, ending-length channel MaybeStatus.None)
-ending-bound channel (MaybeStatus.Some status) = omega (arith, ending-length channel (MaybeStatus.Some status), request-bound channel status)
+pub ending_bound : (channel : ℕ) (status : MaybeStatus) → length (ending channel status) ≤ 43
+ending_bound channel MaybeStatus.None = omega (arith, ending_length channel MaybeStatus.None)
+ending_bound channel (MaybeStatus.Some status) = omega (arith, ending_length channel (MaybeStatus.Some status), request_bound channel status)

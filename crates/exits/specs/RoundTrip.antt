@@ -9,25 +9,25 @@ use Rattle.exec.specs.declared.Refusal.{Refusal}
 use Rattle.exec.specs.declared.Status.{Status}
 use Rattle.exec.specs.declared.Status.TheVariants.{Exited, Signaled}
 use Rattle.ring.specs.Flags.{and_l, and_r}
-use Rattle.octets.specs.Bytes.{be32, numberAt}
-use Rattle.octets.specs.BytesLaws.{number-written}
-use Rattle.octets.specs.Text.{bytes, same, same_refl, same-is}
+use Rattle.octets.specs.Bytes.{be32, number_at}
+use Rattle.octets.specs.BytesLaws.{number_written}
+use Rattle.octets.specs.Text.{bytes, same, same_refl, same_is}
 use Rattle.codec.specs.declared.Parsed.TheVariants as Parsed
 use Rattle.codec.specs.declared.Record.TheVariants.{Close}
 use Rattle.codec.specs.Codec as Codec
-use Rattle.codec.specs.Codec.{bytesOf, header}
+use Rattle.codec.specs.Codec.{bytes_of, header}
 use Rattle.codec.specs.RoundTrip as Records
 use Rattle.exits.specs.declared.Told.{Told}
 use Rattle.exits.specs.declared.signals.Signal.{Signal}
-use Rattle.exits.specs.Signals.{nameOf, signalOf, signalFor, signalNamed}
-use Rattle.exits.specs.SignalLaws.{name-number}
-use Rattle.exits.specs.ExitLaws.{ending-length}
-use Rattle.exits.specs.Exit.{string, head, named, request, isTold, isUntold, requestOf, ending, nameIn, guess, matching, isMine, read}
+use Rattle.exits.specs.Signals.{name_of, signal_of, signal_for, signal_named}
+use Rattle.exits.specs.SignalLaws.{name_number}
+use Rattle.exits.specs.ExitLaws.{ending_length}
+use Rattle.exits.specs.Exit.{string, head, named, request, is_told, is_untold, request_of, ending, name_in, guess, matching, is_mine, read}
 
 -- ---- read, then written
 
-told-only : (x y : Status) → Told.Status x ≡ Told.Status y → x ≡ y
-told-only x y h = cc
+told_only : (x y : Status) → Told.Status x ≡ Told.Status y → x ≡ y
+told_only x y h = cc
 
 never : {P : Type 0} (x : Refusal) (y : Status) → Told.Refused x ≡ Told.Status y → P
 never x y h = let z : ◌≡◌ {A = ℕ} 0 1 = cc in absurd (omega arith)
@@ -38,16 +38,16 @@ pick P true x y status f g h = f refl h
 pick P false x y status f g h = g refl h
 
 -- WHAT IS READ AS A STATUS IS ITS REQUEST, and no other bytes are
-pub forth : (channel : ℕ) (s : List ℕ) (status : Status) → read channel s ≡ Told.Status status → (request channel status ≡ s) × (isTold status ≡ true)
+pub forth : (channel : ℕ) (s : List ℕ) (status : Status) → read channel s ≡ Told.Status status → (request channel status ≡ s) × (is_told status ≡ true)
 unfolding read matching
 forth channel s status =
-    let P = (request channel status ≡ s) × (isTold status ≡ true) in
+    let P = (request channel status ≡ s) × (is_told status ≡ true) in
     pick P (eqb (length s) 0) _ _ status (λ _. never _ status)
     (λ _. pick P (eqb (get_or s 0 0) 98) _ _ status
-    (λ _. pick P (isMine channel s) _ _ status
-    (λ _. pick P (isTold (guess s) && same (request channel (guess s)) s) _ _ status
-    (λ t h. (let g : guess s ≡ status = told-only (guess s) status h in
-    rw (← g) (same-is (request channel (guess s)) s (and_r (isTold (guess s)) (same (request channel (guess s)) s) t), and_l (isTold (guess s)) (same (request channel (guess s)) s) t)))
+    (λ _. pick P (is_mine channel s) _ _ status
+    (λ _. pick P (is_told (guess s) && same (request channel (guess s)) s) _ _ status
+    (λ t h. (let g : guess s ≡ status = told_only (guess s) status h in
+    rw (← g) (same_is (request channel (guess s)) s (and_r (is_told (guess s)) (same (request channel (guess s)) s) t), and_l (is_told (guess s)) (same (request channel (guess s)) s) t)))
     (λ _. never _ status))
     (λ _. never _ status))
     (λ _. never _ status))
@@ -58,50 +58,50 @@ forth channel s status =
 coded : (channel code : ℕ) → code < 2 ^ 32 → guess (request channel (Exited (pos code))) ≡ Exited (pos code)
 unfolding guess request bytes
 coded channel code h =
-    ap (λ (n : ℕ). Exited (pos n)) (number-written (head channel (bytes "exit-status")) [] code h)
+    ap (λ (n : ℕ). Exited (pos n)) (number_written (head channel (bytes "exit-status")) [] code h)
 
 -- the name stands between byte 25 and the last 9
-name_back : (channel : ℕ) (x : Signal) → nameIn (named channel x) ≡ nameOf x
+name_back : (channel : ℕ) (x : Signal) → name_in (named channel x) ≡ name_of x
 unfolding bytes
 name_back channel x =
-    let k : length (named channel x) - 34 ≡ length (nameOf x) = simp length-append (omega arith) in
-    ap (λ (n : ℕ). take n (nameOf x ++ (0 ∷ string [] ++ string []))) k ∙ take_at (nameOf x) (0 ∷ string [] ++ string []) (length (nameOf x)) refl
+    let k : length (named channel x) - 34 ≡ length (name_of x) = simp length-append (omega arith) in
+    ap (λ (n : ℕ). take n (name_of x ++ (0 ∷ string [] ++ string []))) k ∙ take_at (name_of x) (0 ∷ string [] ++ string []) (length (name_of x)) refl
 
 longer : (channel : ℕ) (x : Signal) → eqb (length (named channel x)) 25 ≡ false
 unfolding bytes
 longer channel x =
-    let l : length (named channel x) ≡ 34 + length (nameOf x) = simp length-append (omega arith) in
+    let l : length (named channel x) ≡ 34 + length (name_of x) = simp length-append (omega arith) in
     ne_eqb (length (named channel x)) 25 (λ (e : length (named channel x) ≡ 25). omega (arith, l, e))
 
-signalled : (channel n : ℕ) → ltb 0 (signalOf n).length ≡ true → guess (request channel (Signaled (pos n))) ≡ Signaled (pos n)
-unfolding guess request signalFor
+signalled : (channel n : ℕ) → ltb 0 (signal_of n).length ≡ true → guess (request channel (Signaled (pos n))) ≡ Signaled (pos n)
+unfolding guess request signal_for
 signalled channel n h =
-    let x : Signal = signalOf n in
-    rw (longer channel x) (ap (λ (m : ℕ). Signaled (pos m)) (ap (λ (s : List ℕ). (signalNamed s).number) (name_back channel x) ∙ name-number n h))
+    let x : Signal = signal_of n in
+    rw (longer channel x) (ap (λ (m : ℕ). Signaled (pos m)) (ap (λ (s : List ℕ). (signal_named s).number) (name_back channel x) ∙ name_number n h))
 
-guessed : (channel : ℕ) (status : Status) → isTold status ≡ true → guess (request channel status) ≡ status
-unfolding isTold signalFor
+guessed : (channel : ℕ) (status : Status) → is_told status ≡ true → guess (request channel status) ≡ status
+unfolding is_told signal_for
 guessed channel (Exited (pos code)) t = let h = ltb-true code (2 ^ 31) t in coded channel code (omega arith)
 guessed channel (Exited (negsuc n)) t = absurd (false≢true t)
 guessed channel (Signaled (pos n)) t = signalled channel n t
 guessed channel (Signaled (negsuc n)) t = absurd (false≢true t)
 
 -- what every request of a status that is told begins with
-front : (channel : ℕ) (status : Status) → isTold status ≡ true → (rest : List ℕ) × (request channel status ≡ 98 ∷ (be32 channel ++ rest))
-unfolding isTold request
+front : (channel : ℕ) (status : Status) → is_told status ≡ true → (rest : List ℕ) × (request channel status ≡ 98 ∷ (be32 channel ++ rest))
+unfolding is_told request
 front channel (Exited (pos code)) t = (_, refl)
 front channel (Exited (negsuc n)) t = absurd (false≢true t)
 front channel (Signaled n) t = (_, refl)
 
 -- THE REQUEST OF A STATUS THAT IS TOLD IS READ AS IT
-pub back : (channel : ℕ) (status : Status) → channel < 2 ^ 32 → isTold status ≡ true → read channel (request channel status) ≡ Told.Status status
+pub back : (channel : ℕ) (status : Status) → channel < 2 ^ 32 → is_told status ≡ true → read channel (request channel status) ≡ Told.Status status
 unfolding read matching
 back channel status h t =
     let f = front channel status t in
     let l : length (request channel status) ≡ length (98 ∷ (be32 channel ++ f.0)) = ap length f.1 in
     let some : eqb (length (request channel status)) 0 ≡ false = ne_eqb (length (request channel status)) 0 (omega (arith, l)) in
     let kind : eqb (get_or (request channel status) 0 0) 98 ≡ true = rw f.1 refl in
-    let mine : eqb (numberAt (request channel status) 1) channel ≡ true = rw f.1 (eq-eqb (numberAt (98 ∷ (be32 channel ++ f.0)) 1) channel (number-written (98 ∷ []) f.0 channel h)) in
+    let mine : eqb (number_at (request channel status) 1) channel ≡ true = rw f.1 (eq-eqb (number_at (98 ∷ (be32 channel ++ f.0)) 1) channel (number_written (98 ∷ []) f.0 channel h)) in
     rw (some, kind, mine, or-true, guessed channel status t, t, same_refl (request channel status)) refl
 
 -- ---- an ending, cut where its last 5 bytes begin
@@ -111,31 +111,31 @@ abbrev pub Tells : (channel : ℕ) → MaybeStatus → List ℕ → Type 0
 Tells channel MaybeStatus.None s = s ≡ []
 Tells channel (MaybeStatus.Some status) s = read channel s ≡ Told.Status status
 
-tells : (channel : ℕ) (status : MaybeStatus) → channel < 2 ^ 32 → isUntold status ≡ false → Tells channel status (requestOf channel status)
-unfolding isUntold
+tells : (channel : ℕ) (status : MaybeStatus) → channel < 2 ^ 32 → is_untold status ≡ false → Tells channel status (request_of channel status)
+unfolding is_untold
 tells channel MaybeStatus.None h t = refl
-tells channel (MaybeStatus.Some status) h t = back channel status h (not-false (isTold status) t)
+tells channel (MaybeStatus.Some status) h t = back channel status h (not-false (is_told status) t)
 
-close-reads : (channel : ℕ) → channel < 2 ^ 32 → Codec.read channel (bytesOf channel Close []) ≡ Parsed.Read Close
-close-reads channel h = Records.back channel Close [] h (omega arith) refl
+close_reads : (channel : ℕ) → channel < 2 ^ 32 → Codec.read channel (bytes_of channel Close []) ≡ Parsed.Read Close
+close_reads channel h = Records.back channel Close [] h (omega arith) refl
 
-five : (channel : ℕ) (rest : List ℕ) → take 5 (bytesOf channel Close [] ++ rest) ≡ bytesOf channel Close []
-unfolding bytesOf header
+five : (channel : ℕ) (rest : List ℕ) → take 5 (bytes_of channel Close [] ++ rest) ≡ bytes_of channel Close []
+unfolding bytes_of header
 five channel rest = refl
 
-joined : (channel : ℕ) (status : MaybeStatus) (rest : List ℕ) → ending channel status ++ rest ≡ requestOf channel status ++ (bytesOf channel Close [] ++ rest)
+joined : (channel : ℕ) (status : MaybeStatus) (rest : List ℕ) → ending channel status ++ rest ≡ request_of channel status ++ (bytes_of channel Close [] ++ rest)
 unfolding ending
-joined channel status rest = append_assoc (requestOf channel status) (bytesOf channel Close []) rest
+joined channel status rest = append_assoc (request_of channel status) (bytes_of channel Close []) rest
 
 -- AN ENDING IS READ AS WHAT WAS WRITTEN, whatever stands behind it in the buffer
-pub ended-reads : (channel : ℕ) (status : MaybeStatus) (rest : List ℕ) → channel < 2 ^ 32 → isUntold status ≡ false
+pub ended_reads : (channel : ℕ) (status : MaybeStatus) (rest : List ℕ) → channel < 2 ^ 32 → is_untold status ≡ false
     → Tells channel status (take (length (ending channel status) - 5) (ending channel status ++ rest))
     × (Codec.read channel (take 5 (drop (length (ending channel status) - 5) (ending channel status ++ rest))) ≡ Parsed.Read Close)
-ended-reads channel status rest h t =
-    let q : List ℕ = requestOf channel status in
-    let c : List ℕ = bytesOf channel Close [] in
-    let cut : length (ending channel status) - 5 ≡ length q = omega (arith, ending-length channel status) in
+ended_reads channel status rest h t =
+    let q : List ℕ = request_of channel status in
+    let c : List ℕ = bytes_of channel Close [] in
+    let cut : length (ending channel status) - 5 ≡ length q = omega (arith, ending_length channel status) in
     let all : ending channel status ++ rest ≡ q ++ (c ++ rest) = joined channel status rest in (
       subst⁻¹ (Tells channel status) (rw (cut, all) (take_at q (c ++ rest) (length q) refl)) (tells channel status h t),
-      rw (cut, all, drop_at q (c ++ rest) (length q) refl, five channel rest) (close-reads channel h),
+      rw (cut, all, drop_at q (c ++ rest) (length q) refl, five channel rest) (close_reads channel h),
     )

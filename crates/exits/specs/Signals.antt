@@ -13,8 +13,8 @@ signals =
     signal 1 "HUP" ∷ signal 2 "INT" ∷ signal 3 "QUIT" ∷ signal 4 "ILL" ∷ signal 6 "ABRT" ∷ signal 8 "FPE" ∷ signal 9 "KILL"
     ∷ signal 10 "USR1" ∷ signal 11 "SEGV" ∷ signal 12 "USR2" ∷ signal 13 "PIPE" ∷ signal 14 "ALRM" ∷ signal 15 "TERM" ∷ []
 
-abbrev pub nameOf : Signal → List ℕ
-nameOf x = take x.length x.name
+abbrev pub name_of : Signal → List ℕ
+name_of x = take x.length x.name
 
 -- no signal of the table: it has no name
 abbrev pub nobody : Signal
@@ -25,20 +25,20 @@ unfoldable pub find : (Signal → Bool) → List Signal → Signal
 find P [] = nobody
 find P (x ∷ xs) = cond (P x) x (find P xs)
 
-abbrev pub isNumber : ℕ → Signal → Bool
-isNumber n x = eqb x.number n
+abbrev pub is_number : ℕ → Signal → Bool
+is_number n x = eqb x.number n
 
-abbrev pub isNamed : (name : List ℕ) → Signal → Bool
-isNamed name x = same (nameOf x) name
+abbrev pub is_named : (name : List ℕ) → Signal → Bool
+is_named name x = same (name_of x) name
 
 -- the signal of a number, and of a name
-unfoldable pub signalOf : ℕ → Signal
-signalOf n = find (isNumber n) signals
+unfoldable pub signal_of : ℕ → Signal
+signal_of n = find (is_number n) signals
 
-unfoldable pub signalNamed : (name : List ℕ) → Signal
-signalNamed name = find (isNamed name) signals
+unfoldable pub signal_named : (name : List ℕ) → Signal
+signal_named name = find (is_named name) signals
 
 -- of an i32: a negative number is no signal's
-unfoldable pub signalFor : ℤ → Signal
-signalFor (pos n) = signalOf n
-signalFor (negsuc n) = nobody
+unfoldable pub signal_for : ℤ → Signal
+signal_for (pos n) = signal_of n
+signal_for (negsuc n) = nobody

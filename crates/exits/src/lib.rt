@@ -3,26 +3,26 @@
 
 ghost use Rattle.std.specs.Prelude.{true, false, ◌≡◌, [], ◌∷◌, ◌++◌, ◌+◌, ◌≤◌, length, drop, pos};
 ghost use Rattle.exec.specs.declared.Status.TheVariants.{Exited, Signaled};
-ghost use Rattle.octets.specs.Bytes.{be32, numberAt};
+ghost use Rattle.octets.specs.Bytes.{be32, number_at};
 ghost use Rattle.octets.specs.Text.{bytes, same};
 ghost use Rattle.ring.specs.Runs.{copied};
-ghost use Rattle.codec.specs.Codec.{writtenAfter};
-ghost use Rattle.exits.specs.Signals.{nameOf, signalNamed};
+ghost use Rattle.codec.specs.Codec.{written_after};
+ghost use Rattle.exits.specs.Signals.{name_of, signal_named};
 ghost use Rattle.exits.specs.SignalLaws.{Fit};
 ghost use Rattle.exits.specs.Exit.{
   string,
   head,
   named,
   request,
-  isTold,
-  isUntold,
-  requestOf,
+  is_told,
+  is_untold,
+  request_of,
   closed,
   close,
-  nameIn,
+  name_in,
   guess,
   matching,
-  isMine,
+  is_mine,
   read,
 };
 
@@ -43,7 +43,7 @@ pub enum Told {
 // ---- what a request tells
 
 fn is_told(status: Status) -> bool
-    ensures { result ≡ isTold status }
+    ensures { result ≡ is_told status }
 {
     match status {
         Status::Exited(code) => is_code(code),
@@ -51,9 +51,9 @@ fn is_told(status: Status) -> bool
     }
 }
 
-#[tactic(auto, unfolding(crate::specs::Exit::isTold))]
+#[tactic(auto, unfolding(crate::specs::Exit::is_told))]
 fn is_code(code: i32) -> bool
-    ensures { result ≡ isTold (Exited code) }
+    ensures { result ≡ is_told (Exited code) }
 {
     if code < 0 {
         return false;
@@ -61,18 +61,18 @@ fn is_code(code: i32) -> bool
     true
 }
 
-#[tactic(auto, unfolding(crate::specs::Exit::isTold))]
+#[tactic(auto, unfolding(crate::specs::Exit::is_told))]
 fn is_signal(number: i32) -> bool
-    ensures { result ≡ isTold (Signaled number) }
+    ensures { result ≡ is_told (Signaled number) }
 {
     let signal = signals::signal_for(number);
     0 < signal.length
 }
 
 // Whether a status is there that no request tells: a negative code, or a signal that has no name.
-#[tactic(auto, unfolding(crate::specs::Exit::isUntold))]
+#[tactic(auto, unfolding(crate::specs::Exit::is_untold))]
 pub fn is_untold(status: MaybeStatus) -> bool
-    ensures { result ≡ isUntold status }
+    ensures { result ≡ is_untold status }
 {
     match status {
         MaybeStatus::None => false,
@@ -105,7 +105,7 @@ fn put_code(buffer: &mut [u8], channel: u32, code: u32)
 // The head, the length of the signal's name, and the name.
 fn put_name(buffer: &mut [u8], channel: u32, signal: Signal)
     requires { Fit signal × (29 ≤ length buffer.old) }
-    ensures { buffer.new ≡ (head channel (bytes "exit-signal") ++ string (nameOf signal)) ++ drop (25 + signal.length) buffer.old }
+    ensures { buffer.new ≡ (head channel (bytes "exit-signal") ++ string (name_of signal)) ++ drop (25 + signal.length) buffer.old }
 {
     let n = signal.length;
     let name = signal.name;
@@ -134,7 +134,7 @@ fn put_signal(buffer: &mut [u8], channel: u32, signal: Signal)
 
 // Writes the request of a status at the buffer's start, and returns its length.
 fn put_request(buffer: &mut [u8], channel: u32, status: Status) -> usize
-    requires { (isTold status ≡ true) × (38 ≤ length buffer.old) }
+    requires { (is_told status ≡ true) × (38 ≤ length buffer.old) }
     ensures value { (result ≡ length (request channel status)) × (result ≤ 38) }
     ensures buffer_after { buffer.new ≡ request channel status ++ drop (length (request channel status)) buffer.old }
 {
@@ -152,9 +152,9 @@ fn put_request(buffer: &mut [u8], channel: u32, status: Status) -> usize
 }
 
 fn put_maybe(buffer: &mut [u8], channel: u32, status: MaybeStatus) -> usize
-    requires { (isUntold status ≡ false) × (38 ≤ length buffer.old) }
-    ensures value { (result ≡ length (requestOf channel status)) × (result ≤ 38) }
-    ensures buffer_after { buffer.new ≡ requestOf channel status ++ drop (length (requestOf channel status)) buffer.old }
+    requires { (is_untold status ≡ false) × (38 ≤ length buffer.old) }
+    ensures value { (result ≡ length (request_of channel status)) × (result ≤ 38) }
+    ensures buffer_after { buffer.new ≡ request_of channel status ++ drop (length (request_of channel status)) buffer.old }
 {
     match status {
         MaybeStatus::None => 0,
@@ -163,8 +163,8 @@ fn put_maybe(buffer: &mut [u8], channel: u32, status: MaybeStatus) -> usize
 }
 
 fn close_in(channel: u32, status: MaybeStatus, buffer: &mut [u8]) -> Written
-    requires { (isUntold status ≡ false) × (43 ≤ length buffer.old) }
-    ensures { writtenAfter result buffer.new ≡ closed channel status buffer.old }
+    requires { (is_untold status ≡ false) × (43 ≤ length buffer.old) }
+    ensures { written_after result buffer.new ≡ closed channel status buffer.old }
 {
     let n = put_maybe(buffer, channel, status);
     let end = buffer.len();
@@ -176,7 +176,7 @@ fn close_in(channel: u32, status: MaybeStatus, buffer: &mut [u8]) -> Written
 // has 5 bytes less than what is written. A buffer of 43 bytes takes every ending.
 #[tactic(auto, unfolding(crate::specs::Exit::close))]
 pub fn close(channel: u32, status: MaybeStatus, buffer: &mut [u8]) -> Written
-    ensures { writtenAfter result buffer.new ≡ close channel status buffer.old }
+    ensures { written_after result buffer.new ≡ close channel status buffer.old }
 {
     if buffer.len() < 43 {
         return Written::Refused(Refusal::BufferShort);
@@ -191,7 +191,7 @@ pub fn close(channel: u32, status: MaybeStatus, buffer: &mut [u8]) -> Written
 
 // Whether bytes are the request of a status: it is written anew and compared.
 fn is_request(bytes: &[u8], channel: u32, status: Status) -> bool
-    requires { isTold status ≡ true }
+    requires { is_told status ≡ true }
     ensures { result ≡ same (request channel status) bytes.now }
 {
     let mut own = [0u8; 38];
@@ -201,7 +201,7 @@ fn is_request(bytes: &[u8], channel: u32, status: Status) -> bool
 
 #[tactic(auto, unfolding(crate::specs::Exit::matching))]
 fn matching(bytes: &[u8], channel: u32, status: Status) -> Told
-    requires { isTold status ≡ true }
+    requires { is_told status ≡ true }
     ensures { result ≡ matching channel bytes.now status }
 {
     if is_request(bytes, channel, status) {
@@ -212,7 +212,7 @@ fn matching(bytes: &[u8], channel: u32, status: Status) -> Told
 
 // What 25 bytes tell: no status holds a code of 2^31 or more.
 fn read_code(bytes: &[u8], channel: u32) -> Told
-    ensures { result ≡ matching channel bytes.now (Exited (pos (numberAt bytes.now 21))) }
+    ensures { result ≡ matching channel bytes.now (Exited (pos (number_at bytes.now 21))) }
 {
     let code = octets::number_at(bytes, 21);
     if code < 2147483648 {
@@ -223,7 +223,7 @@ fn read_code(bytes: &[u8], channel: u32) -> Told
 
 // What a request tells whose name is given.
 fn read_named(bytes: &[u8], channel: u32, name: &[u8]) -> Told
-    ensures { result ≡ matching channel bytes.now (Signaled (pos (signalNamed name.now).number)) }
+    ensures { result ≡ matching channel bytes.now (Signaled (pos (signal_named name.now).number)) }
 {
     let signal = signals::signal_named(name);
     if 0 < signal.length {
@@ -233,7 +233,7 @@ fn read_named(bytes: &[u8], channel: u32, name: &[u8]) -> Told
 }
 
 fn read_signal(bytes: &[u8], channel: u32) -> Told
-    ensures { result ≡ matching channel bytes.now (Signaled (pos (signalNamed (nameIn bytes.now)).number)) }
+    ensures { result ≡ matching channel bytes.now (Signaled (pos (signal_named (name_in bytes.now)).number)) }
 {
     let n = bytes.len();
     if n < 34 {
@@ -255,7 +255,7 @@ fn read_form(bytes: &[u8], channel: u32) -> Told
 
 // Whether bytes are for the channel, as far as they name one.
 fn is_mine(bytes: &[u8], channel: u32) -> bool
-    ensures { result ≡ isMine channel bytes.now }
+    ensures { result ≡ is_mine channel bytes.now }
 {
     (bytes.len() < 5) | (octets::number_at(bytes, 1) == channel)
 }

@@ -1,6 +1,6 @@
 // The table of signals, and what is found in it.
 ghost use Rattle.std.specs.Prelude.{◌≡◌, ◌<◌, get_or};
-ghost use Rattle.exits.specs.Signals.{signals, nobody, isNamed, signalOf, signalNamed, signalFor};
+ghost use Rattle.exits.specs.Signals.{signals, nobody, is_named, signal_of, signal_named, signal_for};
 ghost use Rattle.exits.specs.SignalLaws.{Fit};
 
 // A signal by Linux's number: the first `length` bytes of `name` are its name in RFC 4254, 6.10.
@@ -97,9 +97,9 @@ fn signal_at(i: usize) -> Signal
     SIGNALS[i]
 }
 
-#[tactic(auto, unfolding(crate::specs::Signals::signalOf, crate::specs::Signals::find))]
+#[tactic(auto, unfolding(crate::specs::Signals::signal_of, crate::specs::Signals::find))]
 fn signal_of(number: u32) -> Signal
-    ensures { result ≡ signalOf number }
+    ensures { result ≡ signal_of number }
 {
     let mut i = 0;
     while i < 13 {
@@ -113,9 +113,9 @@ fn signal_of(number: u32) -> Signal
 }
 
 // The signal of an i32: a negative number is no signal's.
-#[tactic(auto, unfolding(crate::specs::Signals::signalFor))]
+#[tactic(auto, unfolding(crate::specs::Signals::signal_for))]
 pub(crate) fn signal_for(number: i32) -> Signal
-    ensures { result ≡ signalFor number }
+    ensures { result ≡ signal_for number }
 {
     if number < 0 {
         return nobody();
@@ -126,7 +126,7 @@ pub(crate) fn signal_for(number: i32) -> Signal
 impl Signal {
     fn is_named(self, name: &[u8]) -> bool
         requires { Fit self }
-        ensures { result ≡ isNamed name.now self }
+        ensures { result ≡ is_named name.now self }
     {
         let own = self.name;
         let n = self.length;
@@ -134,9 +134,9 @@ impl Signal {
     }
 }
 
-#[tactic(auto, unfolding(crate::specs::Signals::signalNamed, crate::specs::Signals::find))]
+#[tactic(auto, unfolding(crate::specs::Signals::signal_named, crate::specs::Signals::find))]
 pub(crate) fn signal_named(name: &[u8]) -> Signal
-    ensures { result ≡ signalNamed name.now }
+    ensures { result ≡ signal_named name.now }
 {
     let mut i = 0;
     while i < 13 {

@@ -3,15 +3,15 @@ use mathlib.Core.Bool.{Bool, true, false, cond}
 use mathlib.Core.Path.{◌≡◌, refl}
 use mathlib.Core.Option.{Option, none, some}
 use Rattle.calls.specs.Call.{Call}
-use Rattle.syntax.specs.Lines.{lineCall}
-use Rattle.grammar.specs.Feed.{Running, Answered, isShort, answerOf, answered, later, tooLong}
-use Rattle.grammar.specs.ByLine.{nextBy, answerBy, LaterLine}
+use Rattle.syntax.specs.Lines.{line_call}
+use Rattle.grammar.specs.Feed.{Running, Answered, is_short, answer_of, answered, later, too_long}
+use Rattle.grammar.specs.ByLine.{next_by, answer_by, LaterLine}
 
-pub later-line : LaterLine
-unfolding answerOf answered tooLong later
-later-line s line = by (isShort line) (lineCall line)
+pub later_line : LaterLine
+unfolding answer_of answered too_long later
+later_line s line = by (is_short line) (line_call line)
   where
-    by : (b : Bool) (c : Option Call) → cond {A = Answered} b (later c s) (tooLong (Running s)) ≡ record { stage = Running (nextBy s (cond b c none)); answer = answerBy s (cond b c none) }
+    by : (b : Bool) (c : Option Call) → cond {A = Answered} b (later c s) (too_long (Running s)) ≡ record { stage = Running (next_by s (cond b c none)); answer = answer_by s (cond b c none) }
     by true none = refl
     by true (some c) = refl
     by false c = refl

@@ -5,21 +5,21 @@ use Rattle.std.proofs.Math.Option.{Option, none, some}
 use Rattle.calls.specs.Call as Call
 use Rattle.calls.specs.Call.{Call, Answer}
 use Rattle.account.specs.Step.{State, next, answer}
-use Rattle.syntax.specs.Lines.{lineCall}
-use Rattle.syntax.specs.Answers.{lineText}
-use Rattle.grammar.specs.Feed.{Stage, First, Running, Over, start, isShort, answerOf, feeds, ended, prints}
+use Rattle.syntax.specs.Lines.{line_call}
+use Rattle.syntax.specs.Answers.{line_text}
+use Rattle.grammar.specs.Feed.{Stage, First, Running, Over, start, is_short, answer_of, feeds, ended, prints}
 
 -- ---- the lines of a text
 
 -- a byte before them stands at the start of the first
-abbrev pub startWith : ℕ → (lines : List (List ℕ)) → List (List ℕ)
-startWith b [] = (b ∷ []) ∷ []
-startWith b (l ∷ ls) = (b ∷ l) ∷ ls
+abbrev pub start_with : ℕ → (lines : List (List ℕ)) → List (List ℕ)
+start_with b [] = (b ∷ []) ∷ []
+start_with b (l ∷ ls) = (b ∷ l) ∷ ls
 
 -- 0a ends a line, and so does the end of the text where a line has begun
-unfoldable pub linesIn : (text : List ℕ) → List (List ℕ)
-linesIn [] = []
-linesIn (b ∷ text) = cond (eqb b 10) ([] ∷ linesIn text) (startWith b (linesIn text))
+unfoldable pub lines_in : (text : List ℕ) → List (List ℕ)
+lines_in [] = []
+lines_in (b ∷ text) = cond (eqb b 10) ([] ∷ lines_in text) (start_with b (lines_in text))
 
 -- the text of lines, each with its 0a
 abbrev pub joined : (lines : List (List ℕ)) → List ℕ
@@ -42,34 +42,34 @@ NoEnds (l ∷ ls) = NoEnd l × NoEnds ls
 
 -- THE LINES OF A TEXT ARE THE TEXT, CUT AT EACH 0a
 pub record Cut (text : List ℕ) : Type 0 where
-  pub whole : joined (linesIn text) ≡ closed text
-  pub plain : NoEnds (linesIn text)
+  pub whole : joined (lines_in text) ≡ closed text
+  pub plain : NoEnds (lines_in text)
 
 -- ---- calls and answers
 
 -- the call that a line says, if any
-abbrev pub callSaid : (line : List ℕ) → Option Call
-callSaid line = cond (isShort line) (lineCall line) none
+abbrev pub call_said : (line : List ℕ) → Option Call
+call_said line = cond (is_short line) (line_call line) none
 
 -- what it leaves and is answered: a line that says no call is 30
-abbrev pub nextBy : State → Option Call → State
-nextBy s none = s
-nextBy s (some c) = next s c
+abbrev pub next_by : State → Option Call → State
+next_by s none = s
+next_by s (some c) = next s c
 
-abbrev pub answerBy : State → Option Call → Answer
-answerBy s none = Call.Refused 30
-answerBy s (some c) = answer s c
+abbrev pub answer_by : State → Option Call → Answer
+answer_by s none = Call.Refused 30
+answer_by s (some c) = answer s c
 
 -- ONCE A RUNNER IS OPEN A LINE MAKES THE CALL THAT IT SAYS, whatever was called before it and at whatever time
 abbrev pub LaterLine : Type 0
 LaterLine = (s : State) (line : List ℕ)
-    → answerOf (Running s) line ≡ record { stage = Running (nextBy s (callSaid line)); answer = answerBy s (callSaid line) }
+    → answer_of (Running s) line ≡ record { stage = Running (next_by s (call_said line)); answer = answer_by s (call_said line) }
 
 -- the call that it makes at a stage
-abbrev pub callIn : Stage → (line : List ℕ) → Option Call
-callIn First line = none
-callIn (Running s) line = callSaid line
-callIn Over line = none
+abbrev pub call_in : Stage → (line : List ℕ) → Option Call
+call_in First line = none
+call_in (Running s) line = call_said line
+call_in Over line = none
 
 -- a line that was answered
 pub record Line : Type 0 where
@@ -77,27 +77,27 @@ pub record Line : Type 0 where
   pub answer : Answer
 
 -- lines from a stage on, and the stage behind them
-abbrev pub linesFrom : Stage → (lines : List (List ℕ)) → List Line
-linesFrom x [] = []
-linesFrom x (l ∷ ls) = record { call = callIn x l; answer = (answerOf x l).answer } ∷ linesFrom (answerOf x l).stage ls
+abbrev pub lines_from : Stage → (lines : List (List ℕ)) → List Line
+lines_from x [] = []
+lines_from x (l ∷ ls) = record { call = call_in x l; answer = (answer_of x l).answer } ∷ lines_from (answer_of x l).stage ls
 
-abbrev pub stageAfter : Stage → (lines : List (List ℕ)) → Stage
-stageAfter x [] = x
-stageAfter x (l ∷ ls) = stageAfter (answerOf x l).stage ls
+abbrev pub stage_after : Stage → (lines : List (List ℕ)) → Stage
+stage_after x [] = x
+stage_after x (l ∷ ls) = stage_after (answer_of x l).stage ls
 
-abbrev pub answersOf : List Line → List Answer
-answersOf [] = []
-answersOf (l ∷ ls) = l.answer ∷ answersOf ls
+abbrev pub answers_of : List Line → List Answer
+answers_of [] = []
+answers_of (l ∷ ls) = l.answer ∷ answers_of ls
 
-abbrev pub answersFrom : Stage → (lines : List (List ℕ)) → List Answer
-answersFrom x ls = answersOf (linesFrom x ls)
+abbrev pub answers_from : Stage → (lines : List (List ℕ)) → List Answer
+answers_from x ls = answers_of (lines_from x ls)
 
 -- what is printed of answers, after the first n
-abbrev pub textFrom : (n : ℕ) → List Answer → List ℕ
-textFrom n [] = []
-textFrom n (a ∷ rest) = lineText (n + 1) a ++ textFrom (n + 1) rest
+abbrev pub text_from : (n : ℕ) → List Answer → List ℕ
+text_from n [] = []
+text_from n (a ∷ rest) = line_text (n + 1) a ++ text_from (n + 1) rest
 
 -- EVERY CARD IS ITS LINES: IT PRINTS WHAT THEY ARE ANSWERED, AND ENDS WHERE THEY LEAVE THE SESSION
 pub record ByLine (card : List ℕ) : Type 0 where
-  pub printed : prints card ≡ textFrom 0 (answersFrom First (linesIn card))
-  pub stage : (ended (feeds start card).session).stage ≡ stageAfter First (linesIn card)
+  pub printed : prints card ≡ text_from 0 (answers_from First (lines_in card))
+  pub stage : (ended (feeds start card).session).stage ≡ stage_after First (lines_in card)

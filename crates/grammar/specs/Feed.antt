@@ -7,9 +7,9 @@ use Rattle.runner.specs.Calls as Calls
 use Rattle.calls.specs.Call as Call
 use Rattle.calls.specs.Call.{Call, Answer}
 use Rattle.account.specs.Step.{State, replied, next, answer, opened}
-use Rattle.opening.specs.Open.{Opening, lineOpen}
-use Rattle.syntax.specs.Lines.{lineCall, zeros}
-use Rattle.syntax.specs.Answers.{lineText}
+use Rattle.opening.specs.Open.{Opening, line_open}
+use Rattle.syntax.specs.Lines.{line_call, zeros}
+use Rattle.syntax.specs.Answers.{line_text}
 
 -- where a session stands: before its first line; with a runner; or without one, where every line is 30
 pub data Stage : Type 0 where
@@ -41,15 +41,15 @@ abbrev pub bad : Stage → Answered
 bad x = record { stage = x; answer = Call.Refused 30 }
 
 -- open is first and only first; where line 1 opened no runner, every later line is 30
-abbrev pub openedBy : Reply → Opening → Answered
-openedBy Reply.Ok o =
+abbrev pub opened_by : Reply → Opening → Answered
+opened_by Reply.Ok o =
     record { stage = Running (opened o.conf o.now (zeros 65536) (zeros 1024)); answer = Call.Ok }
-openedBy (Reply.Refused x) o = record { stage = Over; answer = replied (Reply.Refused x) }
+opened_by (Reply.Refused x) o = record { stage = Over; answer = replied (Reply.Refused x) }
 
 unfoldable pub first : Option Opening → Answered
 first none = bad Over
 first (some o) =
-    openedBy (Calls.«open» o.conf.key o.conf.limits o.conf.timers o.now (zeros 65536) (zeros 1024)).reply o
+    opened_by (Calls.«open» o.conf.key o.conf.limits o.conf.timers o.now (zeros 65536) (zeros 1024)).reply o
 
 -- 30 before the runner's own; a call's time may be any
 unfoldable pub later : Option Call → State → Answered
@@ -57,28 +57,28 @@ later none s = bad (Running s)
 later (some c) s = record { stage = Running (next s c); answer = answer s c }
 
 unfoldable pub answered : Stage → (line : List ℕ) → Answered
-answered First line = first (lineOpen line)
-answered (Running s) line = later (lineCall line) s
+answered First line = first (line_open line)
+answered (Running s) line = later (line_call line) s
 answered Over line = bad Over
 
 -- a line that is too long is refused whole; it is the first line where it stands first
-unfoldable pub tooLong : Stage → Answered
-tooLong First = bad Over
-tooLong (Running s) = bad (Running s)
-tooLong Over = bad Over
+unfoldable pub too_long : Stage → Answered
+too_long First = bad Over
+too_long (Running s) = bad (Running s)
+too_long Over = bad Over
 
 -- a line has at most 65,535 bytes
-abbrev pub isShort : (line : List ℕ) → Bool
-isShort line = leb (length line) 65535
+abbrev pub is_short : (line : List ℕ) → Bool
+is_short line = leb (length line) 65535
 
-unfoldable pub answerOf : Stage → (line : List ℕ) → Answered
-answerOf x line = cond (isShort line) (answered x line) (tooLong x)
+unfoldable pub answer_of : Stage → (line : List ℕ) → Answered
+answer_of x line = cond (is_short line) (answered x line) (too_long x)
 
 -- the line that is held, answered
-unfoldable pub lineEnds : Session → Step
-lineEnds s = record {
-  session = record { stage = (answerOf s.stage s.held).stage; lines = s.lines + 1; held = [] };
-  printed = lineText (s.lines + 1) (answerOf s.stage s.held).answer;
+unfoldable pub line_ends : Session → Step
+line_ends s = record {
+  session = record { stage = (answer_of s.stage s.held).stage; lines = s.lines + 1; held = [] };
+  printed = line_text (s.lines + 1) (answer_of s.stage s.held).answer;
 }
 
 -- ---- bytes
@@ -89,7 +89,7 @@ hold b held = cond (ltb (length held) 65536) (held ++ (b ∷ [])) held
 -- a byte: 0a ends a line
 unfoldable pub eat : Session → ℕ → Step
 eat s b =
-    cond (eqb b 10) (lineEnds s)
+    cond (eqb b 10) (line_ends s)
     (record { session = record { stage = s.stage; lines = s.lines; held = hold b s.held }; printed = [] })
 
 -- bytes, one after the other
@@ -102,10 +102,10 @@ feeds s (b ∷ rest) = record {
 
 -- the end of the input ends a line that has begun: the session after it, and what it prints
 unfoldable pub ended : Session → Session
-ended s = cond (eqb (length s.held) 0) s (lineEnds s).session
+ended s = cond (eqb (length s.held) 0) s (line_ends s).session
 
 unfoldable pub ends : Session → List ℕ
-ends s = cond (eqb (length s.held) 0) [] (lineEnds s).printed
+ends s = cond (eqb (length s.held) 0) [] (line_ends s).printed
 
 -- what a card prints
 unfoldable pub prints : (card : List ℕ) → List ℕ

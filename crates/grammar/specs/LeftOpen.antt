@@ -11,23 +11,23 @@ use Rattle.syntax.specs.Lines.{fields, u64, zeros}
 use Rattle.syntax.specs.Words.{bytes}
 use Rattle.opening.specs.Open.{Opening}
 use Rattle.opening.specs.Says.{Says}
-use Rattle.grammar.specs.Feed.{First, Running, Over, bad, isShort, answerOf}
-use Rattle.grammar.specs.ByLine.{answersFrom}
+use Rattle.grammar.specs.Feed.{First, Running, Over, bad, is_short, answer_of}
+use Rattle.grammar.specs.ByLine.{answers_from}
 
 -- the answers to a first line and to the question for the deadline behind it
 abbrev pub asked : (line : List ℕ) → List Answer
-asked line = answersFrom First (line ∷ bytes "deadline" ∷ [])
+asked line = answers_from First (line ∷ bytes "deadline" ∷ [])
 
 -- a first line that is answered ok, and the time that its NOW says
 abbrev pub Starts : (line : List ℕ) (now : ℕ) → Type 0
-Starts line now = ((answerOf First line).answer ≡ Call.Ok) × (u64 (get_or (fields line) 1 []) ≡ some now)
+Starts line now = ((answer_of First line).answer ≡ Call.Ok) × (u64 (get_or (fields line) 1 []) ≡ some now)
 
 pub record EveryCard : Type 0 where
   -- a first line that says all that open needs, where open accepts it, is answered ok and leaves the runner that open gives
-  pub opens : (line : List ℕ) (o : Opening) → isShort line ≡ true → Says line o → Opens o.conf o.now (zeros 65536) (zeros 1024)
-      → answerOf First line ≡ record { stage = Running (opened o.conf o.now (zeros 65536) (zeros 1024)); answer = Call.Ok }
+  pub opens : (line : List ℕ) (o : Opening) → is_short line ≡ true → Says line o → Opens o.conf o.now (zeros 65536) (zeros 1024)
+      → answer_of First line ≡ record { stage = Running (opened o.conf o.now (zeros 65536) (zeros 1024)); answer = Call.Ok }
   -- and one that is answered ok says it: no other line opens a runner
-  pub only : (line : List ℕ) → (answerOf First line).answer ≡ Call.Ok → (o : Opening) × Says line o
+  pub only : (line : List ℕ) → (answer_of First line).answer ≡ Call.Ok → (o : Opening) × Says line o
   -- a missing TIMEOUT is 3,600,000,000,000 ns from open (none, where that is past 2^64 - 1)
   pub missing : (line : List ℕ) (now : ℕ) → Starts line now → get_or (fields line) 10 [] ≡ bytes "-" → asked line ≡ Call.Ok ∷ Call.Time (after now 3600000000000) ∷ []
   -- never is no limit
@@ -35,4 +35,4 @@ pub record EveryCard : Type 0 where
   -- a number is itself
   pub number : (line : List ℕ) (now n : ℕ) → Starts line now → u64 (get_or (fields line) 10 []) ≡ some n → asked line ≡ Call.Ok ∷ Call.Time (after now n) ∷ []
   -- any other text is 30, and no runner is opened; so it is where the line has no such field
-  pub other : (line : List ℕ) → (get_or (fields line) 10 [] ≡ bytes "-" → ⊥) → (get_or (fields line) 10 [] ≡ bytes "never" → ⊥) → u64 (get_or (fields line) 10 []) ≡ none → answerOf First line ≡ bad Over
+  pub other : (line : List ℕ) → (get_or (fields line) 10 [] ≡ bytes "-" → ⊥) → (get_or (fields line) 10 [] ≡ bytes "never" → ⊥) → u64 (get_or (fields line) 10 []) ≡ none → answer_of First line ≡ bad Over

@@ -1,27 +1,27 @@
 -- Small examples, computed from the definitions: what stands for bytes, and what does just not.
 use Rattle.std.specs.Prelude.{◌≡◌, refl, [], ◌∷◌, get_or}
 use Rattle.std.proofs.Math.Option.{none, some}
-use Rattle.hexadecimal.specs.Hexadecimal.{hexDigit, hexOf, areHex, arePairs, hexValue, digits, pairs, unhex}
+use Rattle.hexadecimal.specs.Hexadecimal.{hex_digit, hex_of, are_hex, are_pairs, hex_value, digits, pairs, unhex}
 
 -- ---- bytes: none, `0a`, an uppercase digit, an odd count
 nothing : unhex [] ≡ some []
-unfolding unhex arePairs areHex pairs
+unfolding unhex are_pairs are_hex pairs
 nothing = refl
 
 byte : unhex (48 ∷ 97 ∷ []) ≡ some (10 ∷ [])
-unfolding unhex arePairs areHex pairs hexValue
+unfolding unhex are_pairs are_hex pairs hex_value
 byte = refl
 
 uppercase : unhex (48 ∷ 65 ∷ []) ≡ none
-unfolding unhex arePairs areHex
+unfolding unhex are_pairs are_hex
 uppercase = refl
 
 odd : unhex (48 ∷ 48 ∷ 48 ∷ []) ≡ none
-unfolding unhex arePairs
+unfolding unhex are_pairs
 odd = refl
 
-spelled : hexOf (255 ∷ 10 ∷ []) ≡ 102 ∷ 102 ∷ 48 ∷ 97 ∷ []
-unfolding hexOf hexDigit
+spelled : hex_of (255 ∷ 10 ∷ []) ≡ 102 ∷ 102 ∷ 48 ∷ 97 ∷ []
+unfolding hex_of hex_digit
 spelled = refl
 
 -- ---- the table: `0` to `9` and what stands beside them, `a` to `f` and what stands beside them, `A`, and the last byte
@@ -38,7 +38,7 @@ unfolding digits
 neither = (refl, refl)
 
 -- ---- all sixteen digits
-every-digit : unhex (48 ∷ 49 ∷ 50 ∷ 51 ∷ 52 ∷ 53 ∷ 54 ∷ 55 ∷ 56 ∷ 57 ∷ 97 ∷ 98 ∷ 99 ∷ 100 ∷ 101 ∷ 102 ∷ [])
+every_digit : unhex (48 ∷ 49 ∷ 50 ∷ 51 ∷ 52 ∷ 53 ∷ 54 ∷ 55 ∷ 56 ∷ 57 ∷ 97 ∷ 98 ∷ 99 ∷ 100 ∷ 101 ∷ 102 ∷ [])
     ≡ some (1 ∷ 35 ∷ 69 ∷ 103 ∷ 137 ∷ 171 ∷ 205 ∷ 239 ∷ [])
-unfolding unhex arePairs areHex pairs hexValue
-every-digit = refl
+unfolding unhex are_pairs are_hex pairs hex_value
+every_digit = refl

@@ -4,34 +4,34 @@ use Rattle.std.proofs.Math.Option.{Option, none, some}
 
 -- ---- written
 
-unfoldable pub hexDigit : (d : ℕ) → ℕ
-hexDigit d = cond (ltb d 10) (48 + d) (87 + d)
+unfoldable pub hex_digit : (d : ℕ) → ℕ
+hex_digit d = cond (ltb d 10) (48 + d) (87 + d)
 
-unfoldable pub hexOf : (bytes : List ℕ) → List ℕ
-hexOf [] = []
-hexOf (b ∷ t) = hexDigit (b / 16) ∷ hexDigit (b % 16) ∷ hexOf t
+unfoldable pub hex_of : (bytes : List ℕ) → List ℕ
+hex_of [] = []
+hex_of (b ∷ t) = hex_digit (b / 16) ∷ hex_digit (b % 16) ∷ hex_of t
 
 -- ---- read
 
-abbrev pub isHex : (c : ℕ) → Bool
-isHex c = leb 48 c && ltb c 58 || leb 97 c && ltb c 103
+abbrev pub is_hex : (c : ℕ) → Bool
+is_hex c = leb 48 c && ltb c 58 || leb 97 c && ltb c 103
 
-unfoldable pub areHex : List ℕ → Bool
-areHex [] = true
-areHex (c ∷ s) = isHex c && areHex s
+unfoldable pub are_hex : List ℕ → Bool
+are_hex [] = true
+are_hex (c ∷ s) = is_hex c && are_hex s
 
 -- an even count, and digits only
-unfoldable pub arePairs : List ℕ → Bool
-arePairs s = eqb (length s % 2) 0 && areHex s
+unfoldable pub are_pairs : List ℕ → Bool
+are_pairs s = eqb (length s % 2) 0 && are_hex s
 
-unfoldable pub hexValue : (c : ℕ) → ℕ
-hexValue c = cond (ltb c 58) (c - 48) (c - 87)
+unfoldable pub hex_value : (c : ℕ) → ℕ
+hex_value c = cond (ltb c 58) (c - 48) (c - 87)
 
 -- a byte's entry in the table of digits: its value, and 255 where it is no digit
-unfoldable pub digitOf : (c : ℕ) → ℕ
-digitOf c = cond (isHex c) (hexValue c) 255
+unfoldable pub digit_of : (c : ℕ) → ℕ
+digit_of c = cond (is_hex c) (hex_value c) 255
 
--- the table, whose entry c is `digitOf c` (Digits)
+-- the table, whose entry c is `digit_of c` (Digits)
 unfoldable pub digits : List ℕ
 digits =
     255 ∷ 255 ∷ 255 ∷ 255 ∷ 255 ∷ 255 ∷ 255 ∷ 255 ∷ 255 ∷ 255 ∷ 255 ∷ 255 ∷ 255 ∷ 255 ∷ 255 ∷ 255
@@ -55,8 +55,8 @@ digits =
 unfoldable pub pairs : List ℕ → List ℕ
 pairs [] = []
 pairs (c ∷ []) = []
-pairs (c ∷ d ∷ s) = (hexValue c * 16 + hexValue d) ∷ pairs s
+pairs (c ∷ d ∷ s) = (hex_value c * 16 + hex_value d) ∷ pairs s
 
 -- the bytes that a text stands for, if it stands for any
 unfoldable pub unhex : List ℕ → Option (List ℕ)
-unhex s = cond (arePairs s) (some (pairs s)) none
+unhex s = cond (are_pairs s) (some (pairs s)) none

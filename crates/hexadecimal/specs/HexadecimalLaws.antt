@@ -5,18 +5,18 @@ use Rattle.std.proofs.Math.Option.{none, some}
 use Rattle.std.proofs.Math.Decide.{dec_lt}
 use Rattle.std.proofs.lemmas.Bool.{lt-leb}
 use Rattle.std.proofs.Math.Seq.{drop-length}
-use Rattle.ring.specs.Runs.{copied, copied-step}
+use Rattle.ring.specs.Runs.{copied, copied_step}
 use Rattle.ring.specs.Lent.{copied_all}
 use Rattle.ring.specs.Flags.{and_l, and_r}
-use Rattle.hexadecimal.specs.Hexadecimal.{hexDigit, hexOf, isHex, areHex, arePairs, hexValue, pairs, unhex}
+use Rattle.hexadecimal.specs.Hexadecimal.{hex_digit, hex_of, is_hex, are_hex, are_pairs, hex_value, pairs, unhex}
 
 -- ---- a digit
 
 -- the ways of a byte
 data Way (c : ℕ) : Type 0 where
-  decimal : 48 ≤ c → c < 58 → ltb c 58 ≡ true → isHex c ≡ true → Way c
-  letter : 97 ≤ c → c < 103 → ltb c 58 ≡ false → isHex c ≡ true → Way c
-  other : isHex c ≡ false → Way c
+  decimal : 48 ≤ c → c < 58 → ltb c 58 ≡ true → is_hex c ≡ true → Way c
+  letter : 97 ≤ c → c < 103 → ltb c 58 ≡ false → is_hex c ≡ true → Way c
+  other : is_hex c ≡ false → Way c
 
 way : (c : ℕ) → Way c
 way c =
@@ -40,123 +40,123 @@ way c =
           ]
     ]
 
-pub hex-letter : (c : ℕ) → isHex c ≡ true → 58 ≤ c → (97 ≤ c) × (c < 103)
-hex-letter c h past =
+pub hex_letter : (c : ℕ) → is_hex c ≡ true → 58 ≤ c → (97 ≤ c) × (c < 103)
+hex_letter c h past =
     elim (way c) [
       | decimal l m t e ↦ absurd (omega arith)
       | letter l m t e ↦ (l, m)
       | other e ↦ absurd (true≢false cc)
     ]
 
-pub value-decimal : (c : ℕ) → c < 58 → hexValue c ≡ c - 48
-unfolding hexValue
-value-decimal c h = rw (lt-ltb c 58 h) refl
+pub value_decimal : (c : ℕ) → c < 58 → hex_value c ≡ c - 48
+unfolding hex_value
+value_decimal c h = rw (lt-ltb c 58 h) refl
 
-pub value-letter : (c : ℕ) → 58 ≤ c → hexValue c ≡ c - 87
-unfolding hexValue
-value-letter c h = rw (le-ltb c 58 h) refl
+pub value_letter : (c : ℕ) → 58 ≤ c → hex_value c ≡ c - 87
+unfolding hex_value
+value_letter c h = rw (le-ltb c 58 h) refl
 
-pub value-below : (c : ℕ) → isHex c ≡ true → hexValue c < 16
-value-below c h =
+pub value_below : (c : ℕ) → is_hex c ≡ true → hex_value c < 16
+value_below c h =
     elim (dec_lt c 58) [
-      | yes l ↦ omega (arith, value-decimal c l)
-      | no l ↦ omega (arith, value-letter c (omega arith), hex-letter c h (omega arith))
+      | yes l ↦ omega (arith, value_decimal c l)
+      | no l ↦ omega (arith, value_letter c (omega arith), hex_letter c h (omega arith))
     ]
 
-pub digit-decimal : (d : ℕ) → d < 10 → hexDigit d ≡ 48 + d
-unfolding hexDigit
-digit-decimal d h = rw (lt-ltb d 10 h) refl
+pub digit_decimal : (d : ℕ) → d < 10 → hex_digit d ≡ 48 + d
+unfolding hex_digit
+digit_decimal d h = rw (lt-ltb d 10 h) refl
 
-pub digit-letter : (d : ℕ) → 10 ≤ d → hexDigit d ≡ 87 + d
-unfolding hexDigit
-digit-letter d h = rw (le-ltb d 10 h) refl
+pub digit_letter : (d : ℕ) → 10 ≤ d → hex_digit d ≡ 87 + d
+unfolding hex_digit
+digit_letter d h = rw (le-ltb d 10 h) refl
 
 -- a digit's value has that digit
-pub value-digit : (c : ℕ) → isHex c ≡ true → hexDigit (hexValue c) ≡ c
-value-digit c h =
+pub value_digit : (c : ℕ) → is_hex c ≡ true → hex_digit (hex_value c) ≡ c
+value_digit c h =
     elim (way c) [
-      | decimal l m t e ↦ let v = value-decimal c m in digit-decimal (hexValue c) (omega arith) ∙ omega arith
+      | decimal l m t e ↦ let v = value_decimal c m in digit_decimal (hex_value c) (omega arith) ∙ omega arith
       | letter l m t e ↦
-          let v = value-letter c (omega arith) in digit-letter (hexValue c) (omega arith) ∙ omega arith
+          let v = value_letter c (omega arith) in digit_letter (hex_value c) (omega arith) ∙ omega arith
       | other e ↦ absurd (true≢false (sym h ∙ e))
     ]
 
 -- ---- the test
 
 -- so far good, and what is to come
-pub hex-turn : (good : Bool) (s : List ℕ) (i : ℕ) → i < length s
-    → (good && isHex (get_or s i 0)) && areHex (drop (i + 1) s) ≡ good && areHex (drop i s)
-unfolding areHex
-hex-turn false s i h = refl
-hex-turn true s i h = rw (drop-cons s i 0 h, add-one) refl
+pub hex_turn : (good : Bool) (s : List ℕ) (i : ℕ) → i < length s
+    → (good && is_hex (get_or s i 0)) && are_hex (drop (i + 1) s) ≡ good && are_hex (drop i s)
+unfolding are_hex
+hex_turn false s i h = refl
+hex_turn true s i h = rw (drop-cons s i 0 h, add-one) refl
 
-pub hex-end : (good : Bool) (s : List ℕ) (i : ℕ) → i ≡ length s → good && areHex (drop i s) ≡ good
-unfolding areHex
-hex-end false s i h = refl
-hex-end true s i h = rw (h, drop-length s) refl
+pub hex_end : (good : Bool) (s : List ℕ) (i : ℕ) → i ≡ length s → good && are_hex (drop i s) ≡ good
+unfolding are_hex
+hex_end false s i h = refl
+hex_end true s i h = rw (h, drop-length s) refl
 
-pub hex-at : (s : List ℕ) (i : ℕ) → areHex s ≡ true → i < length s → isHex (get_or s i 0) ≡ true
-unfolding areHex
-hex-at [] i h l = absurd (omega arith)
-hex-at (c ∷ s) zero h l = and_l (isHex c) (areHex s) h
-hex-at (c ∷ s) (suc i) h l = hex-at s i (and_r (isHex c) (areHex s) h) (omega arith)
+pub hex_at : (s : List ℕ) (i : ℕ) → are_hex s ≡ true → i < length s → is_hex (get_or s i 0) ≡ true
+unfolding are_hex
+hex_at [] i h l = absurd (omega arith)
+hex_at (c ∷ s) zero h l = and_l (is_hex c) (are_hex s) h
+hex_at (c ∷ s) (suc i) h l = hex_at s i (and_r (is_hex c) (are_hex s) h) (omega arith)
 
-pub pairs-even : (s : List ℕ) → arePairs s ≡ true → 2 * (length s / 2) ≡ length s
-unfolding arePairs
-pairs-even s h =
-    let e = eqb-true (length s % 2) 0 (and_l (eqb (length s % 2) 0) (areHex s) h) in
+pub pairs_even : (s : List ℕ) → are_pairs s ≡ true → 2 * (length s / 2) ≡ length s
+unfolding are_pairs
+pairs_even s h =
+    let e = eqb-true (length s % 2) 0 (and_l (eqb (length s % 2) 0) (are_hex s) h) in
     omega arith
 
-pub pairs-hex : (s : List ℕ) → arePairs s ≡ true → areHex s ≡ true
-unfolding arePairs
-pairs-hex s h = and_r (eqb (length s % 2) 0) (areHex s) h
+pub pairs_hex : (s : List ℕ) → are_pairs s ≡ true → are_hex s ≡ true
+unfolding are_pairs
+pairs_hex s h = and_r (eqb (length s % 2) 0) (are_hex s) h
 
-pub unhex-some : (s : List ℕ) → arePairs s ≡ true → unhex s ≡ some (pairs s)
+pub unhex_some : (s : List ℕ) → are_pairs s ≡ true → unhex s ≡ some (pairs s)
 unfolding unhex
-unhex-some s h = rw h refl
+unhex_some s h = rw h refl
 
-pub unhex-none : (s : List ℕ) → arePairs s ≡ false → unhex s ≡ none
+pub unhex_none : (s : List ℕ) → are_pairs s ≡ false → unhex s ≡ none
 unfolding unhex
-unhex-none s h = rw h refl
+unhex_none s h = rw h refl
 
 -- ---- lists by index
 
-pub pairs-length : (s : List ℕ) → length (pairs s) ≡ length s / 2
+pub pairs_length : (s : List ℕ) → length (pairs s) ≡ length s / 2
 unfolding pairs
-pairs-length [] = omega arith
-pairs-length (c ∷ []) = omega arith
-pairs-length (c ∷ d ∷ s) = omega (arith, pairs-length s)
+pairs_length [] = omega arith
+pairs_length (c ∷ []) = omega arith
+pairs_length (c ∷ d ∷ s) = omega (arith, pairs_length s)
 
-pub pairs-at : (s : List ℕ) (j : ℕ) → 2 * j + 1 < length s → get_or (pairs s) j 0 ≡ hexValue (get_or s (2 * j) 0) * 16 + hexValue (get_or s (2 * j + 1) 0)
+pub pairs_at : (s : List ℕ) (j : ℕ) → 2 * j + 1 < length s → get_or (pairs s) j 0 ≡ hex_value (get_or s (2 * j) 0) * 16 + hex_value (get_or s (2 * j + 1) 0)
 unfolding pairs
-pairs-at [] j h = absurd (omega arith)
-pairs-at (c ∷ []) j h = absurd (omega arith)
-pairs-at (c ∷ d ∷ s) zero h = refl
-pairs-at (c ∷ d ∷ s) (suc j) h =
+pairs_at [] j h = absurd (omega arith)
+pairs_at (c ∷ []) j h = absurd (omega arith)
+pairs_at (c ∷ d ∷ s) zero h = refl
+pairs_at (c ∷ d ∷ s) (suc j) h =
     let e : 2 * suc j ≡ suc (suc (2 * j)) = omega arith in
     let f : 2 * suc j + 1 ≡ suc (suc (2 * j + 1)) = omega arith in
-    rw (f, e) (pairs-at s j (omega arith))
+    rw (f, e) (pairs_at s j (omega arith))
 
-pub hex-length : (b : List ℕ) → length (hexOf b) ≡ 2 * length b
-unfolding hexOf
-hex-length [] = refl
-hex-length (x ∷ b) = omega (arith, hex-length b)
+pub hex_length : (b : List ℕ) → length (hex_of b) ≡ 2 * length b
+unfolding hex_of
+hex_length [] = refl
+hex_length (x ∷ b) = omega (arith, hex_length b)
 
-pub hex-high : (b : List ℕ) (j : ℕ) → j < length b → get_or (hexOf b) (2 * j) 0 ≡ hexDigit (get_or b j 0 / 16)
-unfolding hexOf
-hex-high [] j h = absurd (omega arith)
-hex-high (x ∷ b) zero h = refl
-hex-high (x ∷ b) (suc j) h =
+pub hex_high : (b : List ℕ) (j : ℕ) → j < length b → get_or (hex_of b) (2 * j) 0 ≡ hex_digit (get_or b j 0 / 16)
+unfolding hex_of
+hex_high [] j h = absurd (omega arith)
+hex_high (x ∷ b) zero h = refl
+hex_high (x ∷ b) (suc j) h =
     let e : 2 * suc j ≡ suc (suc (2 * j)) = omega arith in
-    rw e (hex-high b j (omega arith))
+    rw e (hex_high b j (omega arith))
 
-pub hex-last : (b : List ℕ) (j : ℕ) → j < length b → get_or (hexOf b) (2 * j + 1) 0 ≡ hexDigit (get_or b j 0 % 16)
-unfolding hexOf
-hex-last [] j h = absurd (omega arith)
-hex-last (x ∷ b) zero h = refl
-hex-last (x ∷ b) (suc j) h =
+pub hex_last : (b : List ℕ) (j : ℕ) → j < length b → get_or (hex_of b) (2 * j + 1) 0 ≡ hex_digit (get_or b j 0 % 16)
+unfolding hex_of
+hex_last [] j h = absurd (omega arith)
+hex_last (x ∷ b) zero h = refl
+hex_last (x ∷ b) (suc j) h =
     let e : 2 * suc j + 1 ≡ suc (suc (2 * j + 1)) = omega arith in
-    rw e (hex-last b j (omega arith))
+    rw e (hex_last b j (omega arith))
 
 -- ---- loops that write
 
@@ -164,28 +164,28 @@ copied_on : (d : List ℕ) (at : ℕ) (src : List ℕ) (j x : ℕ) → at + j < 
     → set (copied d at src 0 j) (at + j) x ≡ copied d at src 0 (j + 1)
 copied_on d at src j x h l e =
     ap (set (copied d at src 0 j) (at + j)) (e ∙ ap (λ (k : ℕ). get_or src k 0) (sym (zero-add j)))
-    ∙ copied-step d at src 0 j h (omega arith)
+    ∙ copied_step d at src 0 j h (omega arith)
 
-pub unhex-turn : (d s : List ℕ) (j x : ℕ) → j < length d → 2 * j + 1 < length s
-    → x ≡ hexValue (get_or s (2 * j) 0) * 16 + hexValue (get_or s (2 * j + 1) 0)
+pub unhex_turn : (d s : List ℕ) (j x : ℕ) → j < length d → 2 * j + 1 < length s
+    → x ≡ hex_value (get_or s (2 * j) 0) * 16 + hex_value (get_or s (2 * j + 1) 0)
     → set (copied d 0 (pairs s) 0 j) j x ≡ copied d 0 (pairs s) 0 (j + 1)
-unhex-turn d s j x h l e =
+unhex_turn d s j x h l e =
     ap (λ (k : ℕ). set (copied d 0 (pairs s) 0 j) k x) (sym (zero-add j))
-    ∙ copied_on d 0 (pairs s) j x (omega arith) (omega (arith, pairs-length s)) (e ∙ sym (pairs-at s j l))
+    ∙ copied_on d 0 (pairs s) j x (omega arith) (omega (arith, pairs_length s)) (e ∙ sym (pairs_at s j l))
 
-pub unhex-end : (d s : List ℕ) (n : ℕ) → 2 * n ≡ length s → copied d 0 (pairs s) 0 n ≡ pairs s ++ drop n d
-unhex-end d s n h = copied_all d 0 (pairs s) n (omega (arith, pairs-length s)) ∙ ap (λ (k : ℕ). pairs s ++ drop k d) (zero-add n)
+pub unhex_end : (d s : List ℕ) (n : ℕ) → 2 * n ≡ length s → copied d 0 (pairs s) 0 n ≡ pairs s ++ drop n d
+unhex_end d s n h = copied_all d 0 (pairs s) n (omega (arith, pairs_length s)) ∙ ap (λ (k : ℕ). pairs s ++ drop k d) (zero-add n)
 
-pub hex-write : (d b : List ℕ) (at j x y : ℕ) → j < length b → at + 2 * length b ≤ length d
-    → x ≡ hexDigit (get_or b j 0 / 16) → y ≡ hexDigit (get_or b j 0 % 16)
-    → set (set (copied d at (hexOf b) 0 (2 * j)) (at + 2 * j) x) (at + 2 * j + 1) y ≡ copied d at (hexOf b) 0 (2 * (j + 1))
-hex-write d b at j x y h room high low =
+pub hex_write : (d b : List ℕ) (at j x y : ℕ) → j < length b → at + 2 * length b ≤ length d
+    → x ≡ hex_digit (get_or b j 0 / 16) → y ≡ hex_digit (get_or b j 0 % 16)
+    → set (set (copied d at (hex_of b) 0 (2 * j)) (at + 2 * j) x) (at + 2 * j + 1) y ≡ copied d at (hex_of b) 0 (2 * (j + 1))
+hex_write d b at j x y h room high low =
     let k = 2 * j in
-    let l = hex-length b in
-    let p = hexOf b in
+    let l = hex_length b in
+    let p = hex_of b in
     let i : at + k + 1 ≡ at + (k + 1) = omega arith in
     let n : k + 1 + 1 ≡ 2 * (j + 1) = omega arith in
-    ap (λ (z : List ℕ). set z (at + k + 1) y) (copied_on d at p k x (omega arith) (omega arith) (high ∙ sym (hex-high b j h)))
+    ap (λ (z : List ℕ). set z (at + k + 1) y) (copied_on d at p k x (omega arith) (omega arith) (high ∙ sym (hex_high b j h)))
     ∙ ap (λ (z : ℕ). set (copied d at p 0 (k + 1)) z y) i
-    ∙ copied_on d at p (k + 1) y (omega arith) (omega arith) (low ∙ sym (hex-last b j h))
+    ∙ copied_on d at p (k + 1) y (omega arith) (omega arith) (low ∙ sym (hex_last b j h))
     ∙ ap (copied d at p 0) n

@@ -3,8 +3,8 @@
 
 ghost use Rattle.std.specs.Prelude.{◌≡◌, true, ◌++◌, ◌+◌, ◌*◌, ◌/◌, ◌≤◌, ◌<◌, length, drop};
 ghost use Rattle.ring.specs.Runs.{copied};
-ghost use Rattle.hexadecimal.specs.Hexadecimal.{isHex, areHex, arePairs, digitOf, hexDigit, hexOf, pairs, unhex};
-ghost use Rattle.hexadecimal.specs.Answers.{maybeLength, unhexInto};
+ghost use Rattle.hexadecimal.specs.Hexadecimal.{is_hex, are_hex, are_pairs, digit_of, hex_digit, hex_of, pairs, unhex};
+ghost use Rattle.hexadecimal.specs.Answers.{maybe_length, unhex_into};
 
 #[derive(Clone, Copy)]
 pub enum MaybeLength {
@@ -15,14 +15,14 @@ pub enum MaybeLength {
 // ---- reading
 
 fn is_hex(c: u8) -> bool
-    ensures { result ≡ isHex c }
+    ensures { result ≡ is_hex c }
 {
     ((48 <= c) & (c < 58)) | ((97 <= c) & (c < 103))
 }
 
 // (No way out at the first byte that is none: so many bytes are looked at in one step of the machine.)
 fn are_hex(text: &[u8]) -> bool
-    ensures { result ≡ areHex text.now }
+    ensures { result ≡ are_hex text.now }
 {
     let n = text.len();
     let mut good = true;
@@ -34,9 +34,9 @@ fn are_hex(text: &[u8]) -> bool
     good
 }
 
-#[tactic(auto, unfolding(crate::specs::Hexadecimal::arePairs))]
+#[tactic(auto, unfolding(crate::specs::Hexadecimal::are_pairs))]
 fn are_pairs(text: &[u8]) -> bool
-    ensures { result ≡ arePairs text.now }
+    ensures { result ≡ are_pairs text.now }
 {
     (text.len() % 2 == 0) & are_hex(text)
 }
@@ -64,7 +64,7 @@ static DIGITS: [u8; 256] = [
 ];
 
 fn value(c: u8) -> u8
-    ensures { result ≡ digitOf c }
+    ensures { result ≡ digit_of c }
 {
     DIGITS[c as usize]
 }
@@ -73,7 +73,7 @@ fn value(c: u8) -> u8
 // (Never inlined: so its loop has the registers for itself, which was measured a little faster.)
 #[inline(never)]
 fn put_pairs(text: &[u8], out: &mut [u8], n: usize)
-    requires { (areHex text.now ≡ true) × (2 * n ≡ length text.now) × (n ≤ length out.old) }
+    requires { (are_hex text.now ≡ true) × (2 * n ≡ length text.now) × (n ≤ length out.old) }
     ensures { out.new ≡ pairs text.now ++ drop n out.old }
 {
     let mut j: usize = 0;
@@ -86,8 +86,8 @@ fn put_pairs(text: &[u8], out: &mut [u8], n: usize)
 // Writes the bytes that all of text stands for at the start of out, and says how many; where text is refused, nothing is written.
 pub fn read(text: &[u8], out: &mut [u8]) -> MaybeLength
     requires { length text.now / 2 ≤ length out.old }
-    ensures value { result ≡ maybeLength (unhex text.now) }
-    ensures out_after { out.new ≡ unhexInto (unhex text.now) out.old }
+    ensures value { result ≡ maybe_length (unhex text.now) }
+    ensures out_after { out.new ≡ unhex_into (unhex text.now) out.old }
 {
     if are_pairs(text) {
         let n = text.len() / 2;
@@ -100,10 +100,10 @@ pub fn read(text: &[u8], out: &mut [u8]) -> MaybeLength
 
 // ---- writing
 
-#[tactic(auto, unfolding(crate::specs::Hexadecimal::hexDigit))]
+#[tactic(auto, unfolding(crate::specs::Hexadecimal::hex_digit))]
 fn digit(d: u8) -> u8
     requires { d < 16 }
-    ensures { result ≡ hexDigit d }
+    ensures { result ≡ hex_digit d }
 {
     if d < 10 { 48 + d } else { 87 + d }
 }
@@ -111,8 +111,8 @@ fn digit(d: u8) -> u8
 // Writes the digits of bytes from index at on, and returns the index behind them.
 pub fn write(bytes: &[u8], out: &mut [u8], at: usize) -> usize
     requires { at + 2 * length bytes.now ≤ length out.old }
-    ensures out_after { out.new ≡ copied out.old at (hexOf bytes.now) 0 (length (hexOf bytes.now)) }
-    ensures value { result ≡ at + length (hexOf bytes.now) }
+    ensures out_after { out.new ≡ copied out.old at (hex_of bytes.now) 0 (length (hex_of bytes.now)) }
+    ensures value { result ≡ at + length (hex_of bytes.now) }
 {
     let n = bytes.len();
     let mut j: usize = 0;

@@ -15,9 +15,9 @@ use Rattle.exec.specs.declared.MaybeLaunchFailure.TheVariants as MaybeLaunchFail
 use Rattle.exec.specs.declared.MaybeStatus.TheVariants as MaybeStatus
 use Rattle.exec.specs.declared.Outcome.{Outcome}
 use Rattle.exec.specs.declared.Stream.TheVariants.{Stdout, Stderr}
-use Rattle.exec.specs.Limits.{bytesWith, bytesWindow, limitsFor}
-use Rattle.choice.specs.Order.{ifElse, order}
-use Rattle.output.specs.Output.{outputFits}
+use Rattle.exec.specs.Limits.{bytes_with, bytes_window, limits_for}
+use Rattle.choice.specs.Order.{if_else, order}
+use Rattle.output.specs.Output.{output_fits}
 use Rattle.runner.specs.Calls as Calls
 use Rattle.runner.specs.Life as Life
 use Rattle.runner.specs.Message as Message
@@ -27,50 +27,50 @@ use Rattle.calls.specs.Call as Call
 use Rattle.calls.specs.Call.{Conf, Answer}
 use Rattle.account.specs.Step as Step
 use Rattle.account.specs.Step.{State}
-use Rattle.account.specs.Records.{Entry, EntryDone, call, nextEntry, answerEntry, runEntries, made, callsOf, anyTerminalIn}
+use Rattle.account.specs.Records.{Entry, EntryDone, call, next_entry, answer_entry, run_entries, made, calls_of, any_terminal_in}
 use Rattle.hung.specs.HungClaim.{RunsOn, Unended}
 use Rattle.hung.proofs.Hung.{hung}
 
 -- chunks of one byte, windows of one byte, and a timeout at 10
-abbrev withGrace : ℕ → Conf
-withGrace grace = record {
+abbrev with_grace : ℕ → Conf
+with_grace grace = record {
   key = record { id = 7; generation = 2 };
-  limits = limitsFor 1 (bytesWindow 1) (bytesWindow 1) false;
+  limits = limits_for 1 (bytes_window 1) (bytes_window 1) false;
   timers = record { timeout = MaybeDuration.Some 10; grace = grace; settlement = 3 };
 }
 
 -- grace ends at 15, and give-up comes at 18
 abbrev conf : Conf
-conf = withGrace 5
+conf = with_grace 5
 
 -- opened at 0, with the three bytes that such limits need
 abbrev begins : Conf → State
 begins conf = Step.opened conf 0 (0 ∷ 0 ∷ 0 ∷ []) []
 
-abbrev answersOf : List EntryDone → List Answer
-answersOf ds = map (λ (d : EntryDone). d.answer) ds
+abbrev answers_of : List EntryDone → List Answer
+answers_of ds = map (λ (d : EntryDone). d.answer) ds
 
 -- launched, and just before its timeout nothing is asked for
 abbrev running : List Entry
-running = call (Call.launched LaunchResult.Started) ∷ call (Call.tick 9) ∷ call Call.nextRequest ∷ call Call.deadline ∷ []
+running = call (Call.launched LaunchResult.Started) ∷ call (Call.tick 9) ∷ call Call.next_request ∷ call Call.deadline ∷ []
 
 -- what the host is asked when its timeout has come; it does nothing
 abbrev asked : List Entry
-asked = call Call.nextRequest ∷ []
+asked = call Call.next_request ∷ []
 
 abbrev four : List Entry
-four = call (Call.nextMessage (0 ∷ [])) ∷ call (Call.nextMessage (0 ∷ [])) ∷ call (Call.nextMessage (0 ∷ [])) ∷ call (Call.nextMessage (0 ∷ [])) ∷ []
+four = call (Call.next_message (0 ∷ [])) ∷ call (Call.next_message (0 ∷ [])) ∷ call (Call.next_message (0 ∷ [])) ∷ call (Call.next_message (0 ∷ [])) ∷ []
 
 abbrev five : List Entry
-five = call (Call.nextMessage (0 ∷ [])) ∷ four
+five = call (Call.next_message (0 ∷ [])) ∷ four
 
 -- a list of the claim's, with its two ticks
-abbrev listOf : (before : List Entry) (t n : ℕ) (messages : List Entry) → List Entry
-listOf before t n messages = before ++ (call (Call.tick t) ∷ (asked ++ (call (Call.tick n) ∷ messages)))
+abbrev list_of : (before : List Entry) (t n : ℕ) (messages : List Entry) → List Entry
+list_of before t n messages = before ++ (call (Call.tick t) ∷ (asked ++ (call (Call.tick n) ∷ messages)))
 
 -- both streams truncated, and nothing to be used again
-abbrev timedOut : Outcome
-timedOut = record {
+abbrev timed_out : Outcome
+timed_out = record {
   status = MaybeStatus.None;
   cause = MaybeCause.Some Cause.TimedOut;
   launch_failure = MaybeLaunchFailure.None;
@@ -81,30 +81,30 @@ timedOut = record {
 
 pub record Computed : Type 0 where
   -- no request before 10 and the termination at it; after the tick at 18 the fifth message is Terminal
-  pub answers : answersOf (runEntries (begins conf) (listOf running 10 18 five))
+  pub answers : answers_of (run_entries (begins conf) (list_of running 10 18 five))
       ≡ Call.Ok ∷ Call.Ok ∷ Call.Nothing ∷ Call.Time (At 10)
       ∷ Call.Ok ∷ Call.Asks (Call.Terminate Cause.TimedOut)
-      ∷ Call.Ok ∷ Call.Says Call.Started ∷ Call.Says Call.InputClosed ∷ Call.Says (Call.End Stdout) ∷ Call.Says (Call.End Stderr) ∷ Call.Says (Call.Terminal timedOut) ∷ []
+      ∷ Call.Ok ∷ Call.Says Call.Started ∷ Call.Says Call.InputClosed ∷ Call.Says (Call.End Stdout) ∷ Call.Says (Call.End Stderr) ∷ Call.Says (Call.Terminal timed_out) ∷ []
   -- four messages do not do, nor does a last tick before 18, nor a first one before 10
-  pub not-four : anyTerminalIn (runEntries (begins conf) (listOf running 10 18 four)) ≡ false
-  pub not_earlier : anyTerminalIn (runEntries (begins conf) (listOf running 10 17 five)) ≡ false
-  pub not-before : anyTerminalIn (runEntries (begins conf) (listOf running 9 17 five)) ≡ false
+  pub not_four : any_terminal_in (run_entries (begins conf) (list_of running 10 18 four)) ≡ false
+  pub not_earlier : any_terminal_in (run_entries (begins conf) (list_of running 10 17 five)) ≡ false
+  pub not_before : any_terminal_in (run_entries (begins conf) (list_of running 9 17 five)) ≡ false
   -- nor where an exit was reported: it clears the timeout, and a stream that hung up is waited for
-  pub not-exited : anyTerminalIn (runEntries (begins conf) (listOf (call (Call.outputHungUp Stdout) ∷ call (Call.exited 0 MaybeStatus.None) ∷ running) 10 18 five)) ≡ false
+  pub not_exited : any_terminal_in (run_entries (begins conf) (list_of (call (Call.output_hung_up Stdout) ∷ call (Call.exited 0 MaybeStatus.None) ∷ running) 10 18 five)) ≡ false
   -- nor where a time was above that of the tick: the timeout's termination was at 12
-  pub not-above : anyTerminalIn (runEntries (begins conf) (listOf (call (Call.tick 12) ∷ running) 10 18 five)) ≡ false
+  pub not_above : any_terminal_in (run_entries (begins conf) (list_of (call (Call.tick 12) ∷ running) 10 18 five)) ≡ false
   -- nor where the sum is past the last instant: no end of grace is set
-  pub not_beyond : anyTerminalIn (runEntries (begins (withGrace 18446744073709551615)) (listOf running 10 18446744073709551628 five)) ≡ false
+  pub not_beyond : any_terminal_in (run_entries (begins (with_grace 18446744073709551615)) (list_of running 10 18446744073709551628 five)) ≡ false
 
 pub computed : Computed
-unfolding Step.next Step.answer nextEntry answerEntry Calls.«open» Calls.tick Calls.deadline Calls.nextRequest Calls.nextMessage Calls.launched Calls.exited Calls.outputHungUp Range.fresh Range.stop Range.inRange outputFits bytesWith ifElse order Life.closeRunnerInput Life.endGrace Life.giveUp Life.abandonLaunch Life.abandonOpenStreams Life.beginTermination Life.terminate Life.passGrace Life.passTimeout Life.passSettlement Life.giveUpUnlessClean Life.passGiveUp Life.dropLaunch Life.dropStreams Life.passAbandonment Life.fire Life.ticked Life.deadlineOf Life.noteStarted Life.noteLaunch Life.launchedNext Life.noteExit Life.noteExitOnce Life.exitedNext Life.isReady Life.outcomeOf Streams.hungUpNext Message.sendableOf Message.choose Message.outputPaid Message.outputSent Message.effect Message.payload Message.bufferAfter Message.saidFor Message.wishFor Message.wish Message.wishEffect
+unfolding Step.next Step.answer next_entry answer_entry Calls.«open» Calls.tick Calls.deadline Calls.next_request Calls.next_message Calls.launched Calls.exited Calls.output_hung_up Range.fresh Range.stop Range.in_range output_fits bytes_with if_else order Life.close_runner_input Life.end_grace Life.give_up Life.abandon_launch Life.abandon_open_streams Life.begin_termination Life.terminate Life.pass_grace Life.pass_timeout Life.pass_settlement Life.give_up_unless_clean Life.pass_give_up Life.drop_launch Life.drop_streams Life.pass_abandonment Life.fire Life.ticked Life.deadline_of Life.note_started Life.note_launch Life.launched_next Life.note_exit Life.note_exit_once Life.exited_next Life.is_ready Life.outcome_of Streams.hung_up_next Message.sendable_of Message.choose Message.output_paid Message.output_sent Message.effect Message.payload Message.buffer_after Message.said_for Message.wish_for Message.wish Message.wish_effect
 computed = record {
   answers = refl;
-  not-four = refl;
+  not_four = refl;
   not_earlier = refl;
-  not-before = refl;
-  not-exited = refl;
-  not-above = refl;
+  not_before = refl;
+  not_exited = refl;
+  not_above = refl;
   not_beyond = refl;
 }
 
@@ -119,17 +119,17 @@ launched = (λ now x e. (let z : true ≡ false = cc in true≢false z), untimed
 ticked : RunsOn 10 (Call.tick 9)
 ticked = (λ now x e. (let z : true ≡ false = cc in true≢false z), λ now e. subst (λ (m : ℕ). m ≤ 10) (some-injective 9 now e) (omega arith))
 
-requested : RunsOn 10 Call.nextRequest
+requested : RunsOn 10 Call.next_request
 requested = (λ now x e. (let z : true ≡ false = cc in true≢false z), untimed)
 
 deadlined : RunsOn 10 Call.deadline
 deadlined = (λ now x e. (let z : true ≡ false = cc in true≢false z), untimed)
 
-unended : Unended 10 (callsOf conf (runEntries (begins conf) running))
+unended : Unended 10 (calls_of conf (run_entries (begins conf) running))
 unfolding made
 unended = (launched, (ticked, (requested, (deadlined, tt))))
 
 -- so Terminal comes in it by the claim alone, too
-pub ends : anyTerminalIn (runEntries (begins conf) (listOf running 10 18 five)) ≡ true
-unfolding made Calls.«open» bytesWith
+pub ends : any_terminal_in (run_entries (begins conf) (list_of running 10 18 five)) ≡ true
+unfolding made Calls.«open» bytes_with
 ends = hung conf 0 (0 ∷ 0 ∷ 0 ∷ []) [] refl running asked five 10 10 18 refl (omega arith) unended (omega arith) (omega arith) (omega arith)

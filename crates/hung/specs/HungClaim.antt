@@ -5,15 +5,15 @@ use Rattle.std.specs.Prelude.{true, ◌≡◌, List, [], ◌∷◌, ◌++◌, �
 use Rattle.std.proofs.Math.Option.{some}
 use Rattle.exec.specs.declared.Deadline.TheVariants.{At}
 use Rattle.exec.specs.declared.MaybeStatus.{MaybeStatus}
-use Rattle.exec.specs.Time.{timeoutAt}
-use Rattle.calls.specs.Call.{Conf, Call, exited, tick, timeOf}
+use Rattle.exec.specs.Time.{timeout_at}
+use Rattle.calls.specs.Call.{Conf, Call, exited, tick, time_of}
 use Rattle.account.specs.Step.{opened}
 use Rattle.account.specs.Claim.{messages}
-use Rattle.account.specs.Records.{Entry, call, nextEntry, afterEntries, runEntries, callsOf, anyTerminalIn}
+use Rattle.account.specs.Records.{Entry, call, next_entry, after_entries, run_entries, calls_of, any_terminal_in}
 
 -- the program runs on: the call reports no exit, and its own time is not above t
 abbrev pub RunsOn : ℕ → Call → Type 0
-RunsOn t c = ((now : ℕ) (x : MaybeStatus) → c ≡ exited now x → ⊥) × ((now : ℕ) → timeOf c ≡ some now → now ≤ t)
+RunsOn t c = ((now : ℕ) (x : MaybeStatus) → c ≡ exited now x → ⊥) × ((now : ℕ) → time_of c ≡ some now → now ≤ t)
 
 -- up to t, by each of the calls
 abbrev pub Unended : ℕ → List Call → Type 0
@@ -24,10 +24,10 @@ Unended t (c ∷ cs) = RunsOn t c × Unended t cs
 abbrev pub Hung : Conf → ℕ → (bytes lengths : List ℕ) → Type 0
 Hung conf now bytes lengths =
     (cs ds es : List Entry) (d t n : ℕ)
-    → let ticked = nextEntry (afterEntries (opened conf now bytes lengths) cs) (call (tick t)) in
-    let before = afterEntries ticked ds in
-    timeoutAt conf.timers.timeout now ≡ At d → d ≤ t
-    → Unended t (callsOf conf (runEntries (opened conf now bytes lengths) cs))
+    → let ticked = next_entry (after_entries (opened conf now bytes lengths) cs) (call (tick t)) in
+    let before = after_entries ticked ds in
+    timeout_at conf.timers.timeout now ≡ At d → d ≤ t
+    → Unended t (calls_of conf (run_entries (opened conf now bytes lengths) cs))
     → t + conf.timers.grace + conf.timers.settlement < 2 ^ 64 → t + conf.timers.grace + conf.timers.settlement ≤ n
-    → 5 ≤ messages (callsOf conf (runEntries (nextEntry before (call (tick n))) es))
-    → anyTerminalIn (runEntries (opened conf now bytes lengths) (cs ++ (call (tick t) ∷ (ds ++ (call (tick n) ∷ es))))) ≡ true
+    → 5 ≤ messages (calls_of conf (run_entries (next_entry before (call (tick n))) es))
+    → any_terminal_in (run_entries (opened conf now bytes lengths) (cs ++ (call (tick t) ∷ (ds ++ (call (tick n) ∷ es))))) ≡ true

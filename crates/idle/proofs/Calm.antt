@@ -5,45 +5,45 @@ use mathlib.Core.Path.{◌≡◌, refl, sym, ◌∙◌, ap}
 use Rattle.exec.specs.declared.Deadline.{Deadline}
 use Rattle.exec.specs.declared.Deadline.TheVariants.{Never}
 use Rattle.exec.specs.declared.Stream.{Stream}
-use Rattle.exec.specs.Stream.{every-stream}
+use Rattle.exec.specs.Stream.{every_stream_lem}
 use Rattle.lifecycle.specs.declared.life.Settling.{Settling}
 use Rattle.lifecycle.specs.declared.life.Settling.TheVariants.{Idle, Requested, Settled, Fenced}
-use Rattle.lifecycle.specs.Life.{launchKnown, exitKnown, isFenced, isSettled}
-use Rattle.lifecycle.specs.Setters.{setGiveUpAt, setAbandonAt, setSettling}
+use Rattle.lifecycle.specs.Life.{launch_known, exit_known, is_fenced, is_settled}
+use Rattle.lifecycle.specs.Setters.{set_give_up_at, set_abandon_at, set_settling}
 use Rattle.output.specs.declared.Output.{Output}
-use Rattle.output.specs.Output.{isHeld}
-use Rattle.output.specs.Outputs.{putOutput, eachOutput, allClosed, anyHeld}
+use Rattle.output.specs.Output.{is_held}
+use Rattle.output.specs.Outputs.{put_output, each_output, all_closed, any_held}
 use Rattle.runner.specs.declared.runner.Runner.{Runner}
-use Rattle.runner.specs.Life.{awaitsLaunch, isCleanedUp}
-use Rattle.runner.specs.State.{with, withLife, withOutputs, outOf}
-use Rattle.account.specs.Step.{State, onRunner}
+use Rattle.runner.specs.Life.{awaits_launch, is_cleaned_up}
+use Rattle.runner.specs.State.{with, with_life, with_outputs, out_of}
+use Rattle.account.specs.Step.{State, on_runner}
 use Rattle.account.proofs.Flags.{and_l, and_r, and_both}
-use Rattle.account.proofs.Sides.{of-every, on_out, none_of, of_none}
+use Rattle.account.proofs.Sides.{of_every, on_out, none_of, of_none}
 
 -- abandonment has nothing to do, nor will it: no launch is awaited, settling is fenced, and no stream is held open
-abbrev pub isMoot : Runner → Bool
-isMoot r = (not (awaitsLaunch r) && isFenced r.life.settling) && not (anyHeld r.outputs)
+abbrev pub is_moot : Runner → Bool
+is_moot r = (not (awaits_launch r) && is_fenced r.life.settling) && not (any_held r.outputs)
 
 -- with these times of give-up and abandonment
-abbrev pub swap : (giveUp abandon : Deadline) → Runner → Runner
+abbrev pub swap : (give_up abandon : Deadline) → Runner → Runner
 swap g b r =
-    with (setGiveUpAt g (setAbandonAt b r.clocks)) r.life r.flags r.input (eachOutput (λ (o : Output). o) r.outputs) r
+    with (set_give_up_at g (set_abandon_at b r.clocks)) r.life r.flags r.input (each_output (λ (o : Output). o) r.outputs) r
 
 abbrev pub unless : Bool → Deadline → Deadline
 unless b d = cond b Never d
 
-abbrev pub giveUpShown : Runner → Deadline
-giveUpShown r = unless (isCleanedUp r) r.clocks.give_up_at
+abbrev pub give_up_shown : Runner → Deadline
+give_up_shown r = unless (is_cleaned_up r) r.clocks.give_up_at
 
-abbrev pub abandonShown : Runner → Deadline
-abandonShown r = unless (isMoot r) r.clocks.abandon_at
+abbrev pub abandon_shown : Runner → Deadline
+abandon_shown r = unless (is_moot r) r.clocks.abandon_at
 
 abbrev pub calm : Runner → Runner
-calm r = swap (giveUpShown r) (abandonShown r) r
+calm r = swap (give_up_shown r) (abandon_shown r) r
 
 -- the state, likewise
-abbrev pub calmS : State → State
-calmS s = onRunner (calm s.runner) s
+abbrev pub calm_s : State → State
+calm_s s = on_runner (calm s.runner) s
 
 -- ---- a change that sees no more than is shown
 
@@ -56,19 +56,19 @@ kept true false x h = absurd (false≢true (h refl))
 kept false d x h = refl
 
 -- it sets the time of give-up, and leaves that of abandonment
-pub anew : (r t : Runner) → t.clocks.abandon_at ≡ r.clocks.abandon_at → (isMoot r ≡ true → isMoot t ≡ true)
-    → calm (swap t.clocks.give_up_at (abandonShown r) t) ≡ calm t
+pub anew : (r t : Runner) → t.clocks.abandon_at ≡ r.clocks.abandon_at → (is_moot r ≡ true → is_moot t ≡ true)
+    → calm (swap t.clocks.give_up_at (abandon_shown r) t) ≡ calm t
 anew r t e m =
-    ap (λ (b : Deadline). swap (giveUpShown t) b t)
-    (kept (isMoot r) (isMoot t) r.clocks.abandon_at m ∙ ap (unless (isMoot t)) (sym e))
+    ap (λ (b : Deadline). swap (give_up_shown t) b t)
+    (kept (is_moot r) (is_moot t) r.clocks.abandon_at m ∙ ap (unless (is_moot t)) (sym e))
 
 -- it leaves both, and brings back neither
 pub plain : (r t : Runner) → t.clocks.give_up_at ≡ r.clocks.give_up_at → t.clocks.abandon_at ≡ r.clocks.abandon_at
-    → (isCleanedUp r ≡ true → isCleanedUp t ≡ true) → (isMoot r ≡ true → isMoot t ≡ true)
-    → calm (swap (giveUpShown r) (abandonShown r) t) ≡ calm t
+    → (is_cleaned_up r ≡ true → is_cleaned_up t ≡ true) → (is_moot r ≡ true → is_moot t ≡ true)
+    → calm (swap (give_up_shown r) (abandon_shown r) t) ≡ calm t
 plain r t eg eb c m =
-    ap (λ (g : Deadline). swap g (unless (isMoot t) (abandonShown r)) t)
-    (kept (isCleanedUp r) (isCleanedUp t) r.clocks.give_up_at c ∙ ap (unless (isCleanedUp t)) (sym eg)) ∙ anew r t eb m
+    ap (λ (g : Deadline). swap g (unless (is_moot t) (abandon_shown r)) t)
+    (kept (is_cleaned_up r) (is_cleaned_up t) r.clocks.give_up_at c ∙ ap (unless (is_cleaned_up t)) (sym eg)) ∙ anew r t eb m
 
 pub still : (r : Runner) → calm (calm r) ≡ calm r
 still r = plain r r refl refl (λ e. e) (λ e. e)
@@ -83,52 +83,52 @@ branch false x y v w h k = k
 
 -- ---- what is known where a time is not shown
 
-not-false : (a : Bool) → not a ≡ true → a ≡ false
-not-false true e = sym e
-not-false false e = refl
+not_false : (a : Bool) → not a ≡ true → a ≡ false
+not_false true e = sym e
+not_false false e = refl
 
-pub false-not : (a : Bool) → a ≡ false → not a ≡ true
-false-not true e = sym e
-false-not false e = refl
+pub false_not : (a : Bool) → a ≡ false → not a ≡ true
+false_not true e = sym e
+false_not false e = refl
 
 unawaited : (l g a : Bool) → l ≡ true → ((not l && g) && a) ≡ false
 unawaited true g a e = refl
 unawaited false g a e = absurd (false≢true e)
 
-module _ (r : Runner) (e : isCleanedUp r ≡ true) where
+module _ (r : Runner) (e : is_cleaned_up r ≡ true) where
   abbrev reports : Bool
-  reports = launchKnown r.life.launch && exitKnown r.life.exit
+  reports = launch_known r.life.launch && exit_known r.life.exit
 
-  pub clean-settled : isSettled r.life.settling ≡ true
-  clean-settled = and_r (reports && allClosed r.outputs) _ e
+  pub clean_settled : is_settled r.life.settling ≡ true
+  clean_settled = and_r (reports && all_closed r.outputs) _ e
 
-  pub clean-closed : (reports && allClosed r.outputs) ≡ true
-  clean-closed = and_l (reports && allClosed r.outputs) _ e
+  pub clean_closed : (reports && all_closed r.outputs) ≡ true
+  clean_closed = and_l (reports && all_closed r.outputs) _ e
 
-  pub clean-exit : exitKnown r.life.exit ≡ true
-  clean-exit = and_r (launchKnown r.life.launch) _ (and_l reports _ clean-closed)
+  pub clean_exit : exit_known r.life.exit ≡ true
+  clean_exit = and_r (launch_known r.life.launch) _ (and_l reports _ clean_closed)
 
-  pub clean-awaits : awaitsLaunch r ≡ false
-  clean-awaits = unawaited (launchKnown r.life.launch) _ _ (and_l _ (exitKnown r.life.exit) (and_l reports _ clean-closed))
+  pub clean_awaits : awaits_launch r ≡ false
+  clean_awaits = unawaited (launch_known r.life.launch) _ _ (and_l _ (exit_known r.life.exit) (and_l reports _ clean_closed))
 
-module _ (r : Runner) (e : isMoot r ≡ true) where
+module _ (r : Runner) (e : is_moot r ≡ true) where
   abbrev given : Bool
-  given = not (awaitsLaunch r) && isFenced r.life.settling
+  given = not (awaits_launch r) && is_fenced r.life.settling
 
-  pub moot-given : given ≡ true
-  moot-given = and_l given _ e
+  pub moot_given : given ≡ true
+  moot_given = and_l given _ e
 
-  pub moot-awaits : awaitsLaunch r ≡ false
-  moot-awaits = not-false (awaitsLaunch r) (and_l _ (isFenced r.life.settling) moot-given)
+  pub moot_awaits : awaits_launch r ≡ false
+  moot_awaits = not_false (awaits_launch r) (and_l _ (is_fenced r.life.settling) moot_given)
 
-  pub moot-fenced : isFenced r.life.settling ≡ true
-  moot-fenced = and_r (not (awaitsLaunch r)) _ moot-given
+  pub moot_fenced : is_fenced r.life.settling ≡ true
+  moot_fenced = and_r (not (awaits_launch r)) _ moot_given
 
-  pub moot-held : (x : Stream) → isHeld (outOf x r) ≡ false
-  moot-held = none_of (λ (x : Stream). isHeld (outOf x r)) (not-false (anyHeld r.outputs) (and_r given _ e))
+  pub moot_held : (x : Stream) → is_held (out_of x r) ≡ false
+  moot_held = none_of (λ (x : Stream). is_held (out_of x r)) (not_false (any_held r.outputs) (and_r given _ e))
 
 -- settling is not Settled and Fenced at once
-pub unsettled : (s : Settling) → isFenced s ≡ true → isSettled s ≡ true → ⊥
+pub unsettled : (s : Settling) → is_fenced s ≡ true → is_settled s ≡ true → ⊥
 unsettled Idle e f = false≢true e
 unsettled (Requested d) e f = false≢true e
 unsettled Settled e f = false≢true e
@@ -137,25 +137,25 @@ unsettled Fenced e f = false≢true f
 -- ---- a change of one stream's output, which stays closed if it was, and is not held if it was not
 
 module _ (x : Stream) (o : Output) (r : Runner) where
-  pub put-clean : ((outOf x r).closed ≡ true → o.closed ≡ true) → isCleanedUp r ≡ true → isCleanedUp (withOutputs (putOutput x o r.outputs) r) ≡ true
-  put-clean h e =
-      let k = every-stream (λ (y : Stream). (outOf y r).closed) (and_r (reports r e) _ (clean-closed r e)) in
+  pub put_clean : ((out_of x r).closed ≡ true → o.closed ≡ true) → is_cleaned_up r ≡ true → is_cleaned_up (with_outputs (put_output x o r.outputs) r) ≡ true
+  put_clean h e =
+      let k = every_stream_lem (λ (y : Stream). (out_of y r).closed) (and_r (reports r e) _ (clean_closed r e)) in
       and_both _ _
-      (and_both (reports r e) _ (and_l (reports r e) _ (clean-closed r e))
-      (of-every _ (on_out (λ (y : Stream) (p : Output). p.closed ≡ true) x o r.outputs (h (k x)) (λ y d. k y))))
-      (clean-settled r e)
+      (and_both (reports r e) _ (and_l (reports r e) _ (clean_closed r e))
+      (of_every _ (on_out (λ (y : Stream) (p : Output). p.closed ≡ true) x o r.outputs (h (k x)) (λ y d. k y))))
+      (clean_settled r e)
 
-  pub put-moot : (isHeld (outOf x r) ≡ false → isHeld o ≡ false) → isMoot r ≡ true → isMoot (withOutputs (putOutput x o r.outputs) r) ≡ true
-  put-moot h e =
-      let k = moot-held r e in
-      and_both _ _ (moot-given r e)
-      (false-not _ (of_none _ (on_out (λ (y : Stream) (p : Output). isHeld p ≡ false) x o r.outputs (h (k x)) (λ y d. k y))))
+  pub put_moot : (is_held (out_of x r) ≡ false → is_held o ≡ false) → is_moot r ≡ true → is_moot (with_outputs (put_output x o r.outputs) r) ≡ true
+  put_moot h e =
+      let k = moot_held r e in
+      and_both _ _ (moot_given r e)
+      (false_not _ (of_none _ (on_out (λ (y : Stream) (p : Output). is_held p ≡ false) x o r.outputs (h (k x)) (λ y d. k y))))
 
 -- ---- a change of settling, which stays Settled or Fenced if it was
 
-pub settle-sees : (s : Settling) (r : Runner) → (isSettled r.life.settling ≡ true → isSettled s ≡ true) → (isFenced r.life.settling ≡ true → isFenced s ≡ true)
-    → calm (withLife (setSettling s (calm r).life) (calm r)) ≡ calm (withLife (setSettling s r.life) r)
-settle-sees s r c f =
-    plain r (withLife (setSettling s r.life) r) refl refl
-    (λ e. and_both _ _ (clean-closed r e) (c (clean-settled r e)))
-    (λ e. and_both _ _ (and_both _ _ (false-not (awaitsLaunch r) (moot-awaits r e)) (f (moot-fenced r e))) (and_r (given r e) _ e))
+pub settle_sees : (s : Settling) (r : Runner) → (is_settled r.life.settling ≡ true → is_settled s ≡ true) → (is_fenced r.life.settling ≡ true → is_fenced s ≡ true)
+    → calm (with_life (set_settling s (calm r).life) (calm r)) ≡ calm (with_life (set_settling s r.life) r)
+settle_sees s r c f =
+    plain r (with_life (set_settling s r.life) r) refl refl
+    (λ e. and_both _ _ (clean_closed r e) (c (clean_settled r e)))
+    (λ e. and_both _ _ (and_both _ _ (false_not (awaits_launch r) (moot_awaits r e)) (f (moot_fenced r e))) (and_r (given r e) _ e))

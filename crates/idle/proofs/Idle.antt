@@ -11,108 +11,108 @@ use Rattle.exec.specs.declared.Reply.{Reply}
 use Rattle.exec.specs.Time.{due}
 use Rattle.runner.specs.declared.runner.Runner.{Runner}
 use Rattle.runner.specs.Calls as Calls
-use Rattle.runner.specs.Calls.{noting, whenBy}
-use Rattle.runner.specs.Life.{ticked, deadlineOf}
-use Rattle.runner.specs.Range.{inRange, stop, bytesDo}
+use Rattle.runner.specs.Calls.{noting, when_by}
+use Rattle.runner.specs.Life.{ticked, deadline_of}
+use Rattle.runner.specs.Range.{in_range, stop, bytes_do}
 use Rattle.calls.specs.Call as Call
 use Rattle.calls.specs.Call.{Conf, Answer}
-use Rattle.account.specs.Step.{State, onRunner, next, answer, opened, fires}
-use Rattle.account.specs.Records.{Entry, EntryDone, call, nextEntry, answerEntry, afterEntries, runEntries}
-use Rattle.idle.specs.IdleClaim.{Woven, made, idle, alone, woven, amid, deadlineIn, reported, isBefore, AllIdle, AllSpared, messageBuffer, recordBuffer, IdleTicks}
-use Rattle.idle.proofs.Calm.{calmS}
-use Rattle.idle.proofs.Calls.{message-sees}
-use Rattle.idle.proofs.Records.{record-sees, entry-sees}
-use Rattle.idle.proofs.Ticks.{tick-idle, tick-later}
+use Rattle.account.specs.Step.{State, on_runner, next, answer, opened, fires}
+use Rattle.account.specs.Records.{Entry, EntryDone, call, next_entry, answer_entry, after_entries, run_entries}
+use Rattle.idle.specs.IdleClaim.{Woven, made, idle, alone, woven, amid, deadline_in, reported, is_before, AllIdle, AllSpared, message_buffer, record_buffer, IdleTicks}
+use Rattle.idle.proofs.Calm.{calm_s}
+use Rattle.idle.proofs.Calls.{message_sees}
+use Rattle.idle.proofs.Records.{record_sees, entry_sees}
+use Rattle.idle.proofs.Ticks.{tick_idle, tick_later}
 
 -- ---- states that are alike
 
-module _ (s t : State) (h : calmS s ≡ calmS t) where
-  pub alike-left : (e : Entry) → calmS (nextEntry s e) ≡ calmS (nextEntry t e)
-  alike-left e = sym (entry-sees e s).left ∙ ap (λ (x : State). calmS (nextEntry x e)) h ∙ (entry-sees e t).left
+module _ (s t : State) (h : calm_s s ≡ calm_s t) where
+  pub alike_left : (e : Entry) → calm_s (next_entry s e) ≡ calm_s (next_entry t e)
+  alike_left e = sym (entry_sees e s).left ∙ ap (λ (x : State). calm_s (next_entry x e)) h ∙ (entry_sees e t).left
 
-  pub alike-answer : (e : Entry) → answerEntry s e ≡ answerEntry t e
-  alike-answer e = sym (entry-sees e s).answered ∙ ap (λ (x : State). answerEntry x e) h ∙ (entry-sees e t).answered
+  pub alike_answer : (e : Entry) → answer_entry s e ≡ answer_entry t e
+  alike_answer e = sym (entry_sees e s).answered ∙ ap (λ (x : State). answer_entry x e) h ∙ (entry_sees e t).answered
 
-  pub alike-reported : reported s ≡ reported t
-  unfolding answerEntry
-  alike-reported = ap deadlineIn (alike-answer (call Call.deadline))
+  pub alike_reported : reported s ≡ reported t
+  unfolding answer_entry
+  alike_reported = ap deadline_in (alike_answer (call Call.deadline))
 
-  alike-message : (buffer : List ℕ) → messageBuffer s buffer ≡ messageBuffer t buffer
-  unfolding Calls.nextMessage stop inRange
-  alike-message buffer = sym (shows s) ∙ ap (λ (x : State). messageBuffer x buffer) h ∙ shows t
+  alike_message : (buffer : List ℕ) → message_buffer s buffer ≡ message_buffer t buffer
+  unfolding Calls.next_message stop in_range
+  alike_message buffer = sym (shows s) ∙ ap (λ (x : State). message_buffer x buffer) h ∙ shows t
     where
-      shows : (x : State) → messageBuffer (calmS x) buffer ≡ messageBuffer x buffer
-      shows x = (message-sees (stop x.runner (bytesDo x.runner.limits x.bytes)) x.runner x.bytes buffer).buffer
+      shows : (x : State) → message_buffer (calm_s x) buffer ≡ message_buffer x buffer
+      shows x = (message_sees (stop x.runner (bytes_do x.runner.limits x.bytes)) x.runner x.bytes buffer).buffer
 
-  alike-record : (channel : ℕ) (buffer : List ℕ) → recordBuffer s channel buffer ≡ recordBuffer t channel buffer
-  alike-record channel buffer =
-      sym (record-sees channel s.bytes buffer s.runner).buffer ∙ ap (λ (x : State). recordBuffer x channel buffer) h ∙ (record-sees channel t.bytes buffer t.runner).buffer
+  alike_record : (channel : ℕ) (buffer : List ℕ) → record_buffer s channel buffer ≡ record_buffer t channel buffer
+  alike_record channel buffer =
+      sym (record_sees channel s.bytes buffer s.runner).buffer ∙ ap (λ (x : State). record_buffer x channel buffer) h ∙ (record_sees channel t.bytes buffer t.runner).buffer
 
 -- ---- a tick
 
-before-waits : (d : Deadline) (t : ℕ) → isBefore t d ≡ true → due d t ≡ false
-before-waits Never t h = refl
-before-waits (At d) t h = lt-leb d t (ltb-true t d h)
+before_waits : (d : Deadline) (t : ℕ) → is_before t d ≡ true → due d t ≡ false
+before_waits Never t h = refl
+before_waits (At d) t h = lt-leb d t (ltb-true t d h)
 
-waits-before : (d : Deadline) (t : ℕ) → due d t ≡ false → isBefore t d ≡ true
-waits-before Never t h = refl
-waits-before (At d) t h = lt-ltb t d (leb-false d t h)
+waits_before : (d : Deadline) (t : ℕ) → due d t ≡ false → is_before t d ≡ true
+waits_before Never t h = refl
+waits_before (At d) t h = lt-ltb t d (leb-false d t h)
 
-pub idle-still : (t : ℕ) (s : State) → isBefore t (reported s) ≡ true → calmS (next s (Call.tick t)) ≡ calmS s
+pub idle_still : (t : ℕ) (s : State) → is_before t (reported s) ≡ true → calm_s (next s (Call.tick t)) ≡ calm_s s
 unfolding next answer Calls.tick Calls.deadline
-idle-still t s h = by (stop s.runner true) h
+idle_still t s h = by (stop s.runner true) h
   where
-    by : (p : Reply) → isBefore t (deadlineIn (fires (whenBy p (deadlineOf s.runner)))) ≡ true → calmS (onRunner (noting p (ticked s.runner t) s.runner).runner s) ≡ calmS s
-    by Reply.Ok h = ap (λ (z : Runner). onRunner z s) (tick-idle t s.runner (before-waits (deadlineOf s.runner) t h))
+    by : (p : Reply) → is_before t (deadline_in (fires (when_by p (deadline_of s.runner)))) ≡ true → calm_s (on_runner (noting p (ticked s.runner t) s.runner).runner s) ≡ calm_s s
+    by Reply.Ok h = ap (λ (z : Runner). on_runner z s) (tick_idle t s.runner (before_waits (deadline_of s.runner) t h))
     by (Reply.Refused x) h = refl
 
-pub reported-later : (t : ℕ) (s : State) → isBefore t (reported (next s (Call.tick t))) ≡ true
+pub reported_later : (t : ℕ) (s : State) → is_before t (reported (next s (Call.tick t))) ≡ true
 unfolding next answer Calls.tick Calls.deadline
-reported-later t s = by (stop s.runner true) refl
+reported_later t s = by (stop s.runner true) refl
   where
-    answered : (q : Reply) (d : Deadline) → due d t ≡ false → isBefore t (deadlineIn (fires (whenBy q d))) ≡ true
-    answered Reply.Ok d h = waits-before d t h
+    answered : (q : Reply) (d : Deadline) → due d t ≡ false → is_before t (deadline_in (fires (when_by q d))) ≡ true
+    answered Reply.Ok d h = waits_before d t h
     answered (Reply.Refused x) d h = refl
 
     by : (p : Reply) → stop s.runner true ≡ p
-        → (let r = (noting p (ticked s.runner t) s.runner).runner in isBefore t (deadlineIn (fires (whenBy (stop r true) (deadlineOf r)))) ≡ true)
-    by Reply.Ok e = answered (stop (ticked s.runner t) true) (deadlineOf (ticked s.runner t)) (tick-later t s.runner)
+        → (let r = (noting p (ticked s.runner t) s.runner).runner in is_before t (deadline_in (fires (when_by (stop r true) (deadline_of r)))) ≡ true)
+    by Reply.Ok e = answered (stop (ticked s.runner t) true) (deadline_of (ticked s.runner t)) (tick_later t s.runner)
     by (Reply.Refused x) e = rw e refl
 
-told-otherwise : (t d : ℕ) (s : State) → d ≤ t → reported (next s (Call.tick t)) ≡ At d → ⊥
-told-otherwise t d s l e =
-    let b = subst (λ (x : Deadline). isBefore t x ≡ true) e (reported-later t s) in let k : t < d = ltb-true t d b in omega arith
+told_otherwise : (t d : ℕ) (s : State) → d ≤ t → reported (next s (Call.tick t)) ≡ At d → ⊥
+told_otherwise t d s l e =
+    let b = subst (λ (x : Deadline). is_before t x ≡ true) e (reported_later t s) in let k : t < d = ltb-true t d b in omega arith
 
 -- ---- a list: s in the first run, t in the second
 
-pub idle-answers : (ws : List Woven) (s t : State) → calmS s ≡ calmS t → AllIdle t ws → amid t ws ≡ runEntries s (alone ws)
-unfolding nextEntry
-idle-answers [] s t h a = refl
-idle-answers (made e ∷ ws) s t h a =
-    ap (λ (x : Answer). record { entry = e; answer = x } ∷ amid (nextEntry t e) ws) (sym (alike-answer s t h e))
-    ∙ ap (λ (ds : List EntryDone). record { entry = e; answer = answerEntry s e } ∷ ds) (idle-answers ws (nextEntry s e) (nextEntry t e) (alike-left s t h e) a)
-idle-answers (idle n ∷ ws) s t h a = idle-answers ws s (next t (Call.tick n)) (h ∙ sym (idle-still n t a.0)) a.1
+pub idle_answers : (ws : List Woven) (s t : State) → calm_s s ≡ calm_s t → AllIdle t ws → amid t ws ≡ run_entries s (alone ws)
+unfolding next_entry
+idle_answers [] s t h a = refl
+idle_answers (made e ∷ ws) s t h a =
+    ap (λ (x : Answer). record { entry = e; answer = x } ∷ amid (next_entry t e) ws) (sym (alike_answer s t h e))
+    ∙ ap (λ (ds : List EntryDone). record { entry = e; answer = answer_entry s e } ∷ ds) (idle_answers ws (next_entry s e) (next_entry t e) (alike_left s t h e) a)
+idle_answers (idle n ∷ ws) s t h a = idle_answers ws s (next t (Call.tick n)) (h ∙ sym (idle_still n t a.0)) a.1
 
-idle-left : (ws : List Woven) (s t : State) → calmS s ≡ calmS t → AllIdle t ws → calmS (afterEntries t (woven ws)) ≡ calmS (afterEntries s (alone ws))
-unfolding nextEntry
-idle-left [] s t h a = sym h
-idle-left (made e ∷ ws) s t h a = idle-left ws (nextEntry s e) (nextEntry t e) (alike-left s t h e) a
-idle-left (idle n ∷ ws) s t h a = idle-left ws s (next t (Call.tick n)) (h ∙ sym (idle-still n t a.0)) a.1
+idle_left : (ws : List Woven) (s t : State) → calm_s s ≡ calm_s t → AllIdle t ws → calm_s (after_entries t (woven ws)) ≡ calm_s (after_entries s (alone ws))
+unfolding next_entry
+idle_left [] s t h a = sym h
+idle_left (made e ∷ ws) s t h a = idle_left ws (next_entry s e) (next_entry t e) (alike_left s t h e) a
+idle_left (idle n ∷ ws) s t h a = idle_left ws s (next t (Call.tick n)) (h ∙ sym (idle_still n t a.0)) a.1
 
 -- and whose deadline is asked
-spared-idle : (ws : List Woven) (s t : State) → calmS s ≡ calmS t → AllSpared s ws → AllIdle t ws
-spared-idle [] s t h a = tt
-spared-idle (made e ∷ ws) s t h a = spared-idle ws (nextEntry s e) (nextEntry t e) (alike-left s t h e) a
-spared-idle (idle n ∷ ws) s t h a =
-    let b = subst (λ (d : Deadline). isBefore n d ≡ true) (alike-reported s t h) a.0 in
-    (b, spared-idle ws s (next t (Call.tick n)) (h ∙ sym (idle-still n t b)) a.1)
+spared_idle : (ws : List Woven) (s t : State) → calm_s s ≡ calm_s t → AllSpared s ws → AllIdle t ws
+spared_idle [] s t h a = tt
+spared_idle (made e ∷ ws) s t h a = spared_idle ws (next_entry s e) (next_entry t e) (alike_left s t h e) a
+spared_idle (idle n ∷ ws) s t h a =
+    let b = subst (λ (d : Deadline). is_before n d ≡ true) (alike_reported s t h) a.0 in
+    (b, spared_idle ws s (next t (Call.tick n)) (h ∙ sym (idle_still n t b)) a.1)
 
-idle-spared : (ws : List Woven) (s t : State) → calmS s ≡ calmS t → AllIdle t ws → AllSpared s ws
-idle-spared [] s t h a = tt
-idle-spared (made e ∷ ws) s t h a = idle-spared ws (nextEntry s e) (nextEntry t e) (alike-left s t h e) a
-idle-spared (idle n ∷ ws) s t h a = (
-  subst (λ (d : Deadline). isBefore n d ≡ true) (sym (alike-reported s t h)) a.0,
-  idle-spared ws s (next t (Call.tick n)) (h ∙ sym (idle-still n t a.0)) a.1,
+idle_spared : (ws : List Woven) (s t : State) → calm_s s ≡ calm_s t → AllIdle t ws → AllSpared s ws
+idle_spared [] s t h a = tt
+idle_spared (made e ∷ ws) s t h a = idle_spared ws (next_entry s e) (next_entry t e) (alike_left s t h e) a
+idle_spared (idle n ∷ ws) s t h a = (
+  subst (λ (d : Deadline). is_before n d ≡ true) (sym (alike_reported s t h)) a.0,
+  idle_spared ws s (next t (Call.tick n)) (h ∙ sym (idle_still n t a.0)) a.1,
 )
 
 -- ---- from open
@@ -121,15 +121,15 @@ module _ (conf : Conf) (now : ℕ) (bytes lengths : List ℕ) where
   abbrev begins : State
   begins = opened conf now bytes lengths
 
-  alike-ends : (ws : List Woven) → AllIdle begins ws → calmS (afterEntries begins (woven ws)) ≡ calmS (afterEntries begins (alone ws))
-  alike-ends ws a = idle-left ws begins begins refl a
+  alike_ends : (ws : List Woven) → AllIdle begins ws → calm_s (after_entries begins (woven ws)) ≡ calm_s (after_entries begins (alone ws))
+  alike_ends ws a = idle_left ws begins begins refl a
 
   -- IDLE TICKS
-  pub idleTicks : IdleTicks conf now bytes lengths
-  idleTicks = record {
-    answers = λ ws a. idle-answers ws begins begins refl a;
-    stores = λ ws a. (ap (λ (x : State). x.bytes) (alike-ends ws a), ap (λ (x : State). x.lengths) (alike-ends ws a));
-    buffers = λ ws channel buffer a. (alike-message _ (afterEntries begins (alone ws)) (alike-ends ws a) buffer, alike-record _ (afterEntries begins (alone ws)) (alike-ends ws a) channel buffer);
-    whose = λ ws. (spared-idle ws begins begins refl, idle-spared ws begins begins refl);
-    sharp = λ es d t r l e. told-otherwise t d (afterEntries begins es) l e;
+  pub idle_ticks : IdleTicks conf now bytes lengths
+  idle_ticks = record {
+    answers = λ ws a. idle_answers ws begins begins refl a;
+    stores = λ ws a. (ap (λ (x : State). x.bytes) (alike_ends ws a), ap (λ (x : State). x.lengths) (alike_ends ws a));
+    buffers = λ ws channel buffer a. (alike_message _ (after_entries begins (alone ws)) (alike_ends ws a) buffer, alike_record _ (after_entries begins (alone ws)) (alike_ends ws a) channel buffer);
+    whose = λ ws. (spared_idle ws begins begins refl, idle_spared ws begins begins refl);
+    sharp = λ es d t r l e. told_otherwise t d (after_entries begins es) l e;
   }

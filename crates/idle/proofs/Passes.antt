@@ -12,111 +12,111 @@ use Rattle.exec.specs.declared.MaybeStatus.{MaybeStatus}
 use Rattle.exec.specs.Time.{after, earliest, due}
 use Rattle.lifecycle.specs.declared.life.Settling.{Settling}
 use Rattle.lifecycle.specs.declared.life.Settling.TheVariants.{Idle, Requested, Settled, Fenced}
-use Rattle.lifecycle.specs.Life.{launchKnown, exitKnown, isFenced, isSettled, expired}
-use Rattle.lifecycle.specs.Setters.{setGiveUpAt, setAbandonAt}
+use Rattle.lifecycle.specs.Life.{launch_known, exit_known, is_fenced, is_settled, expired}
+use Rattle.lifecycle.specs.Setters.{set_give_up_at, set_abandon_at}
 use Rattle.output.specs.declared.Output.{Output}
 use Rattle.output.specs.Output.{abandoned}
 use Rattle.runner.specs.declared.runner.Runner.{Runner}
-use Rattle.runner.specs.Life.{awaitsLaunch, isCleanedUp, closeRunnerInput, endGrace, giveUp, abandonLaunch, abandonOpenStreams, beginTermination, passGrace, terminate, passTimeout, passSettlement, giveUpUnlessClean, passGiveUp, dropLaunch, dropStreams, passAbandonment, fire, ticked, isLate, cancelAnswer, cancelNext, noteExit, isOver, noteExitOnce, timeoutCleared, exitedNext, silenced, giveUpSoon, cutOff, cutOffOnce, detachNext}
-use Rattle.runner.specs.State.{with, withClocks, outOf}
+use Rattle.runner.specs.Life.{awaits_launch, is_cleaned_up, close_runner_input, end_grace, give_up, abandon_launch, abandon_open_streams, begin_termination, pass_grace, terminate, pass_timeout, pass_settlement, give_up_unless_clean, pass_give_up, drop_launch, drop_streams, pass_abandonment, fire, ticked, is_late, cancel_answer, cancel_next, note_exit, is_over, note_exit_once, timeout_cleared, exited_next, silenced, give_up_soon, cut_off, cut_off_once, detach_next}
+use Rattle.runner.specs.State.{with, with_clocks, out_of}
 use Rattle.account.proofs.Flags.{or_left}
 use Rattle.account.proofs.Sides.{each_same}
-use Rattle.idle.proofs.Calm.{Sees, isMoot, swap, unless, giveUpShown, abandonShown, calm, kept, anew, plain, still, on, branch, clean-settled, clean-exit, clean-awaits, moot-awaits, moot-fenced, moot-held, unsettled, settle-sees}
+use Rattle.idle.proofs.Calm.{Sees, is_moot, swap, unless, give_up_shown, abandon_shown, calm, kept, anew, plain, still, on, branch, clean_settled, clean_exit, clean_awaits, moot_awaits, moot_fenced, moot_held, unsettled, settle_sees}
 
 -- ---- timeout, grace and settlement
 
-pub grace-sees : Sees endGrace
-unfolding endGrace
-grace-sees r = plain r (endGrace r) refl refl (λ e. e) (λ e. e)
+pub grace_sees : Sees end_grace
+unfolding end_grace
+grace_sees r = plain r (end_grace r) refl refl (λ e. e) (λ e. e)
 
-pass-grace : (now : ℕ) → Sees (λ (x : Runner). passGrace x now)
-unfolding passGrace
-pass-grace now r = branch (due r.clocks.grace_until now) (endGrace (calm r)) (calm r) (endGrace r) r (grace-sees r) (still r)
+pass_grace_lem : (now : ℕ) → Sees (λ (x : Runner). pass_grace x now)
+unfolding pass_grace
+pass_grace_lem now r = branch (due r.clocks.grace_until now) (end_grace (calm r)) (calm r) (end_grace r) r (grace_sees r) (still r)
 
-begin-sees : (now : ℕ) (c : Cause) → Sees (λ (x : Runner). beginTermination x now c)
-unfolding beginTermination
-begin-sees now c r = anew r (beginTermination r now c) refl (λ e. e)
+begin_sees : (now : ℕ) (c : Cause) → Sees (λ (x : Runner). begin_termination x now c)
+unfolding begin_termination
+begin_sees now c r = anew r (begin_termination r now c) refl (λ e. e)
 
-pub terminate-sees : (now : ℕ) (c : Cause) → Sees (λ (x : Runner). terminate x now c)
+pub terminate_sees : (now : ℕ) (c : Cause) → Sees (λ (x : Runner). terminate x now c)
 unfolding terminate
-terminate-sees now c r =
-    branch r.clocks.terminated (calm r) (passGrace (beginTermination (calm r) now c) now) r (passGrace (beginTermination r now c) now) (still r)
-    (on (λ x. passGrace x now) (pass-grace now) (beginTermination (calm r) now c) (beginTermination r now c) (begin-sees now c r))
+terminate_sees now c r =
+    branch r.clocks.terminated (calm r) (pass_grace (begin_termination (calm r) now c) now) r (pass_grace (begin_termination r now c) now) (still r)
+    (on (λ x. pass_grace x now) (pass_grace_lem now) (begin_termination (calm r) now c) (begin_termination r now c) (begin_sees now c r))
 
-cleared-sees : Sees timeoutCleared
-cleared-sees r = plain r (timeoutCleared r) refl refl (λ e. e) (λ e. e)
+cleared_sees : Sees timeout_cleared
+cleared_sees r = plain r (timeout_cleared r) refl refl (λ e. e) (λ e. e)
 
-pass-timeout : (now : ℕ) → Sees (λ (x : Runner). passTimeout x now)
-unfolding passTimeout
-pass-timeout now r =
-    branch (due r.clocks.timeout_at now) (terminate (timeoutCleared (calm r)) now TimedOut) (calm r) (terminate (timeoutCleared r) now TimedOut) r
-    (on (λ x. terminate x now TimedOut) (terminate-sees now TimedOut) (timeoutCleared (calm r)) (timeoutCleared r) (cleared-sees r)) (still r)
+pass_timeout_lem : (now : ℕ) → Sees (λ (x : Runner). pass_timeout x now)
+unfolding pass_timeout
+pass_timeout_lem now r =
+    branch (due r.clocks.timeout_at now) (terminate (timeout_cleared (calm r)) now TimedOut) (calm r) (terminate (timeout_cleared r) now TimedOut) r
+    (on (λ x. terminate x now TimedOut) (terminate_sees now TimedOut) (timeout_cleared (calm r)) (timeout_cleared r) (cleared_sees r)) (still r)
 
-expired-settled : (s : Settling) (now : ℕ) → isSettled s ≡ true → isSettled (expired s now) ≡ true
-expired-settled Idle now e = e
-expired-settled (Requested d) now e = absurd (true≢false (sym e))
-expired-settled Settled now e = e
-expired-settled Fenced now e = e
+expired_settled : (s : Settling) (now : ℕ) → is_settled s ≡ true → is_settled (expired s now) ≡ true
+expired_settled Idle now e = e
+expired_settled (Requested d) now e = absurd (true≢false (sym e))
+expired_settled Settled now e = e
+expired_settled Fenced now e = e
 
-expired-fenced : (s : Settling) (now : ℕ) → isFenced s ≡ true → isFenced (expired s now) ≡ true
-expired-fenced Idle now e = e
-expired-fenced (Requested d) now e = absurd (true≢false (sym e))
-expired-fenced Settled now e = e
-expired-fenced Fenced now e = e
+expired_fenced : (s : Settling) (now : ℕ) → is_fenced s ≡ true → is_fenced (expired s now) ≡ true
+expired_fenced Idle now e = e
+expired_fenced (Requested d) now e = absurd (true≢false (sym e))
+expired_fenced Settled now e = e
+expired_fenced Fenced now e = e
 
-pass-settlement : (now : ℕ) → Sees (λ (x : Runner). passSettlement x now)
-unfolding passSettlement
-pass-settlement now r =
-    let s : Settling = r.life.settling in settle-sees (expired s now) r (expired-settled s now) (expired-fenced s now)
+pass_settlement_lem : (now : ℕ) → Sees (λ (x : Runner). pass_settlement x now)
+unfolding pass_settlement
+pass_settlement_lem now r =
+    let s : Settling = r.life.settling in settle_sees (expired s now) r (expired_settled s now) (expired_fenced s now)
 
 -- ---- give-up
 
 -- where all is cleaned up its time is not shown, and nothing else is changed
-pub given-clean : (b : Bool) (r : Runner) → isCleanedUp r ≡ true → calm (cond b (withClocks (setGiveUpAt Never r.clocks) r) r) ≡ calm r
-given-clean true r e = rw e refl
-given-clean false r e = refl
+pub given_clean : (b : Bool) (r : Runner) → is_cleaned_up r ≡ true → calm (cond b (with_clocks (set_give_up_at Never r.clocks) r) r) ≡ calm r
+given_clean true r e = rw e refl
+given_clean false r e = refl
 
 -- and there is nothing to abandon after it
-give-up-sees : Sees giveUp
-unfolding giveUp
-give-up-sees r = anew r (giveUp r) refl (λ e. moot (not (launchKnown r.life.launch)))
+give_up_sees : Sees give_up
+unfolding give_up
+give_up_sees r = anew r (give_up r) refl (λ e. moot (not (launch_known r.life.launch)))
   where
     moot : (l : Bool) → ((not ((l && false) && not r.flags.launch_abandoned) && true) && true) ≡ true
     moot true = refl
     moot false = refl
 
-pass-give-up : (now : ℕ) → Sees (λ (x : Runner). passGiveUp x now)
-unfolding passGiveUp giveUpUnlessClean
-pass-give-up now r = by (isCleanedUp r) refl
+pass_give_up_lem : (now : ℕ) → Sees (λ (x : Runner). pass_give_up x now)
+unfolding pass_give_up give_up_unless_clean
+pass_give_up_lem now r = by (is_cleaned_up r) refl
   where
-    by : (c : Bool) → isCleanedUp r ≡ c
-        → calm (cond (due (unless c r.clocks.give_up_at) now) (cond c (withClocks (setGiveUpAt Never (calm r).clocks) (calm r)) (giveUp (calm r))) (calm r))
-        ≡ calm (cond (due r.clocks.give_up_at now) (cond c (withClocks (setGiveUpAt Never r.clocks) r) (giveUp r)) r)
-    by true e = still r ∙ sym (given-clean (due r.clocks.give_up_at now) r e)
-    by false e = branch (due r.clocks.give_up_at now) (giveUp (calm r)) (calm r) (giveUp r) r (give-up-sees r) (still r)
+    by : (c : Bool) → is_cleaned_up r ≡ c
+        → calm (cond (due (unless c r.clocks.give_up_at) now) (cond c (with_clocks (set_give_up_at Never (calm r).clocks) (calm r)) (give_up (calm r))) (calm r))
+        ≡ calm (cond (due r.clocks.give_up_at now) (cond c (with_clocks (set_give_up_at Never r.clocks) r) (give_up r)) r)
+    by true e = still r ∙ sym (given_clean (due r.clocks.give_up_at now) r e)
+    by false e = branch (due r.clocks.give_up_at now) (give_up (calm r)) (calm r) (give_up r) r (give_up_sees r) (still r)
 
 -- ---- abandonment
 
 -- a launch is awaited: nothing is cleaned up, nor is abandonment without work
-drop-launch : Sees dropLaunch
-unfolding dropLaunch abandonLaunch
-drop-launch r = by (awaitsLaunch r) refl
+drop_launch_lem : Sees drop_launch
+unfolding drop_launch abandon_launch
+drop_launch_lem r = by (awaits_launch r) refl
   where
-    by : (b : Bool) → awaitsLaunch r ≡ b → calm (cond b (abandonLaunch (calm r)) (calm r)) ≡ calm (cond b (abandonLaunch r) r)
+    by : (b : Bool) → awaits_launch r ≡ b → calm (cond b (abandon_launch (calm r)) (calm r)) ≡ calm (cond b (abandon_launch r) r)
     by true e =
-        plain r (abandonLaunch r) refl refl (λ c. absurd (true≢false (sym e ∙ clean-awaits r c))) (λ m. absurd (true≢false (sym e ∙ moot-awaits r m)))
+        plain r (abandon_launch r) refl refl (λ c. absurd (true≢false (sym e ∙ clean_awaits r c))) (λ m. absurd (true≢false (sym e ∙ moot_awaits r m)))
     by false e = still r
 
 -- settling is fenced: not all is cleaned up
-drop-streams : Sees dropStreams
-unfolding dropStreams abandonOpenStreams
-drop-streams r = by (isFenced r.life.settling) refl
+drop_streams_lem : Sees drop_streams
+unfolding drop_streams abandon_open_streams
+drop_streams_lem r = by (is_fenced r.life.settling) refl
   where
-    by : (b : Bool) → isFenced r.life.settling ≡ b → calm (cond b (abandonOpenStreams (calm r)) (calm r)) ≡ calm (cond b (abandonOpenStreams r) r)
+    by : (b : Bool) → is_fenced r.life.settling ≡ b → calm (cond b (abandon_open_streams (calm r)) (calm r)) ≡ calm (cond b (abandon_open_streams r) r)
     by true e =
-        let t : Runner = abandonOpenStreams r in
-        ap (λ (g : Deadline). swap g (abandonShown t) t)
-        (kept (isCleanedUp r) (isCleanedUp t) r.clocks.give_up_at (λ c. absurd (unsettled r.life.settling e (clean-settled r c))))
+        let t : Runner = abandon_open_streams r in
+        ap (λ (g : Deadline). swap g (abandon_shown t) t)
+        (kept (is_cleaned_up r) (is_cleaned_up t) r.clocks.give_up_at (λ c. absurd (unsettled r.life.settling e (clean_settled r c))))
     by false e = still r
 
 -- a stream that is not held stays as it is
@@ -126,107 +126,107 @@ unheld o false true e f n = rw (e, f) refl
 unheld o false false e f n = absurd (true≢false n)
 
 -- there is nothing to abandon: its time is not shown, and nothing else is changed
-moot-streams : (r : Runner) → isMoot r ≡ true → calm (abandonOpenStreams r) ≡ calm r
-unfolding abandonOpenStreams
-moot-streams r m =
-    ap (λ (os : List Output). calm (with (setAbandonAt Never r.clocks) r.life r.flags r.input os r))
-    (each_same abandoned (λ (o : Output). o) r.outputs (λ x. unheld (outOf x r) (outOf x r).closed (outOf x r).hung_up refl refl (moot-held r m x)))
-    ∙ ap (λ (d : Deadline). swap (giveUpShown r) d r) (hidden (isMoot r) m)
+moot_streams : (r : Runner) → is_moot r ≡ true → calm (abandon_open_streams r) ≡ calm r
+unfolding abandon_open_streams
+moot_streams r m =
+    ap (λ (os : List Output). calm (with (set_abandon_at Never r.clocks) r.life r.flags r.input os r))
+    (each_same abandoned (λ (o : Output). o) r.outputs (λ x. unheld (out_of x r) (out_of x r).closed (out_of x r).hung_up refl refl (moot_held r m x)))
+    ∙ ap (λ (d : Deadline). swap (give_up_shown r) d r) (hidden (is_moot r) m)
   where
     hidden : (b : Bool) → b ≡ true → unless b Never ≡ unless b r.clocks.abandon_at
     hidden true e = refl
     hidden false e = absurd (true≢false (sym e))
 
-pub moot-drops : (b : Bool) (r : Runner) → isMoot r ≡ true → calm (cond b (dropStreams (dropLaunch r)) r) ≡ calm r
-unfolding dropStreams dropLaunch
-moot-drops false r m = refl
-moot-drops true r m =
-    let l : dropLaunch r ≡ r = rw (moot-awaits r m) in
-    let s : dropStreams r ≡ abandonOpenStreams r = rw (moot-fenced r m) in
-    ap (λ (x : Runner). calm (dropStreams x)) l ∙ ap calm s ∙ moot-streams r m
+pub moot_drops : (b : Bool) (r : Runner) → is_moot r ≡ true → calm (cond b (drop_streams (drop_launch r)) r) ≡ calm r
+unfolding drop_streams drop_launch
+moot_drops false r m = refl
+moot_drops true r m =
+    let l : drop_launch r ≡ r = rw (moot_awaits r m) in
+    let s : drop_streams r ≡ abandon_open_streams r = rw (moot_fenced r m) in
+    ap (λ (x : Runner). calm (drop_streams x)) l ∙ ap calm s ∙ moot_streams r m
 
-pass-abandonment : (now : ℕ) → Sees (λ (x : Runner). passAbandonment x now)
-unfolding passAbandonment
-pass-abandonment now r = by (isMoot r) refl
+pass_abandonment_lem : (now : ℕ) → Sees (λ (x : Runner). pass_abandonment x now)
+unfolding pass_abandonment
+pass_abandonment_lem now r = by (is_moot r) refl
   where
-    by : (m : Bool) → isMoot r ≡ m
-        → calm (cond (due (unless m r.clocks.abandon_at) now) (dropStreams (dropLaunch (calm r))) (calm r)) ≡ calm (cond (due r.clocks.abandon_at now) (dropStreams (dropLaunch r)) r)
-    by true e = still r ∙ sym (moot-drops (due r.clocks.abandon_at now) r e)
+    by : (m : Bool) → is_moot r ≡ m
+        → calm (cond (due (unless m r.clocks.abandon_at) now) (drop_streams (drop_launch (calm r))) (calm r)) ≡ calm (cond (due r.clocks.abandon_at now) (drop_streams (drop_launch r)) r)
+    by true e = still r ∙ sym (moot_drops (due r.clocks.abandon_at now) r e)
     by false e =
-        branch (due r.clocks.abandon_at now) (dropStreams (dropLaunch (calm r))) (calm r) (dropStreams (dropLaunch r)) r
-        (on dropStreams drop-streams (dropLaunch (calm r)) (dropLaunch r) (drop-launch r)) (still r)
+        branch (due r.clocks.abandon_at now) (drop_streams (drop_launch (calm r))) (calm r) (drop_streams (drop_launch r)) r
+        (on drop_streams drop_streams_lem (drop_launch (calm r)) (drop_launch r) (drop_launch_lem r)) (still r)
 
-pub abandonment-sees : (now : ℕ) (x y : Runner) → calm x ≡ calm y → calm (passAbandonment x now) ≡ calm (passAbandonment y now)
-abandonment-sees now = on (λ x. passAbandonment x now) (pass-abandonment now)
+pub abandonment_sees : (now : ℕ) (x y : Runner) → calm x ≡ calm y → calm (pass_abandonment x now) ≡ calm (pass_abandonment y now)
+abandonment_sees now = on (λ x. pass_abandonment x now) (pass_abandonment_lem now)
 
 -- ---- a tick
 
-fire-sees : (now : ℕ) → Sees (λ (x : Runner). fire x now)
+fire_sees : (now : ℕ) → Sees (λ (x : Runner). fire x now)
 unfolding fire
-fire-sees now r =
-    abandonment-sees now _ _ (on (λ x. passGiveUp x now) (pass-give-up now) _ _
-    (on (λ x. passSettlement x now) (pass-settlement now) _ _
-    (on (λ x. passGrace x now) (pass-grace now) (passTimeout (calm r) now) (passTimeout r now) (pass-timeout now r))))
+fire_sees now r =
+    abandonment_sees now _ _ (on (λ x. pass_give_up x now) (pass_give_up_lem now) _ _
+    (on (λ x. pass_settlement x now) (pass_settlement_lem now) _ _
+    (on (λ x. pass_grace x now) (pass_grace_lem now) (pass_timeout (calm r) now) (pass_timeout r now) (pass_timeout_lem now r))))
 
-pub tick-sees : (now : ℕ) → Sees (λ (x : Runner). ticked x now)
+pub tick_sees : (now : ℕ) → Sees (λ (x : Runner). ticked x now)
 unfolding ticked
-tick-sees now r = branch r.flags.finished (calm r) (fire (calm r) now) r (fire r now) (still r) (fire-sees now r)
+tick_sees now r = branch r.flags.finished (calm r) (fire (calm r) now) r (fire r now) (still r) (fire_sees now r)
 
 -- ---- the other calls that tick
 
-pub cancel-sees : (a : Admission) (now : ℕ) (c : Cause) → Sees (λ (x : Runner). cancelNext a x now c)
-unfolding cancelNext
-cancel-sees (Admission.Refused x) now c r = still r
-cancel-sees Admission.Stale now c r = still r
-cancel-sees Admission.Own now c r =
+pub cancel_sees : (a : Admission) (now : ℕ) (c : Cause) → Sees (λ (x : Runner). cancel_next a x now c)
+unfolding cancel_next
+cancel_sees (Admission.Refused x) now c r = still r
+cancel_sees Admission.Stale now c r = still r
+cancel_sees Admission.Own now c r =
     let t : Runner = ticked r now in let u : Runner = ticked (calm r) now in
-    rw (ap isLate (tick-sees now r))
-    (branch (isLate t) u (terminate u now c) t (terminate t now c) (tick-sees now r) (on (λ x. terminate x now c) (terminate-sees now c) u t (tick-sees now r)))
+    rw (ap is_late (tick_sees now r))
+    (branch (is_late t) u (terminate u now c) t (terminate t now c) (tick_sees now r) (on (λ x. terminate x now c) (terminate_sees now c) u t (tick_sees now r)))
 
-pub cancel-shows : (a : Admission) (now : ℕ) (r : Runner) → cancelAnswer a (calm r) now ≡ cancelAnswer a r now
-unfolding cancelAnswer
-cancel-shows (Admission.Refused x) now r = refl
-cancel-shows Admission.Stale now r = refl
-cancel-shows Admission.Own now r = rw (ap isLate (tick-sees now r)) refl
+pub cancel_shows : (a : Admission) (now : ℕ) (r : Runner) → cancel_answer a (calm r) now ≡ cancel_answer a r now
+unfolding cancel_answer
+cancel_shows (Admission.Refused x) now r = refl
+cancel_shows Admission.Stale now r = refl
+cancel_shows Admission.Own now r = rw (ap is_late (tick_sees now r)) refl
 
 -- an exit that counts finds nothing cleaned up, and sets the time of abandonment anew
-exit-sees : (now : ℕ) (x : MaybeStatus) → Sees (λ (z : Runner). noteExitOnce z now x)
-unfolding noteExitOnce noteExit closeRunnerInput
-exit-sees now x r = by (isOver r) refl
+exit_sees : (now : ℕ) (x : MaybeStatus) → Sees (λ (z : Runner). note_exit_once z now x)
+unfolding note_exit_once note_exit close_runner_input
+exit_sees now x r = by (is_over r) refl
   where
-    by : (b : Bool) → isOver r ≡ b → calm (cond b (calm r) (noteExit (calm r) now x)) ≡ calm (cond b r (noteExit r now x))
+    by : (b : Bool) → is_over r ≡ b → calm (cond b (calm r) (note_exit (calm r) now x)) ≡ calm (cond b r (note_exit r now x))
     by true e = still r
     by false e =
-        let t : Runner = noteExit r now x in
-        ap (λ (g : Deadline). swap g (abandonShown t) t)
-        (kept (isCleanedUp r) (isCleanedUp t) r.clocks.give_up_at (λ c. absurd (true≢false (sym (or_left (exitKnown r.life.exit) _ (clean-exit r c)) ∙ e))))
+        let t : Runner = note_exit r now x in
+        ap (λ (g : Deadline). swap g (abandon_shown t) t)
+        (kept (is_cleaned_up r) (is_cleaned_up t) r.clocks.give_up_at (λ c. absurd (true≢false (sym (or_left (exit_known r.life.exit) _ (clean_exit r c)) ∙ e))))
 
-pub exited-sees : (now : ℕ) (x : MaybeStatus) → Sees (λ (z : Runner). exitedNext z now x)
-unfolding exitedNext
-exited-sees now x r =
-    on (λ y. noteExitOnce y now x) (exit-sees now x) _ _ (on (λ y. ticked y now) (tick-sees now) (timeoutCleared (calm r)) (timeoutCleared r) (cleared-sees r))
+pub exited_sees : (now : ℕ) (x : MaybeStatus) → Sees (λ (z : Runner). exited_next z now x)
+unfolding exited_next
+exited_sees now x r =
+    on (λ y. note_exit_once y now x) (exit_sees now x) _ _ (on (λ y. ticked y now) (tick_sees now) (timeout_cleared (calm r)) (timeout_cleared r) (cleared_sees r))
 
-silenced-sees : Sees silenced
+silenced_sees : Sees silenced
 unfolding silenced
-silenced-sees r = plain r (silenced r) refl refl (λ e. e) (λ e. e)
+silenced_sees r = plain r (silenced r) refl refl (λ e. e) (λ e. e)
 
 -- the earlier of a time that is not shown and another is not shown either
-soon-sees : (now : ℕ) → Sees (λ (x : Runner). giveUpSoon x now)
-unfolding giveUpSoon
-soon-sees now r =
-    ap (λ (g : Deadline). swap g (unless (isMoot r) (abandonShown r)) r) (sooner (isCleanedUp r) r.clocks.give_up_at (after now r.timers.settlement))
-    ∙ anew r (giveUpSoon r now) refl (λ e. e)
+soon_sees : (now : ℕ) → Sees (λ (x : Runner). give_up_soon x now)
+unfolding give_up_soon
+soon_sees now r =
+    ap (λ (g : Deadline). swap g (unless (is_moot r) (abandon_shown r)) r) (sooner (is_cleaned_up r) r.clocks.give_up_at (after now r.timers.settlement))
+    ∙ anew r (give_up_soon r now) refl (λ e. e)
   where
     sooner : (c : Bool) (g x : Deadline) → unless c (earliest (unless c g) x) ≡ unless c (earliest g x)
     sooner true g x = refl
     sooner false g x = refl
 
-pub detach-sees : (now : ℕ) (c : Cause) → Sees (λ (x : Runner). detachNext x now c)
-unfolding detachNext cutOffOnce cutOff
-detach-sees now c r =
+pub detach_sees : (now : ℕ) (c : Cause) → Sees (λ (x : Runner). detach_next x now c)
+unfolding detach_next cut_off_once cut_off
+detach_sees now c r =
     let t : Runner = ticked r now in let u : Runner = ticked (calm r) now in
-    rw (ap (λ (x : Runner). x.flags.finished || x.flags.detached) (tick-sees now r))
-    (branch (t.flags.finished || t.flags.detached) u (giveUpSoon (endGrace (silenced (terminate u now c))) now) t (giveUpSoon (endGrace (silenced (terminate t now c))) now)
-    (tick-sees now r)
-    (on (λ x. giveUpSoon x now) (soon-sees now) _ _ (on endGrace grace-sees _ _
-    (on silenced silenced-sees _ _ (on (λ x. terminate x now c) (terminate-sees now c) u t (tick-sees now r))))))
+    rw (ap (λ (x : Runner). x.flags.finished || x.flags.detached) (tick_sees now r))
+    (branch (t.flags.finished || t.flags.detached) u (give_up_soon (end_grace (silenced (terminate u now c))) now) t (give_up_soon (end_grace (silenced (terminate t now c))) now)
+    (tick_sees now r)
+    (on (λ x. give_up_soon x now) (soon_sees now) _ _ (on end_grace grace_sees _ _
+    (on silenced silenced_sees _ _ (on (λ x. terminate x now c) (terminate_sees now c) u t (tick_sees now r))))))

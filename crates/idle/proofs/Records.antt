@@ -14,58 +14,58 @@ use Rattle.codec.specs.declared.Record.{Record}
 use Rattle.codec.specs.Codec.{read}
 use Rattle.runner.specs.declared.runner.Runner.{Runner}
 use Rattle.runner.specs.Calls as Calls
-use Rattle.runner.specs.Calls.{storesDo}
+use Rattle.runner.specs.Calls.{stores_do}
 use Rattle.runner.specs.Message.{MessageAfter}
-use Rattle.runner.specs.Range.{inRange, stop, bytesDo}
+use Rattle.runner.specs.Range.{in_range, stop, bytes_do}
 use Rattle.channel.specs.Calls as Channel
-use Rattle.channel.specs.Calls.{ReadAfter, WriteAfter, writeAfter, heardAs, notedAs, admitted, parsedRead, admittedRead, hasEnded, wrote, partBack, told, asked, isLeft, unwritten, sent, room, roomyWrite, admittedWrite}
+use Rattle.channel.specs.Calls.{ReadAfter, WriteAfter, write_after, heard_as, noted_as, admitted, parsed_read, admitted_read, has_ended, wrote, part_back, told, asked, is_left, unwritten, sent, room, roomy_write, admitted_write}
 use Rattle.calls.specs.Call as Call
-use Rattle.account.specs.Step.{State, onRunner, next, answer, replied, receivedAs}
-use Rattle.account.specs.Records.{Entry, call, readRecord, writeRecord, nextEntry, answerEntry, readAs}
-use Rattle.account.proofs.EachRecord.{heard-as, noted-as, leaves}
-use Rattle.idle.proofs.Calm.{calm, calmS, still}
-use Rattle.idle.proofs.Calls.{Alike, Messages, message-sees, getting, call-sees}
+use Rattle.account.specs.Step.{State, on_runner, next, answer, replied, received_as}
+use Rattle.account.specs.Records.{Entry, call, read_record, write_record, next_entry, answer_entry, read_as}
+use Rattle.account.proofs.EachRecord.{heard_as_lem, noted_as_lem, leaves}
+use Rattle.idle.proofs.Calm.{calm, calm_s, still}
+use Rattle.idle.proofs.Calls.{Alike, Messages, message_sees, getting, call_sees}
 
 -- ---- a record read
 
 abbrev Reads : ReadAfter → ReadAfter → Type 0
-Reads x y = Alike (leaves x) (readAs x.reading.answer) (leaves y) (readAs y.reading.answer)
+Reads x y = Alike (leaves x) (read_as x.reading.answer) (leaves y) (read_as y.reading.answer)
 
 -- it answers as its call does
-as-heard : {s t : State} (x y : Received) → Alike s (receivedAs x) t (receivedAs y) → Alike s (readAs (heardAs x)) t (readAs (heardAs y))
-as-heard x y k = record { left = k.left; answered = heard-as x ∙ k.answered ∙ sym (heard-as y) }
+as_heard : {s t : State} (x y : Received) → Alike s (received_as x) t (received_as y) → Alike s (read_as (heard_as x)) t (read_as (heard_as y))
+as_heard x y k = record { left = k.left; answered = heard_as_lem x ∙ k.answered ∙ sym (heard_as_lem y) }
 
-as-noted : {s t : State} (x y : Reply) → Alike s (replied x) t (replied y) → Alike s (readAs (notedAs x)) t (readAs (notedAs y))
-as-noted x y k = record { left = k.left; answered = noted-as x ∙ k.answered ∙ sym (noted-as y) }
+as_noted : {s t : State} (x y : Reply) → Alike s (replied x) t (replied y) → Alike s (read_as (noted_as x)) t (read_as (noted_as y))
+as_noted x y k = record { left = k.left; answered = noted_as_lem x ∙ k.answered ∙ sym (noted_as_lem y) }
 
-made-sees : (rec : Record) (now : ℕ) (b : List ℕ) (s : State)
+made_sees : (rec : Record) (now : ℕ) (b : List ℕ) (s : State)
     → Reads (Channel.made rec (calm s.runner) now b s.bytes s.lengths) (Channel.made rec s.runner now b s.bytes s.lengths)
 unfolding Channel.made next answer
-made-sees (Record.Adjust n) now b s =
+made_sees (Record.Adjust n) now b s =
     let r : Runner = s.runner in
-    as-heard (Calls.credit (calm r) r.key Pool.Output n).received (Calls.credit r r.key Pool.Output n).received (call-sees (Call.credit r.key Pool.Output n) s)
-made-sees (Record.Data n) now b s =
+    as_heard (Calls.credit (calm r) r.key Pool.Output n).received (Calls.credit r r.key Pool.Output n).received (call_sees (Call.credit r.key Pool.Output n) s)
+made_sees (Record.Data n) now b s =
     let r : Runner = s.runner in
-    as-heard (Calls.input (calm r) r.key (drop 9 b) s.bytes s.lengths).hearing.received (Calls.input r r.key (drop 9 b) s.bytes s.lengths).hearing.received
-    (call-sees (Call.input r.key (drop 9 b)) s)
-made-sees (Record.Extended n) now b s = getting s _
-made-sees Record.Eof now b s =
+    as_heard (Calls.input (calm r) r.key (drop 9 b) s.bytes s.lengths).hearing.received (Calls.input r r.key (drop 9 b) s.bytes s.lengths).hearing.received
+    (call_sees (Call.input r.key (drop 9 b)) s)
+made_sees (Record.Extended n) now b s = getting s _
+made_sees Record.Eof now b s =
     let r : Runner = s.runner in
-    as-heard (Calls.endInput (calm r) r.key).received (Calls.endInput r r.key).received (call-sees (Call.endInput r.key) s)
-made-sees Record.Close now b s =
-    as-noted (Calls.disconnect (calm s.runner) now).reply (Calls.disconnect s.runner now).reply (call-sees (Call.disconnect now) s)
+    as_heard (Calls.end_input (calm r) r.key).received (Calls.end_input r r.key).received (call_sees (Call.end_input r.key) s)
+made_sees Record.Close now b s =
+    as_noted (Calls.disconnect (calm s.runner) now).reply (Calls.disconnect s.runner now).reply (call_sees (Call.disconnect now) s)
 
-parsed-sees : (p : Parsed) (now : ℕ) (b : List ℕ) (s : State)
-    → Reads (parsedRead p (calm s.runner) now b s.bytes s.lengths) (parsedRead p s.runner now b s.bytes s.lengths)
-unfolding parsedRead
-parsed-sees (Parsed.Read rec) now b s = made-sees rec now b s
-parsed-sees (Parsed.Refused x) now b s = getting s _
+parsed_sees : (p : Parsed) (now : ℕ) (b : List ℕ) (s : State)
+    → Reads (parsed_read p (calm s.runner) now b s.bytes s.lengths) (parsed_read p s.runner now b s.bytes s.lengths)
+unfolding parsed_read
+parsed_sees (Parsed.Read rec) now b s = made_sees rec now b s
+parsed_sees (Parsed.Refused x) now b s = getting s _
 
-read-sees : (a : Reply) (now channel : ℕ) (b : List ℕ) (s : State)
-    → Reads (admittedRead a (calm s.runner) now channel b s.bytes s.lengths) (admittedRead a s.runner now channel b s.bytes s.lengths)
-unfolding admittedRead
-read-sees Reply.Ok now channel b s = parsed-sees (read channel b) now b s
-read-sees (Reply.Refused x) now channel b s = getting s _
+read_sees : (a : Reply) (now channel : ℕ) (b : List ℕ) (s : State)
+    → Reads (admitted_read a (calm s.runner) now channel b s.bytes s.lengths) (admitted_read a s.runner now channel b s.bytes s.lengths)
+unfolding admitted_read
+read_sees Reply.Ok now channel b s = parsed_sees (read channel b) now b s
+read_sees (Reply.Refused x) now channel b s = getting s _
 
 -- ---- a record written
 
@@ -78,44 +78,44 @@ module _ (channel : ℕ) (store buffer : List ℕ) (r : Runner) where
   -- what is written of a message, or left
   abbrev writes : Bool → MessageAfter → Runner → WriteAfter
   writes leaving x t =
-      cond leaving (writeAfter (unwritten UntoldStatus t) buffer)
-      (told x.saying (hasEnded t) channel (partBack t.limits.chunk buffer x.buffer))
+      cond leaving (write_after (unwritten UntoldStatus t) buffer)
+      (told x.saying (has_ended t) channel (part_back t.limits.chunk buffer x.buffer))
 
-  writes-alike : (b : Bool) (x y : MessageAfter) → Messages x y → Writes (writes b x (calm r)) (writes b y r)
+  writes_alike : (b : Bool) (x y : MessageAfter) → Messages x y → Writes (writes b x (calm r)) (writes b y r)
   unfolding told
-  writes-alike true x y m = record { runner = still r; wrote = refl; buffer = refl }
-  writes-alike false x y m = record {
+  writes_alike true x y m = record { runner = still r; wrote = refl; buffer = refl }
+  writes_alike false x y m = record {
     runner = m.runner;
-    wrote = ap (wrote channel (hasEnded r)) m.said;
+    wrote = ap (wrote channel (has_ended r)) m.said;
     buffer = rw (m.said, m.buffer) refl;
   }
 
-  sent-sees : Writes (sent (calm r) channel store buffer) (sent r channel store buffer)
-  unfolding sent asked Calls.nextMessage stop inRange
-  sent-sees =
-      let m = message-sees (stop r (bytesDo r.limits store)) r store (take r.limits.chunk (drop 13 buffer)) in
-      subst (λ (b : Bool). Writes (writes b (asked (calm r) store buffer) (calm r)) (writes (isLeft (asked r store buffer).saying.said) (asked r store buffer) r))
-      (sym (ap isLeft m.said)) (writes-alike (isLeft (asked r store buffer).saying.said) (asked (calm r) store buffer) (asked r store buffer) m)
+  sent_sees : Writes (sent (calm r) channel store buffer) (sent r channel store buffer)
+  unfolding sent asked Calls.next_message stop in_range
+  sent_sees =
+      let m = message_sees (stop r (bytes_do r.limits store)) r store (take r.limits.chunk (drop 13 buffer)) in
+      subst (λ (b : Bool). Writes (writes b (asked (calm r) store buffer) (calm r)) (writes (is_left (asked r store buffer).saying.said) (asked r store buffer) r))
+      (sym (ap is_left m.said)) (writes_alike (is_left (asked r store buffer).saying.said) (asked (calm r) store buffer) (asked r store buffer) m)
 
-  write-sees : (a : Reply) → Writes (admittedWrite a (calm r) channel store buffer) (admittedWrite a r channel store buffer)
-  unfolding admittedWrite roomyWrite
-  write-sees Reply.Ok = by (leb (room r.limits) (length buffer))
+  write_sees : (a : Reply) → Writes (admitted_write a (calm r) channel store buffer) (admitted_write a r channel store buffer)
+  unfolding admitted_write roomy_write
+  write_sees Reply.Ok = by (leb (room r.limits) (length buffer))
     where
-      by : (b : Bool) → Writes (cond b (sent (calm r) channel store buffer) (writeAfter (unwritten BufferShort (calm r)) buffer)) (cond b (sent r channel store buffer) (writeAfter (unwritten BufferShort r) buffer))
-      by true = sent-sees
+      by : (b : Bool) → Writes (cond b (sent (calm r) channel store buffer) (write_after (unwritten BufferShort (calm r)) buffer)) (cond b (sent r channel store buffer) (write_after (unwritten BufferShort r) buffer))
+      by true = sent_sees
       by false = record { runner = still r; wrote = refl; buffer = refl }
-  write-sees (Reply.Refused x) = record { runner = still r; wrote = refl; buffer = refl }
+  write_sees (Reply.Refused x) = record { runner = still r; wrote = refl; buffer = refl }
 
-  pub record-sees : Writes (Channel.writeRecord (calm r) channel store buffer) (Channel.writeRecord r channel store buffer)
-  unfolding Channel.writeRecord admitted stop inRange
-  record-sees = write-sees (admitted r (bytesDo r.limits store))
+  pub record_sees : Writes (Channel.write_record (calm r) channel store buffer) (Channel.write_record r channel store buffer)
+  unfolding Channel.write_record admitted stop in_range
+  record_sees = write_sees (admitted r (bytes_do r.limits store))
 
 -- ---- an entry
 
-pub entry-sees : (e : Entry) (s : State) → Alike (nextEntry (calmS s) e) (answerEntry (calmS s) e) (nextEntry s e) (answerEntry s e)
-unfolding nextEntry answerEntry Channel.readRecord admitted stop inRange
-entry-sees (call c) s = call-sees c s
-entry-sees (readRecord now channel b) s = read-sees (admitted s.runner (storesDo s.runner s.bytes s.lengths)) now channel b s
-entry-sees (writeRecord channel buffer) s =
-    let w = record-sees channel s.bytes buffer s.runner in
-    record { left = ap (λ (z : Runner). onRunner z s) w.runner; answered = rw (w.wrote, w.buffer) refl }
+pub entry_sees : (e : Entry) (s : State) → Alike (next_entry (calm_s s) e) (answer_entry (calm_s s) e) (next_entry s e) (answer_entry s e)
+unfolding next_entry answer_entry Channel.read_record admitted stop in_range
+entry_sees (call c) s = call_sees c s
+entry_sees (read_record now channel b) s = read_sees (admitted s.runner (stores_do s.runner s.bytes s.lengths)) now channel b s
+entry_sees (write_record channel buffer) s =
+    let w = record_sees channel s.bytes buffer s.runner in
+    record { left = ap (λ (z : Runner). on_runner z s) w.runner; answered = rw (w.wrote, w.buffer) refl }

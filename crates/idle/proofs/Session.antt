@@ -13,12 +13,12 @@ use Rattle.exec.specs.declared.Settlement as Settlements
 use Rattle.exec.specs.declared.Settlement.TheVariants as Settlement
 use Rattle.exec.specs.declared.Stream.TheVariants.{Stdout, Stderr}
 use Rattle.exec.specs.Key.{admits}
-use Rattle.exec.specs.Limits.{cost, bytesWith, bytesWindow, limitsFor}
-use Rattle.ring.specs.Ring.{wrap, ringRead, ringFrom, ringWrite}
+use Rattle.exec.specs.Limits.{cost, bytes_with, bytes_window, limits_for}
+use Rattle.ring.specs.Ring.{wrap, ring_read, ring_from, ring_write}
 use Rattle.ring.specs.Runs.{copied}
-use Rattle.octets.specs.Bytes.{numberAt, be32At}
-use Rattle.choice.specs.Order.{ifElse, order}
-use Rattle.output.specs.Output.{outputFits}
+use Rattle.octets.specs.Bytes.{number_at, be32_at}
+use Rattle.choice.specs.Order.{if_else, order}
+use Rattle.output.specs.Output.{output_fits}
 use Rattle.codec.specs.Codec as Codec
 use Rattle.runner.specs.Calls as Calls
 use Rattle.runner.specs.Life as Life
@@ -30,18 +30,18 @@ use Rattle.calls.specs.Call as Call
 use Rattle.calls.specs.Call.{Conf, Call, Answer}
 use Rattle.account.specs.Step as Step
 use Rattle.account.specs.Step.{State}
-use Rattle.account.specs.Records.{EntryDone, call, nextEntry, answerEntry, afterEntries, runEntries}
+use Rattle.account.specs.Records.{EntryDone, call, next_entry, answer_entry, after_entries, run_entries}
 use Rattle.account.proofs.TurnSession.{channel, zeros, written, adjust}
 use Rattle.idle.specs.IdleClaim.{Woven, made, idle, alone, woven, amid, AllIdle}
-use Rattle.idle.specs.PollClaim.{Beat, polled, afterTicks, atEveryInstant, atDeadlines}
-use Rattle.idle.proofs.Idle.{idleTicks}
+use Rattle.idle.specs.PollClaim.{Beat, polled, after_ticks, at_every_instant, at_deadlines}
+use Rattle.idle.proofs.Idle.{idle_ticks}
 use Rattle.idle.proofs.Polls.{polls}
 
 -- chunks of one byte, windows of one byte
 abbrev timed : MaybeDuration → (grace settlement : ℕ) → Conf
 timed timeout grace settlement = record {
   key = record { id = 7; generation = 2 };
-  limits = limitsFor 1 (bytesWindow 1) (bytesWindow 1) false;
+  limits = limits_for 1 (bytes_window 1) (bytes_window 1) false;
   timers = record { timeout = timeout; grace = grace; settlement = settlement };
 }
 
@@ -49,8 +49,8 @@ timed timeout grace settlement = record {
 abbrev begins : Conf → State
 begins conf = Step.opened conf 0 (0 ∷ 0 ∷ 0 ∷ []) []
 
-abbrev answersOf : List EntryDone → List Answer
-answersOf ds = map (λ (d : EntryDone). d.answer) ds
+abbrev answers_of : List EntryDone → List Answer
+answers_of ds = map (λ (d : EntryDone). d.answer) ds
 
 -- ---- ticks put in, between two answers and at the edge of the deadline
 
@@ -73,27 +73,27 @@ between = idle 0
     ∷ made (call Call.buffered)
     ∷ []
 
-pub between-idle : AllIdle (begins short) between
-    × (answersOf (amid (begins short) between) ≡ Call.Ok ∷ Call.Taken 1 ∷ Call.Time (At 10) ∷ Call.Value 1 ∷ [])
-unfolding Step.next Step.answer nextEntry answerEntry Calls.«open» Calls.launched Calls.output Calls.tick Calls.deadline Calls.buffered Range.fresh Range.stop Range.inRange outputFits bytesWith wrap ringWrite copied Life.passGrace Life.passTimeout Life.passSettlement Life.passGiveUp Life.passAbandonment Life.fire Life.ticked Life.deadlineOf Life.noteStarted Life.noteLaunch Life.launchedNext Streams.outputTaken Streams.outputNext Streams.outputStore Streams.outputTook
-between-idle = ((refl, (refl, (refl, (refl, tt)))), refl)
+pub between_idle : AllIdle (begins short) between
+    × (answers_of (amid (begins short) between) ≡ Call.Ok ∷ Call.Taken 1 ∷ Call.Time (At 10) ∷ Call.Value 1 ∷ [])
+unfolding Step.next Step.answer next_entry answer_entry Calls.«open» Calls.launched Calls.output Calls.tick Calls.deadline Calls.buffered Range.fresh Range.stop Range.in_range output_fits bytes_with wrap ring_write copied Life.pass_grace Life.pass_timeout Life.pass_settlement Life.pass_give_up Life.pass_abandonment Life.fire Life.ticked Life.deadline_of Life.note_started Life.note_launch Life.launched_next Streams.output_taken Streams.output_next Streams.output_store Streams.output_took
+between_idle = ((refl, (refl, (refl, (refl, tt)))), refl)
 
 -- and the first run, without them
-pub between-alone : answersOf (runEntries (begins short) (alone between)) ≡ Call.Ok ∷ Call.Taken 1 ∷ Call.Time (At 10) ∷ Call.Value 1 ∷ []
-between-alone = ap answersOf (sym ((idleTicks short 0 (0 ∷ 0 ∷ 0 ∷ []) []).answers between between-idle.0)) ∙ between-idle.1
+pub between_alone : answers_of (run_entries (begins short) (alone between)) ≡ Call.Ok ∷ Call.Taken 1 ∷ Call.Time (At 10) ∷ Call.Value 1 ∷ []
+between_alone = ap answers_of (sym ((idle_ticks short 0 (0 ∷ 0 ∷ 0 ∷ []) []).answers between between_idle.0)) ∙ between_idle.1
 
 -- none is reported: a tick at the last instant; and on a refused open, where tick and deadline are refused alike
-abbrev atLast : List Woven
-atLast = idle 18446744073709551615 ∷ made (call (Call.tick 18446744073709551615)) ∷ made (call Call.deadline) ∷ []
+abbrev at_last : List Woven
+at_last = idle 18446744073709551615 ∷ made (call (Call.tick 18446744073709551615)) ∷ made (call Call.deadline) ∷ []
 
-pub none-idle : (AllIdle (begins none) atLast × (answersOf (amid (begins none) atLast) ≡ Call.Ok ∷ Call.Time Never ∷ []))
-    × (AllIdle (Step.opened short 0 [] []) atLast × (answersOf (amid (Step.opened short 0 [] []) atLast) ≡ Call.Refused 10 ∷ Call.Refused 10 ∷ []))
-unfolding Step.next Step.answer nextEntry answerEntry Calls.«open» Calls.tick Calls.deadline Range.fresh Range.stop Range.inRange outputFits bytesWith Life.passGrace Life.passTimeout Life.passSettlement Life.passGiveUp Life.passAbandonment Life.fire Life.ticked Life.deadlineOf
-none-idle = (((refl, tt), refl), ((refl, tt), refl))
+pub none_idle : (AllIdle (begins none) at_last × (answers_of (amid (begins none) at_last) ≡ Call.Ok ∷ Call.Time Never ∷ []))
+    × (AllIdle (Step.opened short 0 [] []) at_last × (answers_of (amid (Step.opened short 0 [] []) at_last) ≡ Call.Refused 10 ∷ Call.Refused 10 ∷ []))
+unfolding Step.next Step.answer next_entry answer_entry Calls.«open» Calls.tick Calls.deadline Range.fresh Range.stop Range.in_range output_fits bytes_with Life.pass_grace Life.pass_timeout Life.pass_settlement Life.pass_give_up Life.pass_abandonment Life.fire Life.ticked Life.deadline_of
+none_idle = (((refl, tt), refl), ((refl, tt), refl))
 
 -- the same on a channel: a record read, and three written into 43 bytes; no deadline is reported
-abbrev onChannel : List Woven
-onChannel = made (call (Call.launched LaunchResult.Started))
+abbrev on_channel : List Woven
+on_channel = made (call (Call.launched LaunchResult.Started))
     ∷ made adjust
     ∷ idle 1000
     ∷ made (call (Call.output Stdout (97 ∷ 98 ∷ 99 ∷ [])))
@@ -104,11 +104,11 @@ onChannel = made (call (Call.launched LaunchResult.Started))
     ∷ made written
     ∷ []
 
-pub channel-idle : AllIdle (Step.opened channel 0 (zeros 16) []) onChannel
-    × (answersOf (amid (Step.opened channel 0 (zeros 16) []) onChannel)
+pub channel_idle : AllIdle (Step.opened channel 0 (zeros 16) []) on_channel
+    × (answers_of (amid (Step.opened channel 0 (zeros 16) []) on_channel)
     ≡ Call.Ok ∷ Call.Applied ∷ Call.Taken 3 ∷ Call.Says (Call.Credit 8) ∷ Call.Says Call.Started ∷ Call.Says (Call.Output Stdout (97 ∷ 98 ∷ 99 ∷ [])) ∷ [])
-unfolding Step.next Step.answer nextEntry answerEntry Calls.«open» Calls.launched Calls.output Calls.tick Calls.deadline Calls.nextMessage Calls.credit Range.fresh Range.stop Range.inRange outputFits bytesWith admits cost wrap ringRead ringFrom ringWrite copied ifElse order Life.passGrace Life.passTimeout Life.passSettlement Life.passGiveUp Life.passAbandonment Life.fire Life.ticked Life.deadlineOf Life.noteStarted Life.noteLaunch Life.launchedNext Life.isReady Life.outcomeOf Message.sendableOf Message.choose Message.outputPaid Message.outputSent Message.effect Message.payload Message.bufferAfter Message.saidFor Streams.outputTaken Streams.outputNext Streams.outputStore Streams.outputTook Streams.creditIn Streams.creditAnswer Streams.creditNext numberAt be32At Channel.admitted Channel.made Channel.parsedRead Channel.admittedRead Channel.readRecord Channel.sentAs Channel.sentBuffer Channel.wrote Channel.wroteBuffer Channel.told Channel.asked Channel.isLeft Channel.sent Channel.roomyWrite Channel.admittedWrite Channel.writeRecord Codec.header Codec.bytesOf Codec.laidRecord Codec.kinded Codec.fitting Codec.checked Codec.read
-channel-idle = ((refl, (refl, (refl, tt))), refl)
+unfolding Step.next Step.answer next_entry answer_entry Calls.«open» Calls.launched Calls.output Calls.tick Calls.deadline Calls.next_message Calls.credit Range.fresh Range.stop Range.in_range output_fits bytes_with admits cost wrap ring_read ring_from ring_write copied if_else order Life.pass_grace Life.pass_timeout Life.pass_settlement Life.pass_give_up Life.pass_abandonment Life.fire Life.ticked Life.deadline_of Life.note_started Life.note_launch Life.launched_next Life.is_ready Life.outcome_of Message.sendable_of Message.choose Message.output_paid Message.output_sent Message.effect Message.payload Message.buffer_after Message.said_for Streams.output_taken Streams.output_next Streams.output_store Streams.output_took Streams.credit_in Streams.credit_answer Streams.credit_next number_at be32_at Channel.admitted Channel.made Channel.parsed_read Channel.admitted_read Channel.read_record Channel.sent_as Channel.sent_buffer Channel.wrote Channel.wrote_buffer Channel.told Channel.asked Channel.is_left Channel.sent Channel.roomy_write Channel.admitted_write Channel.write_record Codec.header Codec.bytes_of Codec.laid_record Codec.kinded Codec.fitting Codec.checked Codec.read
+channel_idle = ((refl, (refl, (refl, tt))), refl)
 
 -- ---- what a tick put in may move: two timers that no answer shows, so that the two runs do not end in the same state
 
@@ -116,8 +116,8 @@ abbrev ended : Settlements.Settlement → List Woven → List Woven
 ended result ws = made (call (Call.launched LaunchResult.Started))
     ∷ made (call (Call.exited 0 MaybeStatus.None))
     ∷ made (call (Call.settled result))
-    ∷ made (call (Call.outputClosed Stdout))
-    ∷ made (call (Call.outputClosed Stderr))
+    ∷ made (call (Call.output_closed Stdout))
+    ∷ made (call (Call.output_closed Stderr))
     ∷ ws
 
 -- an abandonment that finds nothing to abandon
@@ -129,24 +129,24 @@ abbrev clean : List Woven
 clean = ended Settlement.Settled (made (call (Call.cancel 0 (record { id = 7; generation = 2 }) Cause.Cancelled)) ∷ idle 0 ∷ [])
 
 unseen : (AllIdle (begins none) fenced
-    × ((afterEntries (begins none) (alone fenced)).runner.clocks.abandon_at ≡ At 0)
-    × ((afterEntries (begins none) (woven fenced)).runner.clocks.abandon_at ≡ Never))
+    × ((after_entries (begins none) (alone fenced)).runner.clocks.abandon_at ≡ At 0)
+    × ((after_entries (begins none) (woven fenced)).runner.clocks.abandon_at ≡ Never))
     × (AllIdle (begins none) clean
-    × ((afterEntries (begins none) (alone clean)).runner.clocks.give_up_at ≡ At 0)
-    × ((afterEntries (begins none) (woven clean)).runner.clocks.give_up_at ≡ Never))
-unfolding Step.next Step.answer nextEntry Calls.«open» Calls.launched Calls.exited Calls.settled Calls.outputClosed Calls.cancel Calls.tick Calls.deadline Range.fresh Range.stop Range.inRange outputFits bytesWith admits Life.closeRunnerInput Life.endGrace Life.beginTermination Life.terminate Life.abandonOpenStreams Life.passGrace Life.passTimeout Life.passSettlement Life.giveUpUnlessClean Life.passGiveUp Life.dropLaunch Life.dropStreams Life.passAbandonment Life.fire Life.ticked Life.deadlineOf Life.cancelNext Life.noteStarted Life.noteLaunch Life.launchedNext Life.noteExit Life.noteExitOnce Life.exitedNext Life.settledNext Streams.closedNext
+    × ((after_entries (begins none) (alone clean)).runner.clocks.give_up_at ≡ At 0)
+    × ((after_entries (begins none) (woven clean)).runner.clocks.give_up_at ≡ Never))
+unfolding Step.next Step.answer next_entry Calls.«open» Calls.launched Calls.exited Calls.settled Calls.output_closed Calls.cancel Calls.tick Calls.deadline Range.fresh Range.stop Range.in_range output_fits bytes_with admits Life.close_runner_input Life.end_grace Life.begin_termination Life.terminate Life.abandon_open_streams Life.pass_grace Life.pass_timeout Life.pass_settlement Life.give_up_unless_clean Life.pass_give_up Life.drop_launch Life.drop_streams Life.pass_abandonment Life.fire Life.ticked Life.deadline_of Life.cancel_next Life.note_started Life.note_launch Life.launched_next Life.note_exit Life.note_exit_once Life.exited_next Life.settled_next Streams.closed_next
 unseen = (((refl, tt), refl, refl), ((refl, tt), refl, refl))
 
-abbrev isNever : Deadline → Bool
-isNever Never = true
-isNever (At d) = false
+abbrev is_never : Deadline → Bool
+is_never Never = true
+is_never (At d) = false
 
 -- equal states would be false, though every answer is alike; and neither timer is reported, which would wake a host for nothing
-pub moves-unseen : (AllIdle (begins none) fenced × (afterEntries (begins none) (woven fenced) ≡ afterEntries (begins none) (alone fenced) → ⊥))
-    × (AllIdle (begins none) clean × (afterEntries (begins none) (woven clean) ≡ afterEntries (begins none) (alone clean) → ⊥))
-moves-unseen = (
-  (unseen.0.0, λ e. true≢false (ap isNever (sym unseen.0.2 ∙ ap (λ (s : State). s.runner.clocks.abandon_at) e ∙ unseen.0.1))),
-  (unseen.1.0, λ e. true≢false (ap isNever (sym unseen.1.2 ∙ ap (λ (s : State). s.runner.clocks.give_up_at) e ∙ unseen.1.1))),
+pub moves_unseen : (AllIdle (begins none) fenced × (after_entries (begins none) (woven fenced) ≡ after_entries (begins none) (alone fenced) → ⊥))
+    × (AllIdle (begins none) clean × (after_entries (begins none) (woven clean) ≡ after_entries (begins none) (alone clean) → ⊥))
+moves_unseen = (
+  (unseen.0.0, λ e. true≢false (ap is_never (sym unseen.0.2 ∙ ap (λ (s : State). s.runner.clocks.abandon_at) e ∙ unseen.0.1))),
+  (unseen.1.0, λ e. true≢false (ap is_never (sym unseen.1.2 ∙ ap (λ (s : State). s.runner.clocks.give_up_at) e ∙ unseen.1.1))),
 )
 
 -- ---- each deadline from both sides, by a host that asks for it and for what the timer does
@@ -154,8 +154,8 @@ moves-unseen = (
 -- a timeout at 10, grace to 15, give-up at 18
 abbrev seen : List ℕ → (clock : ℕ) → List Beat
 seen ticks clock = record { ticks = ticks; clock = clock; entry = call Call.deadline }
-    ∷ record { ticks = []; clock = clock; entry = call Call.nextRequest }
-    ∷ record { ticks = []; clock = clock; entry = call (Call.readAllowance Stdout) }
+    ∷ record { ticks = []; clock = clock; entry = call Call.next_request }
+    ∷ record { ticks = []; clock = clock; entry = call (Call.read_allowance Stdout) }
     ∷ []
 
 -- no timeout; an exit at 5, settlement to 8, abandonment at 13
@@ -163,63 +163,63 @@ abbrev left : List ℕ → (clock : ℕ) → List Beat
 left ticks clock = record { ticks = []; clock = 5; entry = call (Call.launched LaunchResult.Started) }
     ∷ record { ticks = []; clock = 5; entry = call (Call.exited 5 MaybeStatus.None) }
     ∷ record { ticks = ticks; clock = clock; entry = call Call.deadline }
-    ∷ record { ticks = []; clock = clock; entry = call Call.awaitsSettlement }
-    ∷ record { ticks = []; clock = clock; entry = call (Call.readAllowance Stdout) }
+    ∷ record { ticks = []; clock = clock; entry = call Call.awaits_settlement }
+    ∷ record { ticks = []; clock = clock; entry = call (Call.read_allowance Stdout) }
     ∷ []
 
 abbrev told : List ℕ → (clock : ℕ) → List Answer
-told ticks clock = answersOf (amid (begins short) (polled (seen ticks clock)))
+told ticks clock = answers_of (amid (begins short) (polled (seen ticks clock)))
 
-abbrev toldLeft : List ℕ → (clock : ℕ) → List Answer
-toldLeft ticks clock = answersOf (amid (begins (timed MaybeDuration.None 5 3)) (polled (left ticks clock)))
+abbrev told_left : List ℕ → (clock : ℕ) → List Answer
+told_left ticks clock = answers_of (amid (begins (timed MaybeDuration.None 5 3)) (polled (left ticks clock)))
 
-abbrev toldOf : MaybeDuration → ℕ → List Answer
-toldOf timeout tick = answersOf (amid (begins (timed timeout 1 0)) (polled (seen (tick ∷ []) tick)))
+abbrev told_of : MaybeDuration → ℕ → List Answer
+told_of timeout tick = answers_of (amid (begins (timed timeout 1 0)) (polled (seen (tick ∷ []) tick)))
 
 -- cancelled at 12 besides, so that grace ends at 17 and give-up comes at 20; and the next request then
 abbrev lately : List ℕ → Answer
 lately ticks =
-    Step.answer (afterTicks (afterEntries (begins (timed MaybeDuration.None 5 3)) (call (Call.launched LaunchResult.Started)
+    Step.answer (after_ticks (after_entries (begins (timed MaybeDuration.None 5 3)) (call (Call.launched LaunchResult.Started)
     ∷ call (Call.exited 5 MaybeStatus.None)
     ∷ call (Call.cancel 12 (record { id = 7; generation = 2 }) Cause.Cancelled)
-    ∷ [])) ticks) Call.nextRequest
+    ∷ [])) ticks) Call.next_request
 
 abbrev running : List Answer
 running = Call.Time (At 10) ∷ Call.Nothing ∷ Call.Value 1 ∷ []
 
 -- the timeout has come
-abbrev timedOut : Deadline → (allowance : ℕ) → List Answer
-timedOut next allowance = Call.Time next ∷ Call.Asks (Call.Terminate Cause.TimedOut) ∷ Call.Value allowance ∷ []
+abbrev timed_out : Deadline → (allowance : ℕ) → List Answer
+timed_out next allowance = Call.Time next ∷ Call.Asks (Call.Terminate Cause.TimedOut) ∷ Call.Value allowance ∷ []
 
 abbrev after : Deadline → (awaited : Bool) (allowance : ℕ) → List Answer
 after next awaited allowance = Call.Ok ∷ Call.Ok ∷ Call.Time next ∷ Call.Truth awaited ∷ Call.Value allowance ∷ []
 
 pub record Computed : Type 0 where
   -- by a clock at 9: no tick, and one before the deadline, are alike; one at the deadline is not, as it is later than the clock
-  pub before-it : (told [] 9 ≡ running) × (told (9 ∷ []) 9 ≡ running) × (told (10 ∷ []) 9 ≡ timedOut (At 15) 1)
+  pub before_it : (told [] 9 ≡ running) × (told (9 ∷ []) 9 ≡ running) × (told (10 ∷ []) 9 ≡ timed_out (At 15) 1)
   -- by a clock at 11: a tick at the deadline is in time; none, and one that is later than the deadline, are not
-  pub after-it : (told (10 ∷ []) 11 ≡ timedOut (At 15) 1) × (told [] 11 ≡ running) × (told (11 ∷ []) 11 ≡ timedOut (At 16) 1)
+  pub after_it : (told (10 ∷ []) 11 ≡ timed_out (At 15) 1) × (told [] 11 ≡ running) × (told (11 ∷ []) 11 ≡ timed_out (At 16) 1)
   -- the end of grace and give-up, each before it and at it
-  pub grace : (told (10 ∷ 14 ∷ []) 14 ≡ timedOut (At 15) 1) × (told (10 ∷ 15 ∷ []) 15 ≡ timedOut (At 18) 0)
-  pub give-up : (told (10 ∷ 15 ∷ 17 ∷ []) 17 ≡ timedOut (At 18) 0) × (told (10 ∷ 15 ∷ 18 ∷ []) 18 ≡ timedOut Never 0)
+  pub grace : (told (10 ∷ 14 ∷ []) 14 ≡ timed_out (At 15) 1) × (told (10 ∷ 15 ∷ []) 15 ≡ timed_out (At 18) 0)
+  pub give_up_lem : (told (10 ∷ 15 ∷ 17 ∷ []) 17 ≡ timed_out (At 18) 0) × (told (10 ∷ 15 ∷ 18 ∷ []) 18 ≡ timed_out Never 0)
   -- settlement and abandonment likewise
-  pub settlement : (toldLeft [] 7 ≡ after (At 8) true 1) × (toldLeft (7 ∷ []) 7 ≡ after (At 8) true 1) × (toldLeft (8 ∷ []) 8 ≡ after (At 13) false 1)
-  pub abandonment : (toldLeft (8 ∷ 12 ∷ []) 12 ≡ after (At 13) false 1) × (toldLeft (8 ∷ 13 ∷ []) 13 ≡ after Never false 0)
+  pub settlement : (told_left [] 7 ≡ after (At 8) true 1) × (told_left (7 ∷ []) 7 ≡ after (At 8) true 1) × (told_left (8 ∷ []) 8 ≡ after (At 13) false 1)
+  pub abandonment : (told_left (8 ∷ 12 ∷ []) 12 ≡ after (At 13) false 1) × (told_left (8 ∷ 13 ∷ []) 13 ≡ after Never false 0)
   -- a timeout of 0, and one at the last instant, after which no grace can end
-  pub ends : (toldOf (MaybeDuration.Some 0) 0 ≡ timedOut (At 1) 1) × (toldOf (MaybeDuration.Some 18446744073709551615) 18446744073709551614 ≡ Call.Time (At 18446744073709551615) ∷ Call.Nothing ∷ Call.Value 1 ∷ [])
-      × (toldOf (MaybeDuration.Some 18446744073709551615) 18446744073709551615 ≡ timedOut Never 1)
+  pub ends : (told_of (MaybeDuration.Some 0) 0 ≡ timed_out (At 1) 1) × (told_of (MaybeDuration.Some 18446744073709551615) 18446744073709551614 ≡ Call.Time (At 18446744073709551615) ∷ Call.Nothing ∷ Call.Value 1 ∷ [])
+      × (told_of (MaybeDuration.Some 18446744073709551615) 18446744073709551615 ≡ timed_out Never 1)
   -- who ticks at the reported deadlines alone ticks at these
-  pub deadlines : atDeadlines (begins short) (seen [] 100) ≡ seen (10 ∷ 15 ∷ 18 ∷ []) 100
+  pub deadlines : at_deadlines (begins short) (seen [] 100) ≡ seen (10 ∷ 15 ∷ 18 ∷ []) 100
   -- late ticks differ for other timers too: abandonment at 13 closes the streams before grace ends at 17, which then has none to discard
   pub late : (lately (13 ∷ 17 ∷ 20 ∷ []) ≡ Call.Nothing) × (lately (20 ∷ []) ≡ Call.Asks (Call.Discard Stdout))
 
 pub computed : Computed
-unfolding Step.next Step.answer nextEntry answerEntry Calls.«open» Calls.tick Calls.deadline Calls.nextRequest Calls.launched Calls.exited Calls.cancel Calls.awaitsSettlement Calls.readAllowance Range.fresh Range.stop Range.inRange outputFits bytesWith admits Life.closeRunnerInput Life.endGrace Life.giveUp Life.abandonLaunch Life.abandonOpenStreams Life.beginTermination Life.terminate Life.passGrace Life.passTimeout Life.passSettlement Life.giveUpUnlessClean Life.passGiveUp Life.dropLaunch Life.dropStreams Life.passAbandonment Life.fire Life.ticked Life.deadlineOf Life.cancelNext Life.noteStarted Life.noteLaunch Life.launchedNext Life.noteExit Life.noteExitOnce Life.exitedNext Streams.readAllowanceOf Message.wishFor Message.wish Message.wishEffect
+unfolding Step.next Step.answer next_entry answer_entry Calls.«open» Calls.tick Calls.deadline Calls.next_request Calls.launched Calls.exited Calls.cancel Calls.awaits_settlement Calls.read_allowance Range.fresh Range.stop Range.in_range output_fits bytes_with admits Life.close_runner_input Life.end_grace Life.give_up Life.abandon_launch Life.abandon_open_streams Life.begin_termination Life.terminate Life.pass_grace Life.pass_timeout Life.pass_settlement Life.give_up_unless_clean Life.pass_give_up Life.drop_launch Life.drop_streams Life.pass_abandonment Life.fire Life.ticked Life.deadline_of Life.cancel_next Life.note_started Life.note_launch Life.launched_next Life.note_exit Life.note_exit_once Life.exited_next Streams.read_allowance_of Message.wish_for Message.wish Message.wish_effect
 computed = record {
-  before-it = (refl, refl, refl);
-  after-it = (refl, refl, refl);
+  before_it = (refl, refl, refl);
+  after_it = (refl, refl, refl);
   grace = (refl, refl);
-  give-up = (refl, refl);
+  give_up_lem = (refl, refl);
   settlement = (refl, refl, refl);
   abandonment = (refl, refl);
   ends = (refl, refl, refl);
@@ -228,6 +228,6 @@ computed = record {
 }
 
 -- so that is what one hears who ticks at every instant from 0 to 100
-pub at-instants : answersOf (amid (begins short) (polled (atEveryInstant (seen [] 100)))) ≡ told (10 ∷ 15 ∷ 18 ∷ []) 100
-at-instants =
-    ap answersOf (sym ((polls short 0 (0 ∷ 0 ∷ 0 ∷ []) []).both (seen [] 100))) ∙ ap (λ (bs : List Beat). answersOf (amid (begins short) (polled bs))) computed.deadlines
+pub at_instants : answers_of (amid (begins short) (polled (at_every_instant (seen [] 100)))) ≡ told (10 ∷ 15 ∷ 18 ∷ []) 100
+at_instants =
+    ap answers_of (sym ((polls short 0 (0 ∷ 0 ∷ 0 ∷ []) []).both (seen [] 100))) ∙ ap (λ (bs : List Beat). answers_of (amid (begins short) (polled bs))) computed.deadlines

@@ -11,26 +11,26 @@ use Rattle.exec.specs.declared.Cause.TheVariants.{TimedOut}
 use Rattle.exec.specs.Time.{earliest, due}
 use Rattle.lifecycle.specs.declared.life.Settling.{Settling}
 use Rattle.lifecycle.specs.declared.life.Settling.TheVariants.{Idle, Requested, Settled, Fenced}
-use Rattle.lifecycle.specs.Clocks.{firstOf}
-use Rattle.lifecycle.specs.Life.{launchKnown, isFenced, settlingLate, expired, expired-in-time, expectedBy}
-use Rattle.lifecycle.specs.Setters.{setGiveUpAt, setSettling}
-use Rattle.output.specs.Outputs.{anyHeld}
+use Rattle.lifecycle.specs.Clocks.{first_of}
+use Rattle.lifecycle.specs.Life.{launch_known, is_fenced, settling_late, expired, expired_in_time, expected_by}
+use Rattle.lifecycle.specs.Setters.{set_give_up_at, set_settling}
+use Rattle.output.specs.Outputs.{any_held}
 use Rattle.runner.specs.declared.runner.Runner.{Runner}
-use Rattle.runner.specs.Life.{awaitsLaunch, isCleanedUp, endGrace, giveUp, abandonLaunch, abandonOpenStreams, beginTermination, passGrace, terminate, passTimeout, passSettlement, giveUpUnlessClean, passGiveUp, dropLaunch, dropStreams, passAbandonment, fire, ticked, deadlineOf, timeoutCleared}
-use Rattle.runner.specs.State.{withClocks, withLife}
+use Rattle.runner.specs.Life.{awaits_launch, is_cleaned_up, end_grace, give_up, abandon_launch, abandon_open_streams, begin_termination, pass_grace, terminate, pass_timeout, pass_settlement, give_up_unless_clean, pass_give_up, drop_launch, drop_streams, pass_abandonment, fire, ticked, deadline_of, timeout_cleared}
+use Rattle.runner.specs.State.{with_clocks, with_life}
 use Rattle.account.proofs.Flags.{either, and_both}
-use Rattle.idle.proofs.Calm.{calm, false-not}
-use Rattle.idle.proofs.Passes.{given-clean, moot-drops, abandonment-sees}
+use Rattle.idle.proofs.Calm.{calm, false_not}
+use Rattle.idle.proofs.Passes.{given_clean, moot_drops, abandonment_sees}
 
 -- the earlier of two is due where one of them is
-earliest-due : (a b : Deadline) (now : ℕ) → due (earliest a b) now ≡ (due a now || due b now)
-earliest-due Never b now = refl
-earliest-due (At a) Never now = sym (or-none (leb a now))
+earliest_due : (a b : Deadline) (now : ℕ) → due (earliest a b) now ≡ (due a now || due b now)
+earliest_due Never b now = refl
+earliest_due (At a) Never now = sym (or_none (leb a now))
   where
-    or-none : (x : Bool) → (x || false) ≡ x
-    or-none true = refl
-    or-none false = refl
-earliest-due (At a) (At b) now = by (ltb b a) (leb a now) (leb b now) refl refl refl
+    or_none : (x : Bool) → (x || false) ≡ x
+    or_none true = refl
+    or_none false = refl
+earliest_due (At a) (At b) now = by (ltb b a) (leb a now) (leb b now) refl refl refl
   where
     by : (t x y : Bool) → ltb b a ≡ t → leb a now ≡ x → leb b now ≡ y → due (cond t (At b) (At a)) now ≡ (x || y)
     by true true y h e f = le-leb b now (omega (arith, ltb-true b a h, leb-true a now e))
@@ -43,7 +43,7 @@ earliest-due (At a) (At b) now = by (ltb b a) (leb a now) (leb b now) refl refl 
 
 -- abandonment counts while there is something for it to do
 abbrev abandons : Runner → Bool
-abandons r = awaitsLaunch r || (isFenced r.life.settling && anyHeld r.outputs)
+abandons r = awaits_launch r || (is_fenced r.life.settling && any_held r.outputs)
 
 -- what is not due, where the deadline is not
 module _ (now : ℕ) (r : Runner) where
@@ -51,98 +51,98 @@ module _ (now : ℕ) (r : Runner) where
   first2 = earliest r.clocks.timeout_at r.clocks.grace_until
 
   abbrev first3 : Deadline
-  first3 = earliest first2 (expectedBy r.life.settling)
+  first3 = earliest first2 (expected_by r.life.settling)
 
   abbrev gives : Deadline
-  gives = cond (not (isCleanedUp r)) r.clocks.give_up_at Never
+  gives = cond (not (is_cleaned_up r)) r.clocks.give_up_at Never
 
-  abbrev leavesAt : Deadline
-  leavesAt = cond (abandons r) r.clocks.abandon_at Never
+  abbrev leaves_at : Deadline
+  leaves_at = cond (abandons r) r.clocks.abandon_at Never
 
   pub record Waits : Type 0 where
     pub timeout : due r.clocks.timeout_at now ≡ false
     pub grace : due r.clocks.grace_until now ≡ false
-    pub settlement : due (expectedBy r.life.settling) now ≡ false
-    pub give-up : due gives now ≡ false
-    pub abandonment : due leavesAt now ≡ false
+    pub settlement : due (expected_by r.life.settling) now ≡ false
+    pub give_up_lem : due gives now ≡ false
+    pub abandonment : due leaves_at now ≡ false
 
-  first-due : due (firstOf r.clocks (expectedBy r.life.settling) (not (isCleanedUp r)) (abandons r)) now
-      ≡ ((((due r.clocks.timeout_at now || due r.clocks.grace_until now) || due (expectedBy r.life.settling) now) || due gives now) || due leavesAt now)
-  first-due =
-      earliest-due (earliest first3 gives) leavesAt now
-      ∙ rw (earliest-due first3 gives now, earliest-due first2 (expectedBy r.life.settling) now, earliest-due r.clocks.timeout_at r.clocks.grace_until now) refl
+  first_due : due (first_of r.clocks (expected_by r.life.settling) (not (is_cleaned_up r)) (abandons r)) now
+      ≡ ((((due r.clocks.timeout_at now || due r.clocks.grace_until now) || due (expected_by r.life.settling) now) || due gives now) || due leaves_at now)
+  first_due =
+      earliest_due (earliest first3 gives) leaves_at now
+      ∙ rw (earliest_due first3 gives now, earliest_due first2 (expected_by r.life.settling) now, earliest_due r.clocks.timeout_at r.clocks.grace_until now) refl
 
-  waits : due (firstOf r.clocks (expectedBy r.life.settling) (not (isCleanedUp r)) (abandons r)) now ≡ false → Waits
+  waits : due (first_of r.clocks (expected_by r.life.settling) (not (is_cleaned_up r)) (abandons r)) now ≡ false → Waits
   waits e =
-      by (due r.clocks.timeout_at now) (due r.clocks.grace_until now) (due (expectedBy r.life.settling) now) (due gives now) (due leavesAt now)
-      refl refl refl refl refl (sym first-due ∙ e)
+      by (due r.clocks.timeout_at now) (due r.clocks.grace_until now) (due (expected_by r.life.settling) now) (due gives now) (due leaves_at now)
+      refl refl refl refl refl (sym first_due ∙ e)
     where
-      by : (t g s u a : Bool) → due r.clocks.timeout_at now ≡ t → due r.clocks.grace_until now ≡ g → due (expectedBy r.life.settling) now ≡ s → due gives now ≡ u
-          → due leavesAt now ≡ a → ((((t || g) || s) || u) || a) ≡ false → Waits
+      by : (t g s u a : Bool) → due r.clocks.timeout_at now ≡ t → due r.clocks.grace_until now ≡ g → due (expected_by r.life.settling) now ≡ s → due gives now ≡ u
+          → due leaves_at now ≡ a → ((((t || g) || s) || u) || a) ≡ false → Waits
       by true g s u a et eg es eu ea h = absurd (true≢false h)
       by false true s u a et eg es eu ea h = absurd (true≢false h)
       by false false true u a et eg es eu ea h = absurd (true≢false h)
       by false false false true a et eg es eu ea h = absurd (true≢false h)
-      by false false false false a et eg es eu ea h = record { timeout = et; grace = eg; settlement = es; give-up = eu; abandonment = ea ∙ h }
+      by false false false false a et eg es eu ea h = record { timeout = et; grace = eg; settlement = es; give_up_lem = eu; abandonment = ea ∙ h }
 
-  in-time : (s : Settling) → due (expectedBy s) now ≡ false → settlingLate s now ≡ false
-  in-time Idle e = refl
-  in-time (Requested d) e = e
-  in-time Settled e = refl
-  in-time Fenced e = refl
+  in_time : (s : Settling) → due (expected_by s) now ≡ false → settling_late s now ≡ false
+  in_time Idle e = refl
+  in_time (Requested d) e = e
+  in_time Settled e = refl
+  in_time Fenced e = refl
 
   -- give-up is not due, or finds all cleaned up
-  gives_nothing : due gives now ≡ false → calm (passGiveUp r now) ≡ calm r
-  unfolding passGiveUp giveUpUnlessClean
-  gives_nothing e = by (isCleanedUp r) refl e
+  gives_nothing : due gives now ≡ false → calm (pass_give_up r now) ≡ calm r
+  unfolding pass_give_up give_up_unless_clean
+  gives_nothing e = by (is_cleaned_up r) refl e
     where
-      by : (c : Bool) → isCleanedUp r ≡ c → due (cond (not c) r.clocks.give_up_at Never) now ≡ false
-          → calm (cond (due r.clocks.give_up_at now) (cond c (withClocks (setGiveUpAt Never r.clocks) r) (giveUp r)) r) ≡ calm r
-      by true c e = given-clean (due r.clocks.give_up_at now) r c
+      by : (c : Bool) → is_cleaned_up r ≡ c → due (cond (not c) r.clocks.give_up_at Never) now ≡ false
+          → calm (cond (due r.clocks.give_up_at now) (cond c (with_clocks (set_give_up_at Never r.clocks) r) (give_up r)) r) ≡ calm r
+      by true c e = given_clean (due r.clocks.give_up_at now) r c
       by false c e = rw e refl
 
   -- abandonment is not due, or finds nothing to abandon
-  nothing-to-abandon : (a f h : Bool) → awaitsLaunch r ≡ a → isFenced r.life.settling ≡ f → anyHeld r.outputs ≡ h → (a || (f && h)) ≡ false
-      → calm (dropStreams (dropLaunch r)) ≡ calm r
-  unfolding dropStreams dropLaunch
-  nothing-to-abandon true f h ea ef eh e = absurd (true≢false e)
-  nothing-to-abandon false true true ea ef eh e = absurd (true≢false e)
-  nothing-to-abandon false true false ea ef eh e =
-      moot-drops true r (and_both _ _ (and_both _ _ (false-not (awaitsLaunch r) ea) ef) (false-not (anyHeld r.outputs) eh))
-  nothing-to-abandon false false h ea ef eh e =
-      let l : dropLaunch r ≡ r = rw ea in
-      let s : dropStreams r ≡ r = rw ef in
-      ap (λ (x : Runner). calm (dropStreams x)) l ∙ ap calm s
+  nothing_to_abandon : (a f h : Bool) → awaits_launch r ≡ a → is_fenced r.life.settling ≡ f → any_held r.outputs ≡ h → (a || (f && h)) ≡ false
+      → calm (drop_streams (drop_launch r)) ≡ calm r
+  unfolding drop_streams drop_launch
+  nothing_to_abandon true f h ea ef eh e = absurd (true≢false e)
+  nothing_to_abandon false true true ea ef eh e = absurd (true≢false e)
+  nothing_to_abandon false true false ea ef eh e =
+      moot_drops true r (and_both _ _ (and_both _ _ (false_not (awaits_launch r) ea) ef) (false_not (any_held r.outputs) eh))
+  nothing_to_abandon false false h ea ef eh e =
+      let l : drop_launch r ≡ r = rw ea in
+      let s : drop_streams r ≡ r = rw ef in
+      ap (λ (x : Runner). calm (drop_streams x)) l ∙ ap calm s
 
-  abandons-nothing : due leavesAt now ≡ false → calm (passAbandonment r now) ≡ calm r
-  unfolding passAbandonment
-  abandons-nothing e = by (abandons r) (due r.clocks.abandon_at now) refl refl e
+  abandons_nothing : due leaves_at now ≡ false → calm (pass_abandonment r now) ≡ calm r
+  unfolding pass_abandonment
+  abandons_nothing e = by (abandons r) (due r.clocks.abandon_at now) refl refl e
     where
       by : (a d : Bool) → abandons r ≡ a → due r.clocks.abandon_at now ≡ d → due (cond a r.clocks.abandon_at Never) now ≡ false
-          → calm (cond d (dropStreams (dropLaunch r)) r) ≡ calm r
+          → calm (cond d (drop_streams (drop_launch r)) r) ≡ calm r
       by a false ea ed e = refl
       by true true ea ed e = absurd (true≢false (sym ed ∙ e))
-      by false true ea ed e = nothing-to-abandon (awaitsLaunch r) (isFenced r.life.settling) (anyHeld r.outputs) refl refl refl ea
+      by false true ea ed e = nothing_to_abandon (awaits_launch r) (is_fenced r.life.settling) (any_held r.outputs) refl refl refl ea
 
-  fire-idle : Waits → calm (fire r now) ≡ calm r
-  unfolding fire passTimeout passGrace passSettlement
-  fire-idle w =
-      let t : passTimeout r now ≡ r = rw w.timeout in
-      let g : passGrace r now ≡ r = rw w.grace in
-      let s : passSettlement r now ≡ r = ap (λ (x : Settling). withLife (setSettling x r.life) r) (expired-in-time r.life.settling now (in-time r.life.settling w.settlement)) in
-      ap (λ (x : Runner). calm (passAbandonment (passGiveUp (passSettlement (passGrace x now) now) now) now)) t
-      ∙ ap (λ (x : Runner). calm (passAbandonment (passGiveUp (passSettlement x now) now) now)) g
-      ∙ ap (λ (x : Runner). calm (passAbandonment (passGiveUp x now) now)) s
-      ∙ abandonment-sees now (passGiveUp r now) r (gives_nothing w.give-up)
-      ∙ abandons-nothing w.abandonment
+  fire_idle : Waits → calm (fire r now) ≡ calm r
+  unfolding fire pass_timeout pass_grace pass_settlement
+  fire_idle w =
+      let t : pass_timeout r now ≡ r = rw w.timeout in
+      let g : pass_grace r now ≡ r = rw w.grace in
+      let s : pass_settlement r now ≡ r = ap (λ (x : Settling). with_life (set_settling x r.life) r) (expired_in_time r.life.settling now (in_time r.life.settling w.settlement)) in
+      ap (λ (x : Runner). calm (pass_abandonment (pass_give_up (pass_settlement (pass_grace x now) now) now) now)) t
+      ∙ ap (λ (x : Runner). calm (pass_abandonment (pass_give_up (pass_settlement x now) now) now)) g
+      ∙ ap (λ (x : Runner). calm (pass_abandonment (pass_give_up x now) now)) s
+      ∙ abandonment_sees now (pass_give_up r now) r (gives_nothing w.give_up_lem)
+      ∙ abandons_nothing w.abandonment
 
-  pub tick-idle : due (deadlineOf r) now ≡ false → calm (ticked r now) ≡ calm r
-  unfolding ticked deadlineOf
-  tick-idle e = by r.flags.finished e
+  pub tick_idle : due (deadline_of r) now ≡ false → calm (ticked r now) ≡ calm r
+  unfolding ticked deadline_of
+  tick_idle e = by r.flags.finished e
     where
-      by : (f : Bool) → due (cond f Never (firstOf r.clocks (expectedBy r.life.settling) (not (isCleanedUp r)) (abandons r))) now ≡ false → calm (cond f r (fire r now)) ≡ calm r
+      by : (f : Bool) → due (cond f Never (first_of r.clocks (expected_by r.life.settling) (not (is_cleaned_up r)) (abandons r))) now ≡ false → calm (cond f r (fire r now)) ≡ calm r
       by true e = refl
-      by false e = fire-idle (waits e)
+      by false e = fire_idle (waits e)
 
 -- ---- after a tick
 
@@ -155,108 +155,108 @@ module _ (now : ℕ) where
   Grace r = Timeout r × (due r.clocks.grace_until now ≡ false)
 
   abbrev Settlement : Runner → Type 0
-  Settlement r = Grace r × (due (expectedBy r.life.settling) now ≡ false)
+  Settlement r = Grace r × (due (expected_by r.life.settling) now ≡ false)
 
   abbrev GiveUp : Runner → Type 0
   GiveUp r = Settlement r × (due r.clocks.give_up_at now ≡ false)
 
-  graced : (r : Runner) → Timeout r → Grace (passGrace r now)
-  unfolding passGrace endGrace
+  graced : (r : Runner) → Timeout r → Grace (pass_grace r now)
+  unfolding pass_grace end_grace
   graced r h = by (due r.clocks.grace_until now) refl
     where
-      by : (b : Bool) → due r.clocks.grace_until now ≡ b → Grace (cond b (endGrace r) r)
+      by : (b : Bool) → due r.clocks.grace_until now ≡ b → Grace (cond b (end_grace r) r)
       by true e = (h, refl)
       by false e = (h, e)
 
-  timed : (r : Runner) → Timeout (passTimeout r now)
-  unfolding passTimeout terminate beginTermination
+  timed : (r : Runner) → Timeout (pass_timeout r now)
+  unfolding pass_timeout terminate begin_termination
   timed r = by (due r.clocks.timeout_at now) refl
     where
-      by : (b : Bool) → due r.clocks.timeout_at now ≡ b → Timeout (cond b (terminate (timeoutCleared r) now TimedOut) r)
-      by true e = either Timeout r.clocks.terminated (timeoutCleared r) _ refl (graced (beginTermination (timeoutCleared r) now TimedOut) refl).0
+      by : (b : Bool) → due r.clocks.timeout_at now ≡ b → Timeout (cond b (terminate (timeout_cleared r) now TimedOut) r)
+      by true e = either Timeout r.clocks.terminated (timeout_cleared r) _ refl (graced (begin_termination (timeout_cleared r) now TimedOut) refl).0
       by false e = e
 
-  expires : (s : Settling) → due (expectedBy (expired s now)) now ≡ false
+  expires : (s : Settling) → due (expected_by (expired s now)) now ≡ false
   expires Idle = refl
   expires (Requested d) = by (due d now) refl
     where
-      by : (b : Bool) → due d now ≡ b → due (expectedBy (cond b Fenced (Requested d))) now ≡ false
+      by : (b : Bool) → due d now ≡ b → due (expected_by (cond b Fenced (Requested d))) now ≡ false
       by true e = refl
       by false e = e
   expires Settled = refl
   expires Fenced = refl
 
-  given : (r : Runner) → Settlement r → GiveUp (passGiveUp r now)
-  unfolding passGiveUp giveUpUnlessClean giveUp
-  given r h = by (due r.clocks.give_up_at now) (isCleanedUp r) refl
+  given : (r : Runner) → Settlement r → GiveUp (pass_give_up r now)
+  unfolding pass_give_up give_up_unless_clean give_up
+  given r h = by (due r.clocks.give_up_at now) (is_cleaned_up r) refl
     where
-      by : (b c : Bool) → due r.clocks.give_up_at now ≡ b → GiveUp (cond b (cond c (withClocks (setGiveUpAt Never r.clocks) r) (giveUp r)) r)
+      by : (b c : Bool) → due r.clocks.give_up_at now ≡ b → GiveUp (cond b (cond c (with_clocks (set_give_up_at Never r.clocks) r) (give_up r)) r)
       by true true e = (h, refl)
       by true false e = (((h.0.0, refl), refl), refl)
       by false c e = (h, e)
 
   -- abandonment, once it was asked: not due, or not to be waited for
   abbrev Done : Runner → Type 0
-  Done r = GiveUp r × (due (leavesAt now r) now ≡ false)
+  Done r = GiveUp r × (due (leaves_at now r) now ≡ false)
 
-  dropped : (r : Runner) → GiveUp r → GiveUp (dropLaunch r) × (awaitsLaunch (dropLaunch r) ≡ false)
-  unfolding dropLaunch abandonLaunch
-  dropped r h = by (awaitsLaunch r) refl
+  dropped : (r : Runner) → GiveUp r → GiveUp (drop_launch r) × (awaits_launch (drop_launch r) ≡ false)
+  unfolding drop_launch abandon_launch
+  dropped r h = by (awaits_launch r) refl
     where
       and_none : (x : Bool) → (x && false) ≡ false
       and_none true = refl
       and_none false = refl
 
-      by : (b : Bool) → awaitsLaunch r ≡ b → GiveUp (cond b (abandonLaunch r) r) × (awaitsLaunch (cond b (abandonLaunch r) r) ≡ false)
-      by true e = (((h.0.0, refl), h.1), and_none (not (launchKnown r.life.launch) && not r.flags.gave_up))
+      by : (b : Bool) → awaits_launch r ≡ b → GiveUp (cond b (abandon_launch r) r) × (awaits_launch (cond b (abandon_launch r) r) ≡ false)
+      by true e = (((h.0.0, refl), h.1), and_none (not (launch_known r.life.launch) && not r.flags.gave_up))
       by false e = (h, e)
 
-  streamed : (r : Runner) → GiveUp r → awaitsLaunch r ≡ false → Done (dropStreams r)
-  unfolding dropStreams abandonOpenStreams
-  streamed r h a = by (isFenced r.life.settling) refl
+  streamed : (r : Runner) → GiveUp r → awaits_launch r ≡ false → Done (drop_streams r)
+  unfolding drop_streams abandon_open_streams
+  streamed r h a = by (is_fenced r.life.settling) refl
     where
       none : (b : Bool) → due (cond b Never Never) now ≡ false
       none true = refl
       none false = refl
 
-      by : (b : Bool) → isFenced r.life.settling ≡ b → Done (cond b (abandonOpenStreams r) r)
-      by true e = (h, none (abandons (abandonOpenStreams r)))
+      by : (b : Bool) → is_fenced r.life.settling ≡ b → Done (cond b (abandon_open_streams r) r)
+      by true e = (h, none (abandons (abandon_open_streams r)))
       by false e = (h, rw (a, e) refl)
 
   waiting : (b : Bool) (d : Deadline) → due d now ≡ false → due (cond b d Never) now ≡ false
   waiting true d e = e
   waiting false d e = refl
 
-  left : (r : Runner) → GiveUp r → Done (passAbandonment r now)
-  unfolding passAbandonment
+  left : (r : Runner) → GiveUp r → Done (pass_abandonment r now)
+  unfolding pass_abandonment
   left r h = by (due r.clocks.abandon_at now) refl
     where
-      by : (b : Bool) → due r.clocks.abandon_at now ≡ b → Done (cond b (dropStreams (dropLaunch r)) r)
-      by true e = let k = dropped r h in streamed (dropLaunch r) k.0 k.1
+      by : (b : Bool) → due r.clocks.abandon_at now ≡ b → Done (cond b (drop_streams (drop_launch r)) r)
+      by true e = let k = dropped r h in streamed (drop_launch r) k.0 k.1
       by false e = (h, waiting (abandons r) r.clocks.abandon_at e)
 
-  fire-done : (r : Runner) → Done (fire r now)
-  unfolding fire passSettlement
-  fire-done r =
-      let g : Runner = passGrace (passTimeout r now) now in
-      left (passGiveUp (passSettlement g now) now) (given (passSettlement g now) (graced (passTimeout r now) (timed r), expires g.life.settling))
+  fire_done : (r : Runner) → Done (fire r now)
+  unfolding fire pass_settlement
+  fire_done r =
+      let g : Runner = pass_grace (pass_timeout r now) now in
+      left (pass_give_up (pass_settlement g now) now) (given (pass_settlement g now) (graced (pass_timeout r now) (timed r), expires g.life.settling))
 
-  none-due : (t g s u a : Bool) → t ≡ false → g ≡ false → s ≡ false → u ≡ false → a ≡ false → ((((t || g) || s) || u) || a) ≡ false
-  none-due t g s u a et eg es eu ea = rw (et, eg, es, eu, ea) refl
+  none_due : (t g s u a : Bool) → t ≡ false → g ≡ false → s ≡ false → u ≡ false → a ≡ false → ((((t || g) || s) || u) || a) ≡ false
+  none_due t g s u a et eg es eu ea = rw (et, eg, es, eu, ea) refl
 
-  pub tick-later : (r : Runner) → due (deadlineOf (ticked r now)) now ≡ false
-  unfolding ticked deadlineOf
-  tick-later r = by r.flags.finished refl
+  pub tick_later : (r : Runner) → due (deadline_of (ticked r now)) now ≡ false
+  unfolding ticked deadline_of
+  tick_later r = by r.flags.finished refl
     where
       unfinished : (f : Bool) (d : Deadline) → due d now ≡ false → due (cond f Never d) now ≡ false
       unfinished true d e = refl
       unfinished false d e = e
 
-      by : (f : Bool) → r.flags.finished ≡ f → due (deadlineOf (cond f r (fire r now))) now ≡ false
+      by : (f : Bool) → r.flags.finished ≡ f → due (deadline_of (cond f r (fire r now))) now ≡ false
       by true e = rw e refl
       by false e =
           let t : Runner = fire r now in
-          let d : Done t = fire-done r in
-          unfinished t.flags.finished _ (first-due now t
-          ∙ none-due (due t.clocks.timeout_at now) (due t.clocks.grace_until now) (due (expectedBy t.life.settling) now) (due (gives now t) now) (due (leavesAt now t) now)
-          d.0.0.0.0 d.0.0.0.1 d.0.0.1 (waiting (not (isCleanedUp t)) t.clocks.give_up_at d.0.1) d.1)
+          let d : Done t = fire_done r in
+          unfinished t.flags.finished _ (first_due now t
+          ∙ none_due (due t.clocks.timeout_at now) (due t.clocks.grace_until now) (due (expected_by t.life.settling) now) (due (gives now t) now) (due (leaves_at now t) now)
+          d.0.0.0.0 d.0.0.0.1 d.0.0.1 (waiting (not (is_cleaned_up t)) t.clocks.give_up_at d.0.1) d.1)

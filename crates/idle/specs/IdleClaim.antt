@@ -8,7 +8,7 @@ use Rattle.channel.specs.Calls as Channel
 use Rattle.calls.specs.Call as Call
 use Rattle.calls.specs.Call.{Conf, Answer}
 use Rattle.account.specs.Step.{State, next, answer, opened}
-use Rattle.account.specs.Records.{Entry, EntryDone, call, nextEntry, afterEntries, runEntries}
+use Rattle.account.specs.Records.{Entry, EntryDone, call, next_entry, after_entries, run_entries}
 
 -- ---- two runs
 
@@ -37,41 +37,41 @@ others (idle t ∷ ws) (d ∷ ds) = others ws ds
 
 -- every other entry of the second run, with its answer
 abbrev pub amid : State → List Woven → List EntryDone
-amid s ws = others ws (runEntries s (woven ws))
+amid s ws = others ws (run_entries s (woven ws))
 
 -- ---- the deadline reported just then
 
-abbrev pub deadlineIn : Answer → Deadline
-deadlineIn Call.Ok = Never
-deadlineIn Call.Applied = Never
-deadlineIn Call.Stale = Never
-deadlineIn Call.Late = Never
-deadlineIn (Call.Refused n) = Never
-deadlineIn (Call.Taken n) = Never
-deadlineIn (Call.Pending b) = Never
-deadlineIn (Call.Value n) = Never
-deadlineIn (Call.Time d) = d
-deadlineIn (Call.Truth b) = Never
-deadlineIn (Call.Asks r) = Never
-deadlineIn (Call.Says m) = Never
-deadlineIn (Call.IsKey k) = Never
-deadlineIn (Call.AreLimits l) = Never
-deadlineIn Call.Nothing = Never
+abbrev pub deadline_in : Answer → Deadline
+deadline_in Call.Ok = Never
+deadline_in Call.Applied = Never
+deadline_in Call.Stale = Never
+deadline_in Call.Late = Never
+deadline_in (Call.Refused n) = Never
+deadline_in (Call.Taken n) = Never
+deadline_in (Call.Pending b) = Never
+deadline_in (Call.Value n) = Never
+deadline_in (Call.Time d) = d
+deadline_in (Call.Truth b) = Never
+deadline_in (Call.Asks r) = Never
+deadline_in (Call.Says m) = Never
+deadline_in (Call.IsKey k) = Never
+deadline_in (Call.AreLimits l) = Never
+deadline_in Call.Nothing = Never
 
 -- what the call deadline answers; a refused one reports none
 abbrev pub reported : State → Deadline
-reported s = deadlineIn (answer s Call.deadline)
+reported s = deadline_in (answer s Call.deadline)
 
 -- before it, or at any time if none was reported
-abbrev pub isBefore : ℕ → Deadline → Bool
-isBefore t Never = true
-isBefore t (At d) = ltb t d
+abbrev pub is_before : ℕ → Deadline → Bool
+is_before t Never = true
+is_before t (At d) = ltb t d
 
 -- each tick put in is before the deadline that a run reports just then; what such a tick leaves in that run is said
 abbrev pub AllBefore : (ticks : State → ℕ → State) → State → List Woven → Type 0
 AllBefore ticks s [] = Unit
-AllBefore ticks s (made e ∷ ws) = AllBefore ticks (nextEntry s e) ws
-AllBefore ticks s (idle t ∷ ws) = (isBefore t (reported s) ≡ true) × AllBefore ticks (ticks s t) ws
+AllBefore ticks s (made e ∷ ws) = AllBefore ticks (next_entry s e) ws
+AllBefore ticks s (idle t ∷ ws) = (is_before t (reported s) ≡ true) × AllBefore ticks (ticks s t) ws
 
 -- by the second run, which makes it
 abbrev pub AllIdle : State → List Woven → Type 0
@@ -84,29 +84,29 @@ AllSpared s ws = AllBefore (λ (x : State) (t : ℕ). x) s ws
 -- ---- the claim
 
 -- the buffer that next_message, and a record written, would leave
-abbrev pub messageBuffer : State → List ℕ → List ℕ
-messageBuffer s buffer = (Calls.nextMessage s.runner s.bytes buffer).buffer
+abbrev pub message_buffer : State → List ℕ → List ℕ
+message_buffer s buffer = (Calls.next_message s.runner s.bytes buffer).buffer
 
-abbrev pub recordBuffer : State → ℕ → List ℕ → List ℕ
-recordBuffer s channel buffer = (Channel.writeRecord s.runner channel s.bytes buffer).buffer
+abbrev pub record_buffer : State → ℕ → List ℕ → List ℕ
+record_buffer s channel buffer = (Channel.write_record s.runner channel s.bytes buffer).buffer
 
 -- IDLE TICKS, for every open, a refused one too, stores of any content, and every list of calls and records with ticks put in
 pub record IdleTicks (conf : Conf) (now : ℕ) (bytes lengths : List ℕ) : Type 0 where
   -- every other call or record answers alike in both runs, payloads included
   pub answers : (ws : List Woven) → AllIdle (opened conf now bytes lengths) ws
-      → amid (opened conf now bytes lengths) ws ≡ runEntries (opened conf now bytes lengths) (alone ws)
+      → amid (opened conf now bytes lengths) ws ≡ run_entries (opened conf now bytes lengths) (alone ws)
   -- both stores end alike
   pub stores : (ws : List Woven) → AllIdle (opened conf now bytes lengths) ws
-      → ((afterEntries (opened conf now bytes lengths) (woven ws)).bytes ≡ (afterEntries (opened conf now bytes lengths) (alone ws)).bytes)
-      × ((afterEntries (opened conf now bytes lengths) (woven ws)).lengths ≡ (afterEntries (opened conf now bytes lengths) (alone ws)).lengths)
+      → ((after_entries (opened conf now bytes lengths) (woven ws)).bytes ≡ (after_entries (opened conf now bytes lengths) (alone ws)).bytes)
+      × ((after_entries (opened conf now bytes lengths) (woven ws)).lengths ≡ (after_entries (opened conf now bytes lengths) (alone ws)).lengths)
   -- and so does a buffer that is lent next, every byte of it
   pub buffers : (ws : List Woven) (channel : ℕ) (buffer : List ℕ) → AllIdle (opened conf now bytes lengths) ws
-      → (messageBuffer (afterEntries (opened conf now bytes lengths) (woven ws)) buffer ≡ messageBuffer (afterEntries (opened conf now bytes lengths) (alone ws)) buffer)
-      × (recordBuffer (afterEntries (opened conf now bytes lengths) (woven ws)) channel buffer ≡ recordBuffer (afterEntries (opened conf now bytes lengths) (alone ws)) channel buffer)
+      → (message_buffer (after_entries (opened conf now bytes lengths) (woven ws)) buffer ≡ message_buffer (after_entries (opened conf now bytes lengths) (alone ws)) buffer)
+      × (record_buffer (after_entries (opened conf now bytes lengths) (woven ws)) channel buffer ≡ record_buffer (after_entries (opened conf now bytes lengths) (alone ws)) channel buffer)
   -- it makes no difference which run is asked for its deadline
   pub whose : (ws : List Woven)
       → (AllSpared (opened conf now bytes lengths) ws → AllIdle (opened conf now bytes lengths) ws)
       × (AllIdle (opened conf now bytes lengths) ws → AllSpared (opened conf now bytes lengths) ws)
   -- and no other tick is idle: after one at the deadline or later, another is reported
-  pub sharp : (es : List Entry) (d t : ℕ) → reported (afterEntries (opened conf now bytes lengths) es) ≡ At d → d ≤ t
-      → reported (next (afterEntries (opened conf now bytes lengths) es) (Call.tick t)) ≡ At d → ⊥
+  pub sharp : (es : List Entry) (d t : ℕ) → reported (after_entries (opened conf now bytes lengths) es) ≡ At d → d ≤ t
+      → reported (next (after_entries (opened conf now bytes lengths) es) (Call.tick t)) ≡ At d → ⊥

@@ -5,29 +5,29 @@ use Rattle.exec.specs.declared.Limits.{Limits}
 use Rattle.exec.specs.declared.Stream.{Stream}
 use Rattle.exec.specs.declared.Unit as Units
 use Rattle.exec.specs.declared.Unit.TheVariants.{Bytes, Frames}
-use Rattle.exec.specs.Limits.{bytesWith, inputBytes}
-use Rattle.exec.specs.Stream.{sumOfStreams}
+use Rattle.exec.specs.Limits.{bytes_with, input_bytes}
+use Rattle.exec.specs.Stream.{sum_of_streams}
 
 -- the bytes of the output streams' rings: a chunk for each stream
-abbrev pub ringsOf : Limits → ℕ
-ringsOf l = sumOfStreams (λ (x : Stream). l.chunk)
+abbrev pub rings_of : Limits → ℕ
+rings_of l = sum_of_streams (λ (x : Stream). l.chunk)
 
-abbrev pub byteNeed : Limits → ℕ
-byteNeed l = ringsOf l + inputBytes l
+abbrev pub byte_need : Limits → ℕ
+byte_need l = rings_of l + input_bytes l
 
-abbrev pub lengthNeedAs : Units.Unit → ℕ → ℕ
-lengthNeedAs Bytes size = 0
-lengthNeedAs Frames size = size
+abbrev pub length_need_as : Units.Unit → ℕ → ℕ
+length_need_as Bytes size = 0
+length_need_as Frames size = size
 
-abbrev pub lengthNeed : Limits → ℕ
-lengthNeed l = lengthNeedAs l.input.unit l.input.size
+abbrev pub length_need : Limits → ℕ
+length_need l = length_need_as l.input.unit l.input.size
 
 -- with numbers of 32 bits the need fits 64
-pub need-fits : (l : Limits) → l.chunk < 2 ^ 32 → l.input.size < 2 ^ 32 → byteNeed l ≤ 2 ^ 64 - 1
-unfolding bytesWith
-need-fits l hc hs = by l.input.unit
+pub need_fits : (l : Limits) → l.chunk < 2 ^ 32 → l.input.size < 2 ^ 32 → byte_need l ≤ 2 ^ 64 - 1
+unfolding bytes_with
+need_fits l hc hs = by l.input.unit
   where
-    by : (u : Units.Unit) → ringsOf l + bytesWith u l.input.size l.chunk ≤ 2 ^ 64 - 1
+    by : (u : Units.Unit) → rings_of l + bytes_with u l.input.size l.chunk ≤ 2 ^ 64 - 1
     by Bytes = omega arith
     by Frames =
         let c : l.chunk ≤ 2 ^ 32 - 1 = omega arith in

@@ -7,14 +7,14 @@ use Rattle.std.proofs.Common.{mul-pos, sym, leb-true, eqb-true, le-ltb, ne_eqb, 
 use Rattle.exec.specs.declared.Limits.{Limits}
 use Rattle.exec.specs.declared.Unit as Units
 use Rattle.exec.specs.declared.Unit.TheVariants.{Bytes, Frames}
-use Rattle.exec.specs.Limits.{cost, bytesWith, inputBytes}
-use Rattle.ring.specs.FrameLaws.{pop-most}
+use Rattle.exec.specs.Limits.{cost, bytes_with, input_bytes}
+use Rattle.ring.specs.FrameLaws.{pop_most}
 use Rattle.inbox.specs.declared.Inbox.{Inbox}
 use Rattle.inbox.specs.declared.receiver.Granted.{Granted}
-use Rattle.inbox.specs.Inbox.{inboxHeld, freedBy, popFreed}
-use Rattle.inbox.specs.Receiver.{unitsFit}
-use Rattle.inbox.specs.Need.{byteNeed, lengthNeed, need-fits}
-use Rattle.inbox.specs.Range.{ringFits, framesFit, inboxFits, inboxWithin, Waiting, Pushable, Poppable}
+use Rattle.inbox.specs.Inbox.{inbox_held, freed_by, pop_freed}
+use Rattle.inbox.specs.Receiver.{units_fit}
+use Rattle.inbox.specs.Need.{byte_need, length_need, need_fits}
+use Rattle.inbox.specs.Range.{ring_fits, frames_fit, inbox_fits, inbox_within, Waiting, Pushable, Poppable}
 
 pub both : (a b : Bool) → (a && b) ≡ true → (a ≡ true) × (b ≡ true)
 both true b h = (refl, h)
@@ -22,8 +22,8 @@ both false true h = (h, refl)
 both false false h = (h, h)
 
 -- a start in range is at most the size, and below it unless that is 0
-pub ring-start : (start size : ℕ) → ringFits start size ≡ true → start ≤ size
-ring-start start size h =
+pub ring_start : (start size : ℕ) → ring_fits start size ≡ true → start ≤ size
+ring_start start size h =
     elim (dec_lt start size) [
       | yes l ↦ omega arith
       | no l ↦
@@ -31,8 +31,8 @@ ring-start start size h =
           omega (arith, eqb-true start 0 (both (eqb size 0) (eqb start 0) z).1)
     ]
 
-pub ring-below : (start size : ℕ) → ringFits start size ≡ true → 0 < size → start < size
-ring-below start size h some =
+pub ring_below : (start size : ℕ) → ring_fits start size ≡ true → 0 < size → start < size
+ring_below start size h some =
     elim (dec_lt start size) [
       | yes l ↦ l
       | no l ↦
@@ -41,47 +41,47 @@ ring-below start size h some =
     ]
 
 -- where the size is not 0
-pub ring-valid : (start size : ℕ) → 0 < size → ringFits start size ≡ ltb start size
-ring-valid start size some = rw (ne_eqb size 0 (omega arith)) (or-false (ltb start size))
+pub ring_valid : (start size : ℕ) → 0 < size → ring_fits start size ≡ ltb start size
+ring_valid start size some = rw (ne_eqb size 0 (omega arith)) (or_false (ltb start size))
   where
-    or-false : (a : Bool) → (a || false) ≡ a
-    or-false true = refl
-    or-false false = refl
+    or_false : (a : Bool) → (a || false) ≡ a
+    or_false true = refl
+    or_false false = refl
 
 -- in Frames, the lengths and the bytes of the frames
 pub record FramesIn (u : Units.Unit) (size chunk : ℕ) (b : Inbox) : Type 0 where
   pub first : u ≡ Frames → b.first ≤ size
   pub held : u ≡ Frames → b.length ≤ b.frames * chunk
 
-frames-in : (u : Units.Unit) (size chunk : ℕ) (b : Inbox) → framesFit u size chunk b ≡ true → FramesIn u size chunk b
-frames-in Bytes size chunk b h = record { first = λ e. absurd (let z : ◌≡◌ {A = ℕ} 0 1 = cc in omega arith); held = λ e. absurd (let z : ◌≡◌ {A = ℕ} 0 1 = cc in omega arith) }
-frames-in Frames size chunk b h =
-    let p = both (ringFits b.first size) (leb b.length (b.frames * chunk)) h in record {
-      first = λ e. ring-start b.first size p.0;
+frames_in : (u : Units.Unit) (size chunk : ℕ) (b : Inbox) → frames_fit u size chunk b ≡ true → FramesIn u size chunk b
+frames_in Bytes size chunk b h = record { first = λ e. absurd (let z : ◌≡◌ {A = ℕ} 0 1 = cc in omega arith); held = λ e. absurd (let z : ◌≡◌ {A = ℕ} 0 1 = cc in omega arith) }
+frames_in Frames size chunk b h =
+    let p = both (ring_fits b.first size) (leb b.length (b.frames * chunk)) h in record {
+      first = λ e. ring_start b.first size p.0;
       held = λ e. leb-true b.length (b.frames * chunk) p.1;
     }
 
 -- an inbox and its window in range
 pub record InRange (l : Limits) (g : Granted) (b : Inbox) : Type 0 where
-  pub begins : b.start ≤ inputBytes l
-  pub most : b.length ≤ inputBytes l
-  pub units : g.open + g.returnable + inboxHeld l.input.unit b ≤ l.input.size
+  pub begins : b.start ≤ input_bytes l
+  pub most : b.length ≤ input_bytes l
+  pub units : g.open + g.returnable + inbox_held l.input.unit b ≤ l.input.size
   pub frames : FramesIn l.input.unit l.input.size l.chunk b
 
-pub in-range : (l : Limits) (g : Granted) (b : Inbox) → inboxFits l g b ≡ true → InRange l g b
-in-range l g b h =
-    let ring = ringFits b.start (inputBytes l) in
-    let most = leb b.length (inputBytes l) in
-    let units = unitsFit g (inboxHeld l.input.unit b) l.input.size in
-    let frames = framesFit l.input.unit l.input.size l.chunk b in
+pub in_range_lem : (l : Limits) (g : Granted) (b : Inbox) → inbox_fits l g b ≡ true → InRange l g b
+in_range_lem l g b h =
+    let ring = ring_fits b.start (input_bytes l) in
+    let most = leb b.length (input_bytes l) in
+    let units = units_fit g (inbox_held l.input.unit b) l.input.size in
+    let frames = frames_fit l.input.unit l.input.size l.chunk b in
     let p = both (ring && most) (units && frames) h in
     let q = both ring most p.0 in
     let r = both units frames p.1 in
     record {
-      begins = ring-start b.start (inputBytes l) q.0;
-      most = leb-true b.length (inputBytes l) q.1;
-      units = leb-true (g.open + g.returnable + inboxHeld l.input.unit b) l.input.size r.0;
-      frames = frames-in l.input.unit l.input.size l.chunk b r.1;
+      begins = ring_start b.start (input_bytes l) q.0;
+      most = leb-true b.length (input_bytes l) q.1;
+      units = leb-true (g.open + g.returnable + inbox_held l.input.unit b) l.input.size r.0;
+      frames = frames_in l.input.unit l.input.size l.chunk b r.1;
     }
 
 -- ---- the quicker test
@@ -94,58 +94,58 @@ implied true false true true h = h refl refl
 implied true false true false h = refl
 implied true false false f h = refl
 
-within-as : (u : Units.Unit) (size chunk : ℕ) (g : Granted) (b : Inbox) → 0 < size → 0 < chunk
-    → inboxWithin u size chunk g b
-    ≡ ((ringFits b.start (bytesWith u size chunk) && leb b.length (bytesWith u size chunk))
-    && (unitsFit g (inboxHeld u b) size && framesFit u size chunk b))
-unfolding bytesWith
-within-as Bytes size chunk g b hs hc =
+within_as : (u : Units.Unit) (size chunk : ℕ) (g : Granted) (b : Inbox) → 0 < size → 0 < chunk
+    → inbox_within u size chunk g b
+    ≡ ((ring_fits b.start (bytes_with u size chunk) && leb b.length (bytes_with u size chunk))
+    && (units_fit g (inbox_held u b) size && frames_fit u size chunk b))
+unfolding bytes_with
+within_as Bytes size chunk g b hs hc =
     let most = leb-true (g.open + g.returnable + b.length) size in
-    rw (ring-valid b.start size hs)
-    (sym (implied (ltb b.start size) (leb b.length size) (unitsFit g b.length size) (eqb b.first 0 && eqb b.frames 0) (λ u f. le-leb b.length size (omega (arith, most u)))))
-within-as Frames size chunk g b hs hc =
+    rw (ring_valid b.start size hs)
+    (sym (implied (ltb b.start size) (leb b.length size) (units_fit g b.length size) (eqb b.first 0 && eqb b.frames 0) (λ u f. le-leb b.length size (omega (arith, most u)))))
+within_as Frames size chunk g b hs hc =
     let units = leb-true (g.open + g.returnable + b.frames) size in
-    rw (ring-valid b.start (size * chunk) (mul-pos hs hc), ring-valid b.first size hs)
-    (sym (implied (ltb b.start (size * chunk)) (leb b.length (size * chunk)) (unitsFit g b.frames size) (ltb b.first size && leb b.length (b.frames * chunk))
+    rw (ring_valid b.start (size * chunk) (mul-pos hs hc), ring_valid b.first size hs)
+    (sym (implied (ltb b.start (size * chunk)) (leb b.length (size * chunk)) (units_fit g b.frames size) (ltb b.first size && leb b.length (b.frames * chunk))
     (λ u f.
     let held = leb-true b.length (b.frames * chunk) (both (ltb b.first size) (leb b.length (b.frames * chunk)) f).1 in
     let all : b.frames * chunk ≤ size * chunk = mul-le-mul (omega (arith, units u)) (omega arith) in
     le-leb b.length (size * chunk) (omega (arith, held, all)))))
 
-pub within-fits : (l : Limits) (g : Granted) (b : Inbox) → 0 < l.input.size → 0 < l.chunk
-    → inboxWithin l.input.unit l.input.size l.chunk g b ≡ inboxFits l g b
-within-fits l g b hs hc = within-as l.input.unit l.input.size l.chunk g b hs hc
+pub within_fits : (l : Limits) (g : Granted) (b : Inbox) → 0 < l.input.size → 0 < l.chunk
+    → inbox_within l.input.unit l.input.size l.chunk g b ≡ inbox_fits l g b
+within_fits l g b hs hc = within_as l.input.unit l.input.size l.chunk g b hs hc
 
 -- ---- what follows, for limits of 32 bits and stores that do
 
 module _ (l : Limits) (g : Granted) (b : Inbox) (r : InRange l g b) where
   -- in Frames no more frames wait than the window has
-  pub frames-most : l.input.unit ≡ Frames → b.frames ≤ l.input.size
-  frames-most e = let h : g.open + g.returnable + inboxHeld Frames b ≤ l.input.size = rw e at r.units in omega arith
+  pub frames_most : l.input.unit ≡ Frames → b.frames ≤ l.input.size
+  frames_most e = let h : g.open + g.returnable + inbox_held Frames b ≤ l.input.size = rw e at r.units in omega arith
 
-  pub is-waiting : (store : List ℕ) → byteNeed l ≤ length store → Waiting l b store
-  is-waiting store need = record { area = need; begins = r.begins; most = r.most }
+  pub is_waiting : (store : List ℕ) → byte_need l ≤ length store → Waiting l b store
+  is_waiting store need = record { area = need; begins = r.begins; most = r.most }
 
-  slots-do : (lengths : List ℕ) → lengthNeed l ≤ length lengths → l.input.unit ≡ Frames → l.input.size ≤ length lengths
-  slots-do lengths need e = rw e at need
+  slots_do : (lengths : List ℕ) → length_need l ≤ length lengths → l.input.unit ≡ Frames → l.input.size ≤ length lengths
+  slots_do lengths need e = rw e at need
 
-  pub is-poppable : (lengths : List ℕ) → l.input.size < 2 ^ 32 → lengthNeed l ≤ length lengths → Poppable l b lengths
-  unfolding bytesWith
-  is-poppable lengths small need = record {
+  pub is_poppable : (lengths : List ℕ) → l.input.size < 2 ^ 32 → length_need l ≤ length lengths → Poppable l b lengths
+  unfolding bytes_with
+  is_poppable lengths small need = record {
     begins = r.begins;
     most = r.most;
     units = λ n h. record {
-      few = λ e. let m : b.length ≤ bytesWith Bytes l.input.size l.chunk = rw e at r.most in omega arith;
-      slots = slots-do lengths need;
+      few = λ e. let m : b.length ≤ bytes_with Bytes l.input.size l.chunk = rw e at r.most in omega arith;
+      slots = slots_do lengths need;
       first = r.frames.first;
-      frames = frames-most;
+      frames = frames_most;
     };
   }
 
   -- a message that its window paid for has room
-  room_as : (u : Units.Unit) (n : ℕ) → n ≤ l.chunk → cost u n ≤ g.open → g.open + g.returnable + inboxHeld u b ≤ l.input.size
-      → FramesIn u l.input.size l.chunk b → b.length + n ≤ bytesWith u l.input.size l.chunk
-  unfolding cost bytesWith
+  room_as : (u : Units.Unit) (n : ℕ) → n ≤ l.chunk → cost u n ≤ g.open → g.open + g.returnable + inbox_held u b ≤ l.input.size
+      → FramesIn u l.input.size l.chunk b → b.length + n ≤ bytes_with u l.input.size l.chunk
+  unfolding cost bytes_with
   room_as Bytes n chunk paid units f = omega arith
   room_as Frames n chunk paid units f =
       let more : b.frames + 1 ≤ l.input.size = omega arith in
@@ -153,41 +153,41 @@ module _ (l : Limits) (g : Granted) (b : Inbox) (r : InRange l g b) where
       let step : (b.frames + 1) * l.chunk ≡ b.frames * l.chunk + l.chunk = omega arith in
       omega (arith, f.held refl)
 
-  pub has_room : (n : ℕ) → n ≤ l.chunk → cost l.input.unit n ≤ g.open → b.length + n ≤ inputBytes l
+  pub has_room : (n : ℕ) → n ≤ l.chunk → cost l.input.unit n ≤ g.open → b.length + n ≤ input_bytes l
   has_room n chunk paid = room_as l.input.unit n chunk paid r.units r.frames
 
-  frame-free : (n : ℕ) → cost l.input.unit n ≤ g.open → l.input.unit ≡ Frames → b.frames < l.input.size
+  frame_free : (n : ℕ) → cost l.input.unit n ≤ g.open → l.input.unit ≡ Frames → b.frames < l.input.size
   unfolding cost
-  frame-free n paid e =
-      let h : g.open + g.returnable + inboxHeld Frames b ≤ l.input.size = rw e at r.units in
+  frame_free n paid e =
+      let h : g.open + g.returnable + inbox_held Frames b ≤ l.input.size = rw e at r.units in
       let p : cost Frames n ≤ g.open = rw e at paid in
       omega arith
 
-  pub is-pushable : (n : ℕ) (store lengths : List ℕ) → n ≤ l.chunk → cost l.input.unit n ≤ g.open → l.chunk < 2 ^ 32 → l.input.size < 2 ^ 32
-      → byteNeed l ≤ length store → lengthNeed l ≤ length lengths → Pushable l b n store lengths
-  is-pushable n store lengths chunk paid hc hs bytes need =
+  pub is_pushable : (n : ℕ) (store lengths : List ℕ) → n ≤ l.chunk → cost l.input.unit n ≤ g.open → l.chunk < 2 ^ 32 → l.input.size < 2 ^ 32
+      → byte_need l ≤ length store → length_need l ≤ length lengths → Pushable l b n store lengths
+  is_pushable n store lengths chunk paid hc hs bytes need =
       let room = has_room n chunk paid in
       record {
-        waiting = is-waiting store bytes;
+        waiting = is_waiting store bytes;
         room = room;
         frame = record {
-          counts = omega (arith, room, need-fits l hc hs);
+          counts = omega (arith, room, need_fits l hc hs);
           small = omega arith;
-          slots = slots-do lengths need;
+          slots = slots_do lengths need;
           first = r.frames.first;
-          frames = frame-free n paid;
+          frames = frame_free n paid;
         };
       }
 
   -- no more units are freed than are held, so that what is to be granted stays within the window
-  freed-as : (u : Units.Unit) (n : ℕ) (lengths : List ℕ) → n ≤ b.length → g.open + g.returnable + inboxHeld u b ≤ l.input.size
+  freed_as : (u : Units.Unit) (n : ℕ) (lengths : List ℕ) → n ≤ b.length → g.open + g.returnable + inbox_held u b ≤ l.input.size
       → (u ≡ Frames → l.input.size ≤ length lengths) → FramesIn u l.input.size l.chunk b
-      → g.open + g.returnable + freedBy u l.input.size n b lengths ≤ l.input.size
-  freed-as Bytes n lengths h units slots f = omega arith
-  freed-as Frames n lengths h units slots f =
-      omega (arith, pop-most b.frames l.input.size b.first n lengths (slots refl) (f.first refl) (omega arith))
+      → g.open + g.returnable + freed_by u l.input.size n b lengths ≤ l.input.size
+  freed_as Bytes n lengths h units slots f = omega arith
+  freed_as Frames n lengths h units slots f =
+      omega (arith, pop_most b.frames l.input.size b.first n lengths (slots refl) (f.first refl) (omega arith))
 
-  pub freed-fits : (count : ℕ) (lengths : List ℕ) → lengthNeed l ≤ length lengths
-      → g.open + g.returnable + popFreed l b count lengths ≤ l.input.size
-  freed-fits count lengths need =
-      freed-as l.input.unit (min count b.length) lengths (omega arith) r.units (slots-do lengths need) r.frames
+  pub freed_fits : (count : ℕ) (lengths : List ℕ) → length_need l ≤ length lengths
+      → g.open + g.returnable + pop_freed l b count lengths ≤ l.input.size
+  freed_fits count lengths need =
+      freed_as l.input.unit (min count b.length) lengths (omega arith) r.units (slots_do lengths need) r.frames

@@ -6,8 +6,8 @@ use Rattle.inbox.specs.declared.receiver.Charging.{Charging}
 use Rattle.inbox.specs.declared.receiver.Granted.{Granted}
 use Rattle.inbox.specs.declared.receiver.Taking.{Taking}
 
-abbrev pub newGranted : ℕ → Granted
-newGranted size = record { «open» = 0; returnable = size }
+abbrev pub new_granted : ℕ → Granted
+new_granted size = record { «open» = 0; returnable = size }
 
 -- a cost above what is open is refused
 abbrev pub charge : Granted → ℕ → Charging
@@ -23,8 +23,8 @@ freed g units = record { «open» = g.open; returnable = g.returnable + units }
 abbrev pub opened : Granted → Granted
 opened g = record { «open» = g.open + g.returnable; returnable = 0 }
 
-abbrev pub takeGrant : Granted → Taking
-takeGrant g = record { granted = opened g; units = g.returnable }
+abbrev pub take_grant : Granted → Taking
+take_grant g = record { granted = opened g; units = g.returnable }
 
-abbrev pub unitsFit : Granted → (held size : ℕ) → Bool
-unitsFit g held size = leb (g.open + g.returnable + held) size
+abbrev pub units_fit : Granted → (held size : ℕ) → Bool
+units_fit g held size = leb (g.open + g.returnable + held) size

@@ -4,18 +4,18 @@
 
 ghost use Rattle.std.specs.Prelude.{◌≡◌, ◌+◌, ◌≤◌, length};
 ghost use Rattle.inbox.specs.Inbox.{
-  newInbox,
-  inboxHeld,
+  new_inbox,
+  inbox_held,
   front,
-  pushAfter,
+  push_after,
   push,
-  pushedFrame,
-  frameAfter,
-  popAfter,
+  pushed_frame,
+  frame_after,
+  pop_after,
   pop,
-  popUnits,
+  pop_units,
 };
-ghost use Rattle.inbox.specs.Range.{ringFits, framesFit, inboxFits, inboxWithin, Pushable, FrameRoom, Waiting, Poppable, Slots};
+ghost use Rattle.inbox.specs.Range.{ring_fits, frames_fit, inbox_fits, inbox_within, Pushable, FrameRoom, Waiting, Poppable, Slots};
 
 use crate::need::rings;
 use crate::receiver::Granted;
@@ -42,14 +42,14 @@ pub struct Popping {
 
 // Whether a ring's start is below its size, or 0 where the size is 0.
 pub fn ring_fits(start: usize, size: usize) -> bool
-    ensures { result ≡ ringFits start size }
+    ensures { result ≡ ring_fits start size }
 {
     (start < size) | ((size == 0) & (start == 0))
 }
 
 impl Inbox {
     pub fn new() -> Self
-        ensures { result ≡ newInbox }
+        ensures { result ≡ new_inbox }
     {
         Inbox {
             start: 0,
@@ -61,7 +61,7 @@ impl Inbox {
 
     // The units held.
     pub fn held(self, unit: Unit) -> usize
-        ensures { result ≡ inboxHeld unit self }
+        ensures { result ≡ inbox_held unit self }
     {
         match unit {
             Unit::Bytes => self.length,
@@ -70,10 +70,10 @@ impl Inbox {
     }
 
     // Appends one data message, which its pool charged.
-    #[tactic(auto, unfolding(crate::specs::Inbox::push, crate::specs::Inbox::pushedFrame))]
+    #[tactic(auto, unfolding(crate::specs::Inbox::push, crate::specs::Inbox::pushed_frame))]
     pub fn push(self, limits: Limits, store: &mut [u8], lengths: &mut [u32], bytes: &[u8]) -> Inbox
         requires { Pushable limits self (length bytes.now) store.old lengths.old }
-        ensures { pushAfter result store.new lengths.new ≡ push limits self bytes.now store.old lengths.old }
+        ensures { push_after result store.new lengths.new ≡ push limits self bytes.now store.old lengths.old }
     {
         let base = rings(limits);
         let size = limits.input_bytes();
@@ -86,10 +86,10 @@ impl Inbox {
     }
 
     // Counts a message of n bytes, and in Frames appends its length.
-    #[tactic(auto, unfolding(crate::specs::Inbox::pushedFrame))]
+    #[tactic(auto, unfolding(crate::specs::Inbox::pushed_frame))]
     fn push_frame(self, window: Window, lengths: &mut [u32], n: usize) -> Inbox
         requires { FrameRoom window self n lengths.old }
-        ensures { frameAfter result lengths.new ≡ pushedFrame window self n lengths.old }
+        ensures { frame_after result lengths.new ≡ pushed_frame window self n lengths.old }
     {
         let unit = window.unit;
         let mut inbox = self;
@@ -122,10 +122,10 @@ impl Inbox {
 
     // Removes the first `count` bytes, at most as many as wait, and frees units for them: each byte's, or that of each frame
     // whose last byte goes.
-    #[tactic(auto, unfolding(crate::specs::Inbox::pop, crate::specs::Inbox::popUnits))]
+    #[tactic(auto, unfolding(crate::specs::Inbox::pop, crate::specs::Inbox::pop_units))]
     pub fn pop(self, limits: Limits, lengths: &mut [u32], count: usize) -> Popping
         requires { Poppable limits self lengths.old }
-        ensures { popAfter result lengths.new ≡ pop limits self count lengths.old }
+        ensures { pop_after result lengths.new ≡ pop limits self count lengths.old }
     {
         let size = limits.input_bytes();
         let begun = self.start;
@@ -143,10 +143,10 @@ impl Inbox {
     }
 
     // The units that n bytes free, the frames that they finish removed.
-    #[tactic(auto, unfolding(crate::specs::Inbox::popUnits))]
+    #[tactic(auto, unfolding(crate::specs::Inbox::pop_units))]
     fn pop_units(self, window: Window, lengths: &mut [u32], n: usize) -> Popping
         requires { Slots window self n lengths.old }
-        ensures { popAfter result lengths.new ≡ popUnits window self n lengths.old }
+        ensures { pop_after result lengths.new ≡ pop_units window self n lengths.old }
     {
         let unit = window.unit;
         let mut inbox = self;
@@ -173,7 +173,7 @@ impl Inbox {
 
     // Whether the frames are none in Bytes, and in Frames have their lengths in a ring and room for the bytes.
     fn frames_fit(self, unit: Unit, size: u32, chunk: u32) -> bool
-        ensures { result ≡ framesFit unit size chunk self }
+        ensures { result ≡ frames_fit unit size chunk self }
     {
         match unit {
             Unit::Bytes => (self.first == 0) & (self.frames == 0),
@@ -188,7 +188,7 @@ impl Inbox {
 
     // As `fits`, for limits that are valid, and quicker: each call asks it.
     pub fn within(self, limits: Limits, granted: Granted) -> bool
-        ensures { result ≡ inboxWithin limits.input.unit limits.input.size limits.chunk granted self }
+        ensures { result ≡ inbox_within limits.input.unit limits.input.size limits.chunk granted self }
     {
         let window = limits.input;
         let unit = window.unit;
@@ -211,7 +211,7 @@ impl Inbox {
 
     // Whether the inbox and the units of its window are in range.
     pub fn fits(self, limits: Limits, granted: Granted) -> bool
-        ensures { result ≡ inboxFits limits granted self }
+        ensures { result ≡ inbox_fits limits granted self }
     {
         let size = limits.input_bytes();
         let window = limits.input;

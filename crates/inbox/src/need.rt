@@ -1,12 +1,12 @@
 // What an execution needs of the stores that it is lent.
 ghost use Rattle.std.specs.Prelude.{◌≡◌};
-ghost use Rattle.inbox.specs.Need.{ringsOf, byteNeed, lengthNeed};
+ghost use Rattle.inbox.specs.Need.{rings_of, byte_need, length_need};
 
 use exec::{Limits, Unit};
 
 // The bytes that the rings of the output streams take: a chunk for each stream.
 pub fn rings(limits: Limits) -> usize
-    ensures { result ≡ ringsOf limits }
+    ensures { result ≡ rings_of limits }
 {
     let chunk = limits.chunk as usize;
     chunk + chunk
@@ -14,14 +14,14 @@ pub fn rings(limits: Limits) -> usize
 
 // The bytes: the rings of the output streams, and the inbox.
 pub fn byte_need(limits: Limits) -> usize
-    ensures { result ≡ byteNeed limits }
+    ensures { result ≡ byte_need limits }
 {
     rings(limits) + limits.input_bytes()
 }
 
 // The lengths: one for each frame of the input, where it counts frames.
 pub fn length_need(limits: Limits) -> usize
-    ensures { result ≡ lengthNeed limits }
+    ensures { result ≡ length_need limits }
 {
     let input = limits.input;
     let unit = input.unit;

@@ -1,6 +1,6 @@
 // The receiver's side of a pool.
 ghost use Rattle.std.specs.Prelude.{◌≡◌, ◌+◌, ◌<◌, ◌^◌};
-ghost use Rattle.inbox.specs.Receiver.{newGranted, charge, freed, takeGrant, unitsFit};
+ghost use Rattle.inbox.specs.Receiver.{new_granted, charge, freed, take_grant, units_fit};
 
 use exec::{Refusal, Reply};
 
@@ -28,7 +28,7 @@ pub struct Taking {
 impl Granted {
     // Before the first grant, which opens the whole window.
     pub fn new(size: u32) -> Self
-        ensures { result ≡ newGranted size }
+        ensures { result ≡ new_granted size }
     {
         Granted {
             open: 0,
@@ -66,7 +66,7 @@ impl Granted {
     // Opens all that is to be granted.
     pub fn take_grant(self) -> Taking
         requires { self.open + self.returnable < 2 ^ 32 }
-        ensures { result ≡ takeGrant self }
+        ensures { result ≡ take_grant self }
     {
         let units = self.returnable;
         let open = self.open + units;
@@ -81,7 +81,7 @@ impl Granted {
 
     // Whether what is open, to be granted and held is no more than the window.
     pub fn fits(self, held: usize, size: u32) -> bool
-        ensures { result ≡ unitsFit self held size }
+        ensures { result ≡ units_fit self held size }
     {
         let most = size as usize;
         if most < held {

@@ -2,7 +2,7 @@
 use Rattle.std.proofs.Common.{◌≡◌, false, ℕ, ◌≤◌, arith}
 use Rattle.std.proofs.lemmas.Bool.Decides.{nat_tests}
 use Rattle.exec.specs.declared.Limits.{Limits}
-use Rattle.exec.specs.Limits.{offChunk}
+use Rattle.exec.specs.Limits.{off_chunk}
 
-pub chunk-fits : (l : Limits) (n : ℕ) → offChunk l n ≡ false → n ≤ l.chunk
-chunk-fits l n h = grind (arith, nat_tests)
+pub chunk_fits : (l : Limits) (n : ℕ) → off_chunk l n ≡ false → n ≤ l.chunk
+chunk_fits l n h = grind (arith, nat_tests)

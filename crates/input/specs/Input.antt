@@ -6,20 +6,20 @@ use Rattle.exec.specs.declared.Receipt.TheVariants.{Applied, Stale, Late}
 use Rattle.exec.specs.declared.Received.{Received}
 use Rattle.exec.specs.declared.Received.TheVariants.{Receipt, Refused}
 use Rattle.exec.specs.declared.Refusal.TheVariants as Refusal
-use Rattle.exec.specs.Limits.{cost, offChunk}
-use Rattle.inbox.specs.Inbox.{newInbox, pushed, bytesPushed, lengthsPushed, front, popFreed, popInbox, popLengths}
-use Rattle.inbox.specs.Need.{byteNeed, lengthNeed}
+use Rattle.exec.specs.Limits.{cost, off_chunk}
+use Rattle.inbox.specs.Inbox.{new_inbox, pushed, bytes_pushed, lengths_pushed, front, pop_freed, pop_inbox, pop_lengths}
+use Rattle.inbox.specs.Need.{byte_need, length_need}
 use Rattle.inbox.specs.RangeLaws.{InRange}
-use Rattle.inbox.specs.Receiver.{newGranted, opened, freed}
+use Rattle.inbox.specs.Receiver.{new_granted, opened, freed}
 use Rattle.input.specs.declared.Crediting.{Crediting}
 use Rattle.input.specs.declared.Input.{Input}
 use Rattle.input.specs.declared.Receiving.{Receiving}
-use Rattle.input.specs.Setters.{setInbox, setWindow, setPeerEnded, setInputClosed, setCloseRequested, setClosedMessage}
+use Rattle.input.specs.Setters.{set_inbox, set_window, set_peer_ended, set_input_closed, set_close_requested, set_closed_message}
 
-abbrev pub newInput : ℕ → Input
-newInput size = record {
-  inbox = newInbox;
-  window = newGranted size;
+abbrev pub new_input : ℕ → Input
+new_input size = record {
+  inbox = new_inbox;
+  window = new_granted size;
   peer_ended = false;
   closed = false;
   close_requested = false;
@@ -28,77 +28,77 @@ newInput size = record {
 
 -- ---- credit of the input
 
-abbrev pub inputAccepts : Input → Bool
-inputAccepts i = not i.closed && not i.peer_ended
+abbrev pub input_accepts : Input → Bool
+input_accepts i = not i.closed && not i.peer_ended
 
-abbrev pub canGrant : Input → Bool
-canGrant i = inputAccepts i && ltb 0 i.window.returnable
+abbrev pub can_grant : Input → Bool
+can_grant i = input_accepts i && ltb 0 i.window.returnable
 
-abbrev pub grantedIn : Input → Input
-grantedIn i = setWindow (opened i.window) i
+abbrev pub granted_in : Input → Input
+granted_in i = set_window (opened i.window) i
 
-abbrev pub takeCredit : Input → Crediting
-takeCredit i = record { input = grantedIn i; units = i.window.returnable }
+abbrev pub take_credit : Input → Crediting
+take_credit i = record { input = granted_in i; units = i.window.returnable }
 
 -- ---- closing
 
 -- other than by the runner's request: what waits is dropped, and the peer told unless it ended the input or is gone
-abbrev pub closeInput : Input → Bool → Input
-closeInput i detached =
-    cond i.closed i (setInbox newInbox (setInputClosed true (setClosedMessage (not i.peer_ended && not detached) i)))
+abbrev pub close_input : Input → Bool → Input
+close_input i detached =
+    cond i.closed i (set_inbox new_inbox (set_input_closed true (set_closed_message (not i.peer_ended && not detached) i)))
 
 -- by the runner's request, once the input is used up: the peer ended it, it is open, and the workload took every byte
-abbrev pub isUsedUp : Input → Bool
-isUsedUp i = (i.peer_ended && not i.closed) && eqb i.inbox.length 0
+abbrev pub is_used_up : Input → Bool
+is_used_up i = (i.peer_ended && not i.closed) && eqb i.inbox.length 0
 
-abbrev pub closeWhenTaken : Input → Input
-closeWhenTaken i = setInputClosed (isUsedUp i || i.closed) (setCloseRequested (isUsedUp i || i.close_requested) i)
+abbrev pub close_when_taken : Input → Input
+close_when_taken i = set_input_closed (is_used_up i || i.closed) (set_close_requested (is_used_up i || i.close_requested) i)
 
 -- ---- bytes from the peer: Ended, Chunk, Window, then closed, where the charge stands and the answer is Late
 
 -- a message of so many bytes costs more than the window has open
-abbrev pub offWindow : Limits → Input → ℕ → Bool
-offWindow l i n = ltb i.window.open (cost l.input.unit n)
+abbrev pub off_window : Limits → Input → ℕ → Bool
+off_window l i n = ltb i.window.open (cost l.input.unit n)
 
-unfoldable pub receiveAnswer : Limits → Input → ℕ → Received
-receiveAnswer l i n =
+unfoldable pub receive_answer : Limits → Input → ℕ → Received
+receive_answer l i n =
     cond i.peer_ended (Refused Refusal.Ended)
-    (cond (offChunk l n) (Refused Refusal.Chunk)
-    (cond (offWindow l i n) (Refused Refusal.Window)
+    (cond (off_chunk l n) (Refused Refusal.Chunk)
+    (cond (off_window l i n) (Refused Refusal.Window)
     (cond i.closed (Receipt Late) (Receipt Applied))))
 
-abbrev pub isReceipt : Received → Bool
-isReceipt (Refused x) = false
-isReceipt (Receipt x) = true
+abbrev pub is_receipt : Received → Bool
+is_receipt (Refused x) = false
+is_receipt (Receipt x) = true
 
-abbrev pub isApplied : Received → Bool
-isApplied (Refused x) = false
-isApplied (Receipt Applied) = true
-isApplied (Receipt Stale) = false
-isApplied (Receipt Late) = false
+abbrev pub is_applied : Received → Bool
+is_applied (Refused x) = false
+is_applied (Receipt Applied) = true
+is_applied (Receipt Stale) = false
+is_applied (Receipt Late) = false
 
 -- the message is charged unless it is refused, and kept where it is applied
-abbrev pub isPaid : Limits → Input → ℕ → Bool
-isPaid l i n = isReceipt (receiveAnswer l i n)
+abbrev pub is_paid : Limits → Input → ℕ → Bool
+is_paid l i n = is_receipt (receive_answer l i n)
 
-abbrev pub isKept : Limits → Input → ℕ → Bool
-isKept l i n = isApplied (receiveAnswer l i n)
+abbrev pub is_kept : Limits → Input → ℕ → Bool
+is_kept l i n = is_applied (receive_answer l i n)
 
-unfoldable pub receiveInput : Limits → Input → ℕ → Input
-receiveInput l i n =
-    setInbox (cond (isKept l i n) (pushed l.input.unit n i.inbox) i.inbox)
-    (setWindow (record {
-      «open» = cond (isPaid l i n) (i.window.open - cost l.input.unit n) i.window.open;
+unfoldable pub receive_input : Limits → Input → ℕ → Input
+receive_input l i n =
+    set_inbox (cond (is_kept l i n) (pushed l.input.unit n i.inbox) i.inbox)
+    (set_window (record {
+      «open» = cond (is_paid l i n) (i.window.open - cost l.input.unit n) i.window.open;
       returnable = i.window.returnable;
     }) i)
 
-unfoldable pub receiveBytes : Limits → Input → (bytes store : List ℕ) → List ℕ
-receiveBytes l i bytes store =
-    cond (isKept l i (length bytes)) (bytesPushed l i.inbox bytes store) store
+unfoldable pub receive_bytes : Limits → Input → (bytes store : List ℕ) → List ℕ
+receive_bytes l i bytes store =
+    cond (is_kept l i (length bytes)) (bytes_pushed l i.inbox bytes store) store
 
-unfoldable pub receiveLengths : Limits → Input → ℕ → List ℕ → List ℕ
-receiveLengths l i n lengths =
-    cond (isKept l i n) (lengthsPushed l.input.unit l.input.size n i.inbox lengths) lengths
+unfoldable pub receive_lengths : Limits → Input → ℕ → List ℕ → List ℕ
+receive_lengths l i n lengths =
+    cond (is_kept l i n) (lengths_pushed l.input.unit l.input.size n i.inbox lengths) lengths
 
 -- what is left: the input with its answer, and both stores
 pub record ReceiveAfter : Type 0 where
@@ -106,29 +106,29 @@ pub record ReceiveAfter : Type 0 where
   pub bytes : List ℕ
   pub lengths : List ℕ
 
-abbrev pub receiveAfter : Receiving → (store lengths : List ℕ) → ReceiveAfter
-receiveAfter r store lengths = record { receiving = r; bytes = store; lengths = lengths }
+abbrev pub receive_after : Receiving → (store lengths : List ℕ) → ReceiveAfter
+receive_after r store lengths = record { receiving = r; bytes = store; lengths = lengths }
 
 abbrev pub receive : Limits → Input → (bytes store lengths : List ℕ) → ReceiveAfter
 receive l i bytes store lengths =
-    receiveAfter
-    (record { input = receiveInput l i (length bytes); received = receiveAnswer l i (length bytes) })
-    (receiveBytes l i bytes store)
-    (receiveLengths l i (length bytes) lengths)
+    receive_after
+    (record { input = receive_input l i (length bytes); received = receive_answer l i (length bytes) })
+    (receive_bytes l i bytes store)
+    (receive_lengths l i (length bytes) lengths)
 
 -- the input is in range, and the stores do
 pub record Lent (l : Limits) (i : Input) (store lengths : List ℕ) : Type 0 where
   pub range : InRange l i.window i.inbox
-  pub bytes : byteNeed l ≤ length store
-  pub slots : lengthNeed l ≤ length lengths
+  pub bytes : byte_need l ≤ length store
+  pub slots : length_need l ≤ length lengths
 
 -- ---- the answer by its ways
 
 -- a message that is charged passed the tests
 pub record Paid (l : Limits) (i : Input) (n : ℕ) : Type 0 where
   pub goes_on : i.peer_ended ≡ false
-  pub chunk : offChunk l n ≡ false
-  pub window : offWindow l i n ≡ false
+  pub chunk : off_chunk l n ≡ false
+  pub window : off_window l i n ≡ false
 
 -- what holds of each answer that there is holds of this one
 module _ (l : Limits) (i : Input) (n : ℕ) (P : Received → Type 0) (ended : P (Refused Refusal.Ended)) (chunk : P (Refused Refusal.Chunk)) (window : P (Refused Refusal.Window)) (late : Paid l i n → P (Receipt Late)) (applied : Paid l i n → P (Receipt Applied)) where
@@ -140,68 +140,68 @@ module _ (l : Limits) (i : Input) (n : ℕ) (P : Received → Type 0) (ended : P
   by_tests false false false true paid = late (paid refl refl refl)
   by_tests false false false false paid = applied (paid refl refl refl)
 
-  pub answered : P (receiveAnswer l i n)
-  unfolding receiveAnswer
+  pub answered : P (receive_answer l i n)
+  unfolding receive_answer
   answered =
-      by_tests i.peer_ended (offChunk l n) (offWindow l i n) i.closed (λ e c w. record { goes_on = e; chunk = c; window = w })
+      by_tests i.peer_ended (off_chunk l n) (off_window l i n) i.closed (λ e c w. record { goes_on = e; chunk = c; window = w })
 
 module _ (l : Limits) (i : Input) (n : ℕ) where
-  pub kept-paid : isKept l i n ≡ true → isPaid l i n ≡ true
-  kept-paid = answered l i n (λ x. isApplied x ≡ true → isReceipt x ≡ true) (λ e. e) (λ e. e) (λ e. e) (λ p e. refl) (λ p e. refl)
+  pub kept_paid : is_kept l i n ≡ true → is_paid l i n ≡ true
+  kept_paid = answered l i n (λ x. is_applied x ≡ true → is_receipt x ≡ true) (λ e. e) (λ e. e) (λ e. e) (λ p e. refl) (λ p e. refl)
 
-  pub passed : isPaid l i n ≡ true → Paid l i n
-  passed = answered l i n (λ x. isReceipt x ≡ true → Paid l i n) (λ e. absurd (false≢true e)) (λ e. absurd (false≢true e)) (λ e. absurd (false≢true e)) (λ p e. p) (λ p e. p)
+  pub passed : is_paid l i n ≡ true → Paid l i n
+  passed = answered l i n (λ x. is_receipt x ≡ true → Paid l i n) (λ e. absurd (false≢true e)) (λ e. absurd (false≢true e)) (λ e. absurd (false≢true e)) (λ p e. p) (λ p e. p)
 
 -- ---- the peer's end of the input
 
-abbrev pub peerEnds : Input → Input
-peerEnds i = setPeerEnded true i
+abbrev pub peer_ends : Input → Input
+peer_ends i = set_peer_ended true i
 
-unfoldable pub endAnswer : Input → Received
-endAnswer i = cond i.peer_ended (Refused Refusal.Ended) (cond i.closed (Receipt Late) (Receipt Applied))
+unfoldable pub end_answer : Input → Received
+end_answer i = cond i.peer_ended (Refused Refusal.Ended) (cond i.closed (Receipt Late) (Receipt Applied))
 
-unfoldable pub endInput : Input → Input
-endInput i = cond i.peer_ended i (closeWhenTaken (peerEnds i))
+unfoldable pub end_input : Input → Input
+end_input i = cond i.peer_ended i (close_when_taken (peer_ends i))
 
-abbrev pub inputEnded : Input → Receiving
-inputEnded i = record { input = endInput i; received = endAnswer i }
+abbrev pub input_ended : Input → Receiving
+input_ended i = record { input = end_input i; received = end_answer i }
 
 -- ---- bytes to the workload
 
-unfoldable pub pendingInput : Limits → Input → List ℕ → List ℕ
-pendingInput l i store = cond i.closed [] (front l i.inbox store)
+unfoldable pub pending_input : Limits → Input → List ℕ → List ℕ
+pending_input l i store = cond i.closed [] (front l i.inbox store)
 
-abbrev pub popIn : Limits → ℕ → List ℕ → Input → Input
-popIn l count lengths i =
-    setInbox (popInbox l i.inbox count lengths)
-    (setWindow (freed i.window (popFreed l i.inbox count lengths)) i)
+abbrev pub pop_in : Limits → ℕ → List ℕ → Input → Input
+pop_in l count lengths i =
+    set_inbox (pop_inbox l i.inbox count lengths)
+    (set_window (freed i.window (pop_freed l i.inbox count lengths)) i)
 
-unfoldable pub writtenInput : Limits → Input → ℕ → List ℕ → Input
-writtenInput l i count lengths = cond i.closed i (closeWhenTaken (popIn l count lengths i))
+unfoldable pub written_input : Limits → Input → ℕ → List ℕ → Input
+written_input l i count lengths = cond i.closed i (close_when_taken (pop_in l count lengths i))
 
-unfoldable pub writtenLengths : Limits → Input → ℕ → List ℕ → List ℕ
-writtenLengths l i count lengths =
-    cond i.closed lengths (popLengths l i.inbox count lengths)
+unfoldable pub written_lengths : Limits → Input → ℕ → List ℕ → List ℕ
+written_lengths l i count lengths =
+    cond i.closed lengths (pop_lengths l i.inbox count lengths)
 
 -- what is left: the input, and the length store
 pub record WrittenAfter : Type 0 where
   pub input : Input
   pub lengths : List ℕ
 
-abbrev pub writtenAfter : Input → List ℕ → WrittenAfter
-writtenAfter i lengths = record { input = i; lengths = lengths }
+abbrev pub written_after : Input → List ℕ → WrittenAfter
+written_after i lengths = record { input = i; lengths = lengths }
 
 abbrev pub written : Limits → Input → ℕ → List ℕ → WrittenAfter
-written l i count lengths = writtenAfter (writtenInput l i count lengths) (writtenLengths l i count lengths)
+written l i count lengths = written_after (written_input l i count lengths) (written_lengths l i count lengths)
 
 pub record Writable (l : Limits) (i : Input) (lengths : List ℕ) : Type 0 where
   pub range : InRange l i.window i.inbox
-  pub slots : lengthNeed l ≤ length lengths
+  pub slots : length_need l ≤ length lengths
 
 -- ---- what was returned
 
-abbrev pub messageTold : Input → Input
-messageTold i = setClosedMessage false i
+abbrev pub message_told : Input → Input
+message_told i = set_closed_message false i
 
-abbrev pub closeAsked : Input → Input
-closeAsked i = setCloseRequested false i
+abbrev pub close_asked : Input → Input
+close_asked i = set_close_requested false i

@@ -2,27 +2,27 @@
 #![tactic(auto)]
 
 ghost use Rattle.std.specs.Prelude.{◌≡◌, false, ◌+◌, ◌<◌, ◌^◌, length};
-ghost use Rattle.exec.specs.Limits.{cost, checkChunk, offChunk};
+ghost use Rattle.exec.specs.Limits.{cost, check_chunk, off_chunk};
 ghost use Rattle.inbox.specs.Range.{Waiting};
 ghost use Rattle.inbox.specs.Receiver.{charge};
 ghost use Rattle.input.specs.Input.{
-  newInput,
-  inputAccepts,
-  canGrant,
-  closeInput,
-  closeWhenTaken,
+  new_input,
+  input_accepts,
+  can_grant,
+  close_input,
+  close_when_taken,
   Paid,
   Lent,
-  receiveAfter,
+  receive_after,
   receive,
-  inputEnded,
-  pendingInput,
-  writtenAfter,
+  input_ended,
+  pending_input,
+  written_after,
   written,
   Writable,
-  takeCredit,
-  messageTold,
-  closeAsked,
+  take_credit,
+  message_told,
+  close_asked,
 };
 
 use exec::{ChunkLength, Limits, Receipt, Received, Refusal, Reply};
@@ -61,7 +61,7 @@ pub struct Crediting {
 
 impl Input {
     pub fn new(size: u32) -> Self
-        ensures { result ≡ newInput size }
+        ensures { result ≡ new_input size }
     {
         let inbox = Inbox::new();
         let window = Granted::new(size);
@@ -77,14 +77,14 @@ impl Input {
 
     // Whether the runner still grants credit: the input is open, and the peer has not ended it.
     pub fn accepts(self) -> bool
-        ensures { result ≡ inputAccepts self }
+        ensures { result ≡ input_accepts self }
     {
         !self.closed & !self.peer_ended
     }
 
     // Whether credit waits to be granted.
     pub fn can_grant(self) -> bool
-        ensures { result ≡ canGrant self }
+        ensures { result ≡ can_grant self }
     {
         let window = self.window;
         (!self.closed & !self.peer_ended) & (0 < window.returnable)
@@ -93,7 +93,7 @@ impl Input {
     // Grants all that is returnable.
     pub fn take_credit(self) -> Crediting
         requires { self.window.open + self.window.returnable < 2 ^ 32 }
-        ensures { result ≡ takeCredit self }
+        ensures { result ≡ take_credit self }
     {
         let window = self.window;
         let taking = window.take_grant();
@@ -107,7 +107,7 @@ impl Input {
     // Closes the input, other than by the runner's request: what waits is dropped, and the peer is told unless it ended the
     // input or is gone.
     pub fn close(self, detached: bool) -> Input
-        ensures { result ≡ closeInput self detached }
+        ensures { result ≡ close_input self detached }
     {
         if self.closed {
             return self;
@@ -122,7 +122,7 @@ impl Input {
 
     // Requests to close the input once it is used up: the peer ended it, and the workload took every byte.
     fn close_when_taken(mut self) -> Input
-        ensures { result ≡ closeWhenTaken self }
+        ensures { result ≡ close_when_taken self }
     {
         let inbox = self.inbox;
         let used_up = (self.peer_ended & !self.closed) & (inbox.length == 0);
@@ -132,7 +132,7 @@ impl Input {
     }
 
     // Takes bytes from the peer: they are charged to the window, and dropped once the input is closed.
-    #[tactic(auto, unfolding(crate::specs::Input::receiveAnswer, crate::specs::Input::receiveInput, crate::specs::Input::receiveBytes, crate::specs::Input::receiveLengths))]
+    #[tactic(auto, unfolding(crate::specs::Input::receive_answer, crate::specs::Input::receive_input, crate::specs::Input::receive_bytes, crate::specs::Input::receive_lengths))]
     pub fn receive(
         self,
         limits: Limits,
@@ -141,7 +141,7 @@ impl Input {
         bytes: &[u8],
     ) -> Receiving
         requires { Lent limits self store.old lengths.old }
-        ensures { receiveAfter result store.new lengths.new ≡ receive limits self bytes.now store.old lengths.old }
+        ensures { receive_after result store.new lengths.new ≡ receive limits self bytes.now store.old lengths.old }
     {
         if self.peer_ended {
             return Receiving {
@@ -153,7 +153,7 @@ impl Input {
         self.receive_checked(checked, limits, store, lengths, bytes)
     }
 
-    #[tactic(auto, unfolding(crate::specs::Input::receiveAnswer, crate::specs::Input::receiveInput, crate::specs::Input::receiveBytes, crate::specs::Input::receiveLengths, exec::specs::Limits::checkChunk))]
+    #[tactic(auto, unfolding(crate::specs::Input::receive_answer, crate::specs::Input::receive_input, crate::specs::Input::receive_bytes, crate::specs::Input::receive_lengths, exec::specs::Limits::check_chunk))]
     fn receive_checked(
         self,
         checked: ChunkLength,
@@ -163,8 +163,8 @@ impl Input {
         bytes: &[u8],
     ) -> Receiving
         requires lent { Lent limits self store.old lengths.old }
-        requires checked_length { (self.peer_ended ≡ false) × (checked ≡ checkChunk limits (length bytes.now)) }
-        ensures { receiveAfter result store.new lengths.new ≡ receive limits self bytes.now store.old lengths.old }
+        requires checked_length { (self.peer_ended ≡ false) × (checked ≡ check_chunk limits (length bytes.now)) }
+        ensures { receive_after result store.new lengths.new ≡ receive limits self bytes.now store.old lengths.old }
     {
         match checked {
             ChunkLength::Refused(refusal) => Receiving {
@@ -180,7 +180,7 @@ impl Input {
         }
     }
 
-    #[tactic(auto, unfolding(crate::specs::Input::receiveAnswer, crate::specs::Input::receiveInput, crate::specs::Input::receiveBytes, crate::specs::Input::receiveLengths))]
+    #[tactic(auto, unfolding(crate::specs::Input::receive_answer, crate::specs::Input::receive_input, crate::specs::Input::receive_bytes, crate::specs::Input::receive_lengths))]
     fn receive_charged(
         self,
         charging: Charging,
@@ -190,8 +190,8 @@ impl Input {
         bytes: &[u8],
     ) -> Receiving
         requires lent { Lent limits self store.old lengths.old }
-        requires charged { (self.peer_ended ≡ false) × (offChunk limits (length bytes.now) ≡ false) × (charging ≡ charge self.window (cost limits.input.unit (length bytes.now))) }
-        ensures { receiveAfter result store.new lengths.new ≡ receive limits self bytes.now store.old lengths.old }
+        requires charged { (self.peer_ended ≡ false) × (off_chunk limits (length bytes.now) ≡ false) × (charging ≡ charge self.window (cost limits.input.unit (length bytes.now))) }
+        ensures { receive_after result store.new lengths.new ≡ receive limits self bytes.now store.old lengths.old }
     {
         let reply = charging.reply;
         match reply {
@@ -207,7 +207,7 @@ impl Input {
     }
 
     // Keeps a message that is paid for, unless the input is closed: then the charge stands, and the bytes are dropped.
-    #[tactic(auto, unfolding(crate::specs::Input::receiveAnswer, crate::specs::Input::receiveInput, crate::specs::Input::receiveBytes, crate::specs::Input::receiveLengths, inbox::specs::Inbox::push))]
+    #[tactic(auto, unfolding(crate::specs::Input::receive_answer, crate::specs::Input::receive_input, crate::specs::Input::receive_bytes, crate::specs::Input::receive_lengths, inbox::specs::Inbox::push))]
     fn receive_paid(
         self,
         granted: Granted,
@@ -218,7 +218,7 @@ impl Input {
     ) -> Receiving
         requires lent { Lent limits self store.old lengths.old }
         requires paid { Paid limits self (length bytes.now) × (granted ≡ (charge self.window (cost limits.input.unit (length bytes.now))).granted) }
-        ensures { receiveAfter result store.new lengths.new ≡ receive limits self bytes.now store.old lengths.old }
+        ensures { receive_after result store.new lengths.new ≡ receive limits self bytes.now store.old lengths.old }
     {
         let mut input = self;
         input.window = granted;
@@ -238,9 +238,9 @@ impl Input {
     }
 
     // Takes the end of the input from the peer.
-    #[tactic(auto, unfolding(crate::specs::Input::endInput, crate::specs::Input::endAnswer))]
+    #[tactic(auto, unfolding(crate::specs::Input::end_input, crate::specs::Input::end_answer))]
     pub fn end(self) -> Receiving
-        ensures { result ≡ inputEnded self }
+        ensures { result ≡ input_ended self }
     {
         if self.peer_ended {
             return Receiving {
@@ -264,10 +264,10 @@ impl Input {
     }
 
     // The bytes that the adapter writes to the workload next, as many as stand in one run: a part of the byte store.
-    #[tactic(auto, unfolding(crate::specs::Input::pendingInput))]
+    #[tactic(auto, unfolding(crate::specs::Input::pending_input))]
     pub fn pending<'a>(self, limits: Limits, store: &'a [u8]) -> &'a [u8]
         requires { Waiting limits self.inbox store.now }
-        ensures { result.now ≡ pendingInput limits self store.now }
+        ensures { result.now ≡ pending_input limits self store.now }
     {
         if self.closed {
             return &store[0..0];
@@ -277,10 +277,10 @@ impl Input {
     }
 
     // Notes how many of the waiting bytes the workload took, whose units are granted again.
-    #[tactic(auto, unfolding(crate::specs::Input::writtenInput, crate::specs::Input::writtenLengths, inbox::specs::Inbox::pop))]
+    #[tactic(auto, unfolding(crate::specs::Input::written_input, crate::specs::Input::written_lengths, inbox::specs::Inbox::pop))]
     pub fn written(self, limits: Limits, lengths: &mut [u32], count: usize) -> Input
         requires { Writable limits self lengths.old }
-        ensures { writtenAfter result lengths.new ≡ written limits self count lengths.old }
+        ensures { written_after result lengths.new ≡ written limits self count lengths.old }
     {
         if self.closed {
             return self;
@@ -298,7 +298,7 @@ impl Input {
 
     // The message that the input closed was returned.
     pub fn message_told(mut self) -> Input
-        ensures { result ≡ messageTold self }
+        ensures { result ≡ message_told self }
     {
         self.closed_message = false;
         self
@@ -306,7 +306,7 @@ impl Input {
 
     // The request to close the input was returned.
     pub fn close_asked(mut self) -> Input
-        ensures { result ≡ closeAsked self }
+        ensures { result ≡ close_asked self }
     {
         self.close_requested = false;
         self

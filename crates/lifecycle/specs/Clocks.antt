@@ -4,11 +4,11 @@ use Rattle.exec.specs.declared.Deadline.{Deadline}
 use Rattle.exec.specs.declared.Deadline.TheVariants.{Never}
 use Rattle.exec.specs.Time.{after, then, earliest, due}
 use Rattle.lifecycle.specs.declared.clocks.Clocks.{Clocks}
-use Rattle.lifecycle.specs.Setters.{setGraceUntil, setGiveUpAt}
+use Rattle.lifecycle.specs.Setters.{set_grace_until, set_give_up_at}
 
 -- a termination: no timeout any more, the end of grace, and the time to give up after that
-abbrev pub terminateClocks : Clocks → (now grace settlement : ℕ) → Clocks
-terminateClocks c now grace settlement = record {
+abbrev pub terminate_clocks : Clocks → (now grace settlement : ℕ) → Clocks
+terminate_clocks c now grace settlement = record {
   timeout_at = Never;
   grace_until = after now grace;
   give_up_at = then (after now grace) settlement;
@@ -17,23 +17,23 @@ terminateClocks c now grace settlement = record {
 }
 
 -- neither the end of grace nor the time to give up is waited for
-abbrev pub stopWaiting : Clocks → Clocks
-stopWaiting c = setGraceUntil Never (setGiveUpAt Never c)
+abbrev pub stop_waiting : Clocks → Clocks
+stop_waiting c = set_grace_until Never (set_give_up_at Never c)
 
 -- the runner gives up a settlement time after now at the latest
-abbrev pub giveUpBy : Clocks → (now settlement : ℕ) → Clocks
-giveUpBy c now settlement = setGiveUpAt (earliest c.give_up_at (after now settlement)) c
+abbrev pub give_up_by : Clocks → (now settlement : ℕ) → Clocks
+give_up_by c now settlement = set_give_up_at (earliest c.give_up_at (after now settlement)) c
 
 -- one of the four is reached
-abbrev pub clocksDue : Clocks → ℕ → Bool
-clocksDue c now =
+abbrev pub clocks_due : Clocks → ℕ → Bool
+clocks_due c now =
     ((due c.timeout_at now || due c.grace_until now) || due c.give_up_at now) || due c.abandon_at now
 
 -- the first to fire, with the settlement's, and those of give-up and abandonment where they would still do anything
-abbrev pub firstOf : Clocks → Deadline → (giveUp abandon : Bool) → Deadline
-firstOf c settlement giveUp abandon =
+abbrev pub first_of : Clocks → Deadline → (give_up abandon : Bool) → Deadline
+first_of c settlement give_up abandon =
     earliest (earliest (earliest (earliest c.timeout_at c.grace_until) settlement)
-    (cond giveUp c.give_up_at Never)) (cond abandon c.abandon_at Never)
+    (cond give_up c.give_up_at Never)) (cond abandon c.abandon_at Never)
 
 -- neither of two, where their disjunction fails
 left : (a b : Bool) → a || b ≡ false → a ≡ false
@@ -46,15 +46,15 @@ right true false h = refl
 right false b h = h
 
 -- with none reached, each waits on
-pub timeout-waits : (c : Clocks) (now : ℕ) → clocksDue c now ≡ false → due c.timeout_at now ≡ false
-timeout-waits c now h = left _ _ (left _ _ (left _ _ h))
+pub timeout_waits : (c : Clocks) (now : ℕ) → clocks_due c now ≡ false → due c.timeout_at now ≡ false
+timeout_waits c now h = left _ _ (left _ _ (left _ _ h))
 
-pub grace-waits : (c : Clocks) (now : ℕ) → clocksDue c now ≡ false → due c.grace_until now ≡ false
-grace-waits c now h = right (due c.timeout_at now) _ (left _ _ (left _ _ h))
+pub grace_waits : (c : Clocks) (now : ℕ) → clocks_due c now ≡ false → due c.grace_until now ≡ false
+grace_waits c now h = right (due c.timeout_at now) _ (left _ _ (left _ _ h))
 
-pub give-up-waits : (c : Clocks) (now : ℕ) → clocksDue c now ≡ false → due c.give_up_at now ≡ false
-give-up-waits c now h = right (due c.timeout_at now || due c.grace_until now) _ (left _ _ h)
+pub give_up_waits : (c : Clocks) (now : ℕ) → clocks_due c now ≡ false → due c.give_up_at now ≡ false
+give_up_waits c now h = right (due c.timeout_at now || due c.grace_until now) _ (left _ _ h)
 
-pub abandon-waits : (c : Clocks) (now : ℕ) → clocksDue c now ≡ false → due c.abandon_at now ≡ false
-abandon-waits c now h =
+pub abandon_waits : (c : Clocks) (now : ℕ) → clocks_due c now ≡ false → due c.abandon_at now ≡ false
+abandon_waits c now h =
     right ((due c.timeout_at now || due c.grace_until now) || due c.give_up_at now) _ h

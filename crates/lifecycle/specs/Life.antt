@@ -18,59 +18,59 @@ use Rattle.lifecycle.specs.declared.life.Exit.TheVariants.{Running, Ended}
 use Rattle.lifecycle.specs.declared.life.Settling.{Settling}
 use Rattle.lifecycle.specs.declared.life.Settling.TheVariants.{Idle, Requested, Settled, Fenced}
 use Rattle.lifecycle.specs.declared.life.Life.{Life}
-use Rattle.lifecycle.specs.Setters.{setExit, setSettling}
+use Rattle.lifecycle.specs.Setters.{set_exit, set_settling}
 
-abbrev pub launchOf : LaunchResult → Launch
-launchOf LaunchResult.Started = Started
-launchOf (LaunchResult.Failed failure) = Failed failure
+abbrev pub launch_of : LaunchResult → Launch
+launch_of LaunchResult.Started = Started
+launch_of (LaunchResult.Failed failure) = Failed failure
 
-abbrev pub launchKnown : Launch → Bool
-launchKnown Awaited = false
-launchKnown Started = true
-launchKnown (Failed failure) = true
+abbrev pub launch_known : Launch → Bool
+launch_known Awaited = false
+launch_known Started = true
+launch_known (Failed failure) = true
 
-abbrev pub failureOf : Launch → MaybeLaunchFailure
-failureOf Awaited = MaybeLaunchFailure.None
-failureOf Started = MaybeLaunchFailure.None
-failureOf (Failed failure) = MaybeLaunchFailure.Some failure
+abbrev pub failure_of : Launch → MaybeLaunchFailure
+failure_of Awaited = MaybeLaunchFailure.None
+failure_of Started = MaybeLaunchFailure.None
+failure_of (Failed failure) = MaybeLaunchFailure.Some failure
 
-abbrev pub exitKnown : Exit → Bool
-exitKnown Running = false
-exitKnown (Ended status) = true
+abbrev pub exit_known : Exit → Bool
+exit_known Running = false
+exit_known (Ended status) = true
 
-abbrev pub statusOf : Exit → MaybeStatus
-statusOf Running = MaybeStatus.None
-statusOf (Ended status) = status
+abbrev pub status_of : Exit → MaybeStatus
+status_of Running = MaybeStatus.None
+status_of (Ended status) = status
 
 -- the status of an end that is not known is lost
-abbrev pub orLost : Exit → Exit
-orLost Running = Ended MaybeStatus.None
-orLost (Ended status) = Ended status
+abbrev pub or_lost : Exit → Exit
+or_lost Running = Ended MaybeStatus.None
+or_lost (Ended status) = Ended status
 
-abbrev pub isFenced : Settling → Bool
-isFenced Idle = false
-isFenced (Requested by) = false
-isFenced Settled = false
-isFenced Fenced = true
+abbrev pub is_fenced : Settling → Bool
+is_fenced Idle = false
+is_fenced (Requested by) = false
+is_fenced Settled = false
+is_fenced Fenced = true
 
-abbrev pub isSettled : Settling → Bool
-isSettled Idle = false
-isSettled (Requested by) = false
-isSettled Settled = true
-isSettled Fenced = false
+abbrev pub is_settled : Settling → Bool
+is_settled Idle = false
+is_settled (Requested by) = false
+is_settled Settled = true
+is_settled Fenced = false
 
-abbrev pub isRequested : Settling → Bool
-isRequested Idle = false
-isRequested (Requested by) = true
-isRequested Settled = false
-isRequested Fenced = false
+abbrev pub is_requested : Settling → Bool
+is_requested Idle = false
+is_requested (Requested by) = true
+is_requested Settled = false
+is_requested Fenced = false
 
 -- the result that was requested is late
-abbrev pub settlingLate : Settling → ℕ → Bool
-settlingLate Idle now = false
-settlingLate (Requested by) now = due by now
-settlingLate Settled now = false
-settlingLate Fenced now = false
+abbrev pub settling_late : Settling → ℕ → Bool
+settling_late Idle now = false
+settling_late (Requested by) now = due by now
+settling_late Settled now = false
+settling_late Fenced now = false
 
 -- fenced once that result is late
 abbrev pub expired : Settling → ℕ → Settling
@@ -80,59 +80,59 @@ expired Settled now = Settled
 expired Fenced now = Fenced
 
 -- what is not late stays
-pub expired-in-time : (s : Settling) (now : ℕ) → settlingLate s now ≡ false → expired s now ≡ s
-expired-in-time Idle now h = refl
-expired-in-time (Requested by) now h = rw h
-expired-in-time Settled now h = refl
-expired-in-time Fenced now h = refl
+pub expired_in_time : (s : Settling) (now : ℕ) → settling_late s now ≡ false → expired s now ≡ s
+expired_in_time Idle now h = refl
+expired_in_time (Requested by) now h = rw h
+expired_in_time Settled now h = refl
+expired_in_time Fenced now h = refl
 
 -- the result of the settlement, if one is awaited
-abbrev pub settleWith : Settling → Settlement → Settling
-settleWith Idle result = Idle
-settleWith (Requested by) Settlement.Settled = Settled
-settleWith (Requested by) Settlement.Failed = Fenced
-settleWith Settled result = Settled
-settleWith Fenced result = Fenced
+abbrev pub settle_with : Settling → Settlement → Settling
+settle_with Idle result = Idle
+settle_with (Requested by) Settlement.Settled = Settled
+settle_with (Requested by) Settlement.Failed = Fenced
+settle_with Settled result = Settled
+settle_with Fenced result = Fenced
 
-abbrev pub expectedBy : Settling → Deadline
-expectedBy Idle = Never
-expectedBy (Requested by) = by
-expectedBy Settled = Never
-expectedBy Fenced = Never
+abbrev pub expected_by : Settling → Deadline
+expected_by Idle = Never
+expected_by (Requested by) = by
+expected_by Settled = Never
+expected_by Fenced = Never
 
 -- the cause, while the workload runs
-abbrev pub causeFor : Exit → Cause → MaybeCause → MaybeCause
-causeFor Running cause old = MaybeCause.Some cause
-causeFor (Ended status) cause old = old
+abbrev pub cause_for : Exit → Cause → MaybeCause → MaybeCause
+cause_for Running cause old = MaybeCause.Some cause
+cause_for (Ended status) cause old = old
 
-abbrev pub endForAt : Exit → Life → Cause → Life
-endForAt exit l cause = record {
+abbrev pub end_for_at : Exit → Life → Cause → Life
+end_for_at exit l cause = record {
   launch = l.launch;
   exit = l.exit;
-  cause = causeFor exit cause l.cause;
-  terminate_request = causeFor exit cause l.terminate_request;
+  cause = cause_for exit cause l.cause;
+  terminate_request = cause_for exit cause l.terminate_request;
   settling = l.settling;
 }
 
 -- the runner ends the workload, if it still runs
-abbrev pub endFor : Life → Cause → Life
-endFor l cause = endForAt l.exit l cause
+abbrev pub end_for : Life → Cause → Life
+end_for l cause = end_for_at l.exit l cause
 
 -- a life whose end is known stays as it is
-pub end_known : (l : Life) (cause : Cause) (status : MaybeStatus) → l.exit ≡ Ended status → l ≡ endFor l cause
-end_known l cause status h = ap (λ (x : Exit). endForAt x l cause) (sym h)
+pub end_known : (l : Life) (cause : Cause) (status : MaybeStatus) → l.exit ≡ Ended status → l ≡ end_for l cause
+end_known l cause status h = ap (λ (x : Exit). end_for_at x l cause) (sym h)
 
 -- the workload ended, and its settlement is requested
-abbrev pub endWith : Life → MaybeStatus → Deadline → Life
-endWith l status by = setSettling (Requested by) (setExit (Ended status) l)
+abbrev pub end_with : Life → MaybeStatus → Deadline → Life
+end_with l status by = set_settling (Requested by) (set_exit (Ended status) l)
 
 -- a missing exit becomes one of no status, and the execution is fenced
-abbrev pub lifeGivenUp : Life → Life
-lifeGivenUp l = setSettling Fenced (setExit (orLost l.exit) l)
+abbrev pub life_given_up : Life → Life
+life_given_up l = set_settling Fenced (set_exit (or_lost l.exit) l)
 
 -- the request to end the workload was returned
-abbrev pub terminateTaken : Life → Life
-terminateTaken l = record {
+abbrev pub terminate_taken : Life → Life
+terminate_taken l = record {
   launch = l.launch;
   exit = l.exit;
   cause = l.cause;
@@ -140,19 +140,19 @@ terminateTaken l = record {
   settling = l.settling;
 }
 
-abbrev pub lifeExpired : Life → ℕ → Life
-lifeExpired l now = setSettling (expired l.settling now) l
+abbrev pub life_expired : Life → ℕ → Life
+life_expired l now = set_settling (expired l.settling now) l
 
-abbrev pub lifeSettled : Life → Settlement → Life
-lifeSettled l result = setSettling (settleWith l.settling result) l
+abbrev pub life_settled : Life → Settlement → Life
+life_settled l result = set_settling (settle_with l.settling result) l
 
 -- what the outcome says of the workload, with the truncation of the two streams
-abbrev pub lifeOutcome : Life → (out err : Bool) → Outcome
-lifeOutcome l out err = record {
-  status = statusOf l.exit;
+abbrev pub life_outcome : Life → (out err : Bool) → Outcome
+life_outcome l out err = record {
+  status = status_of l.exit;
   cause = l.cause;
-  launch_failure = failureOf l.launch;
+  launch_failure = failure_of l.launch;
   stdout_truncated = out;
   stderr_truncated = err;
-  reusable = isSettled l.settling;
+  reusable = is_settled l.settling;
 }

@@ -6,23 +6,23 @@ use Rattle.lifecycle.specs.declared.life.Exit.{Exit}
 use Rattle.lifecycle.specs.declared.life.Settling.{Settling}
 use Rattle.lifecycle.specs.declared.life.Life.{Life}
 
-abbrev pub setTimeoutAt : Deadline → Clocks → Clocks
-setTimeoutAt x c = record { timeout_at = x; grace_until = c.grace_until; give_up_at = c.give_up_at; abandon_at = c.abandon_at; terminated = c.terminated }
+abbrev pub set_timeout_at : Deadline → Clocks → Clocks
+set_timeout_at x c = record { timeout_at = x; grace_until = c.grace_until; give_up_at = c.give_up_at; abandon_at = c.abandon_at; terminated = c.terminated }
 
-abbrev pub setGraceUntil : Deadline → Clocks → Clocks
-setGraceUntil x c = record { timeout_at = c.timeout_at; grace_until = x; give_up_at = c.give_up_at; abandon_at = c.abandon_at; terminated = c.terminated }
+abbrev pub set_grace_until : Deadline → Clocks → Clocks
+set_grace_until x c = record { timeout_at = c.timeout_at; grace_until = x; give_up_at = c.give_up_at; abandon_at = c.abandon_at; terminated = c.terminated }
 
-abbrev pub setGiveUpAt : Deadline → Clocks → Clocks
-setGiveUpAt x c = record { timeout_at = c.timeout_at; grace_until = c.grace_until; give_up_at = x; abandon_at = c.abandon_at; terminated = c.terminated }
+abbrev pub set_give_up_at : Deadline → Clocks → Clocks
+set_give_up_at x c = record { timeout_at = c.timeout_at; grace_until = c.grace_until; give_up_at = x; abandon_at = c.abandon_at; terminated = c.terminated }
 
-abbrev pub setAbandonAt : Deadline → Clocks → Clocks
-setAbandonAt x c = record { timeout_at = c.timeout_at; grace_until = c.grace_until; give_up_at = c.give_up_at; abandon_at = x; terminated = c.terminated }
+abbrev pub set_abandon_at : Deadline → Clocks → Clocks
+set_abandon_at x c = record { timeout_at = c.timeout_at; grace_until = c.grace_until; give_up_at = c.give_up_at; abandon_at = x; terminated = c.terminated }
 
-abbrev pub setLaunch : Launch → Life → Life
-setLaunch x l = record { launch = x; exit = l.exit; cause = l.cause; terminate_request = l.terminate_request; settling = l.settling }
+abbrev pub set_launch : Launch → Life → Life
+set_launch x l = record { launch = x; exit = l.exit; cause = l.cause; terminate_request = l.terminate_request; settling = l.settling }
 
-abbrev pub setExit : Exit → Life → Life
-setExit x l = record { launch = l.launch; exit = x; cause = l.cause; terminate_request = l.terminate_request; settling = l.settling }
+abbrev pub set_exit : Exit → Life → Life
+set_exit x l = record { launch = l.launch; exit = x; cause = l.cause; terminate_request = l.terminate_request; settling = l.settling }
 
-abbrev pub setSettling : Settling → Life → Life
-setSettling x l = record { launch = l.launch; exit = l.exit; cause = l.cause; terminate_request = l.terminate_request; settling = x }
+abbrev pub set_settling : Settling → Life → Life
+set_settling x l = record { launch = l.launch; exit = l.exit; cause = l.cause; terminate_request = l.terminate_request; settling = x }

@@ -1,7 +1,7 @@
 // The deadlines of an execution, and what each event does to them.
 ghost use Rattle.std.specs.Prelude.{◌≡◌};
-ghost use Rattle.lifecycle.specs.Setters.{setTimeoutAt, setGraceUntil, setGiveUpAt, setAbandonAt};
-ghost use Rattle.lifecycle.specs.Clocks.{terminateClocks, stopWaiting, giveUpBy, clocksDue, firstOf};
+ghost use Rattle.lifecycle.specs.Setters.{set_timeout_at, set_grace_until, set_give_up_at, set_abandon_at};
+ghost use Rattle.lifecycle.specs.Clocks.{terminate_clocks, stop_waiting, give_up_by, clocks_due, first_of};
 
 use exec::Deadline;
 
@@ -21,7 +21,7 @@ pub struct Clocks {
 
 impl Clocks {
     pub fn set_timeout_at(self, timeout_at: Deadline) -> Clocks
-        ensures { result ≡ setTimeoutAt timeout_at self }
+        ensures { result ≡ set_timeout_at timeout_at self }
     {
         let grace_until = self.grace_until;
         let give_up_at = self.give_up_at;
@@ -36,7 +36,7 @@ impl Clocks {
     }
 
     pub fn set_grace_until(self, grace_until: Deadline) -> Clocks
-        ensures { result ≡ setGraceUntil grace_until self }
+        ensures { result ≡ set_grace_until grace_until self }
     {
         let timeout_at = self.timeout_at;
         let give_up_at = self.give_up_at;
@@ -51,7 +51,7 @@ impl Clocks {
     }
 
     pub fn set_give_up_at(self, give_up_at: Deadline) -> Clocks
-        ensures { result ≡ setGiveUpAt give_up_at self }
+        ensures { result ≡ set_give_up_at give_up_at self }
     {
         let timeout_at = self.timeout_at;
         let grace_until = self.grace_until;
@@ -66,7 +66,7 @@ impl Clocks {
     }
 
     pub fn set_abandon_at(self, abandon_at: Deadline) -> Clocks
-        ensures { result ≡ setAbandonAt abandon_at self }
+        ensures { result ≡ set_abandon_at abandon_at self }
     {
         let timeout_at = self.timeout_at;
         let grace_until = self.grace_until;
@@ -99,7 +99,7 @@ impl Clocks {
 
     // A termination at `now`: no timeout any more, a grace for pending output, and the time to give up after that.
     pub fn terminate(self, now: u64, grace: u64, settlement: u64) -> Clocks
-        ensures { result ≡ terminateClocks self now grace settlement }
+        ensures { result ≡ terminate_clocks self now grace settlement }
     {
         let grace_until = Deadline::after(now, grace);
         let give_up_at = grace_until.then(settlement);
@@ -115,7 +115,7 @@ impl Clocks {
 
     // Waits for neither the end of grace nor the time to give up.
     pub fn stop_waiting(self) -> Clocks
-        ensures { result ≡ stopWaiting self }
+        ensures { result ≡ stop_waiting self }
     {
         let timeout_at = self.timeout_at;
         let abandon_at = self.abandon_at;
@@ -130,7 +130,7 @@ impl Clocks {
 
     // Gives up a settlement time after `now` at the latest: a detached runner has no grace to wait for.
     pub fn give_up_by(self, now: u64, settlement: u64) -> Clocks
-        ensures { result ≡ giveUpBy self now settlement }
+        ensures { result ≡ give_up_by self now settlement }
     {
         let give_up_at = self.give_up_at;
         let by = Deadline::after(now, settlement);
@@ -139,7 +139,7 @@ impl Clocks {
 
     // Whether one of the four is reached. Branch-free: a tick with nothing due asks no more than this.
     pub fn due(self, now: u64) -> bool
-        ensures { result ≡ clocksDue self now }
+        ensures { result ≡ clocks_due self now }
     {
         let timeout_at = self.timeout_at;
         let grace_until = self.grace_until;
@@ -150,7 +150,7 @@ impl Clocks {
 
     // The next to fire, with the settlement's; `give_up` and `abandon` say whether those two would still do anything.
     pub fn first(self, settlement: Deadline, give_up: bool, abandon: bool) -> Deadline
-        ensures { result ≡ firstOf self settlement give_up abandon }
+        ensures { result ≡ first_of self settlement give_up abandon }
     {
         let timeout_at = self.timeout_at;
         let grace_until = self.grace_until;

@@ -1,27 +1,27 @@
 // What is known of the workload, and where the settlement of the execution stands.
 ghost use Rattle.std.specs.Prelude.{◌≡◌};
-ghost use Rattle.lifecycle.specs.Setters.{setLaunch, setExit, setSettling};
+ghost use Rattle.lifecycle.specs.Setters.{set_launch, set_exit, set_settling};
 ghost use Rattle.lifecycle.specs.Life.{
-  launchOf,
-  launchKnown,
-  failureOf,
-  exitKnown,
-  statusOf,
-  orLost,
-  isFenced,
-  isSettled,
-  isRequested,
-  settlingLate,
+  launch_of,
+  launch_known,
+  failure_of,
+  exit_known,
+  status_of,
+  or_lost,
+  is_fenced,
+  is_settled,
+  is_requested,
+  settling_late,
   expired,
-  settleWith,
-  expectedBy,
-  endFor,
-  endWith,
-  lifeGivenUp,
-  terminateTaken,
-  lifeExpired,
-  lifeSettled,
-  lifeOutcome,
+  settle_with,
+  expected_by,
+  end_for,
+  end_with,
+  life_given_up,
+  terminate_taken,
+  life_expired,
+  life_settled,
+  life_outcome,
 };
 
 use exec::{
@@ -39,7 +39,7 @@ pub enum Launch {
 
 impl Launch {
     pub fn of(report: LaunchResult) -> Launch
-        ensures { result ≡ launchOf report }
+        ensures { result ≡ launch_of report }
     {
         match report {
             LaunchResult::Started => Launch::Started,
@@ -48,7 +48,7 @@ impl Launch {
     }
 
     pub fn is_known(self) -> bool
-        ensures { result ≡ launchKnown self }
+        ensures { result ≡ launch_known self }
     {
         match self {
             Launch::Awaited => false,
@@ -58,7 +58,7 @@ impl Launch {
     }
 
     pub fn failure(self) -> MaybeLaunchFailure
-        ensures { result ≡ failureOf self }
+        ensures { result ≡ failure_of self }
     {
         match self {
             Launch::Awaited => MaybeLaunchFailure::None,
@@ -77,7 +77,7 @@ pub enum Exit {
 
 impl Exit {
     pub fn is_known(self) -> bool
-        ensures { result ≡ exitKnown self }
+        ensures { result ≡ exit_known self }
     {
         match self {
             Exit::Running => false,
@@ -86,7 +86,7 @@ impl Exit {
     }
 
     pub fn status(self) -> MaybeStatus
-        ensures { result ≡ statusOf self }
+        ensures { result ≡ status_of self }
     {
         match self {
             Exit::Running => MaybeStatus::None,
@@ -96,7 +96,7 @@ impl Exit {
 
     // The exit once the runner waits for it no longer: the status of an end that is not known is lost.
     pub fn or_lost(self) -> Exit
-        ensures { result ≡ orLost self }
+        ensures { result ≡ or_lost self }
     {
         match self {
             Exit::Running => Exit::Ended(MaybeStatus::None),
@@ -117,7 +117,7 @@ pub enum Settling {
 
 impl Settling {
     pub fn is_fenced(self) -> bool
-        ensures { result ≡ isFenced self }
+        ensures { result ≡ is_fenced self }
     {
         match self {
             Settling::Idle => false,
@@ -128,7 +128,7 @@ impl Settling {
     }
 
     pub fn is_settled(self) -> bool
-        ensures { result ≡ isSettled self }
+        ensures { result ≡ is_settled self }
     {
         match self {
             Settling::Idle => false,
@@ -139,7 +139,7 @@ impl Settling {
     }
 
     pub fn is_requested(self) -> bool
-        ensures { result ≡ isRequested self }
+        ensures { result ≡ is_requested self }
     {
         match self {
             Settling::Idle => false,
@@ -163,7 +163,7 @@ impl Settling {
 
     // Whether the result that was requested is late.
     pub fn late(self, now: u64) -> bool
-        ensures { result ≡ settlingLate self now }
+        ensures { result ≡ settling_late self now }
     {
         match self {
             Settling::Idle => false,
@@ -192,7 +192,7 @@ impl Settling {
 
     // The settlement's result, which changes nothing unless it is awaited.
     pub fn settle(self, report: Settlement) -> Settling
-        ensures { result ≡ settleWith self report }
+        ensures { result ≡ settle_with self report }
     {
         match self {
             Settling::Idle => Settling::Idle,
@@ -207,7 +207,7 @@ impl Settling {
 
     // When the result is expected.
     pub fn by(self) -> Deadline
-        ensures { result ≡ expectedBy self }
+        ensures { result ≡ expected_by self }
     {
         match self {
             Settling::Idle => Deadline::Never,
@@ -235,7 +235,7 @@ pub struct Life {
 
 impl Life {
     pub fn set_launch(self, launch: Launch) -> Life
-        ensures { result ≡ setLaunch launch self }
+        ensures { result ≡ set_launch launch self }
     {
         let exit = self.exit;
         let cause = self.cause;
@@ -251,7 +251,7 @@ impl Life {
     }
 
     pub fn set_exit(self, exit: Exit) -> Life
-        ensures { result ≡ setExit exit self }
+        ensures { result ≡ set_exit exit self }
     {
         let launch = self.launch;
         let cause = self.cause;
@@ -267,7 +267,7 @@ impl Life {
     }
 
     pub fn set_settling(self, settling: Settling) -> Life
-        ensures { result ≡ setSettling settling self }
+        ensures { result ≡ set_settling settling self }
     {
         let launch = self.launch;
         let exit = self.exit;
@@ -292,7 +292,7 @@ impl Life {
 
     // The runner ends the workload for `cause`; one that has ended needs no end, and gets no cause.
     pub fn end_for(self, cause: Cause) -> Life
-        ensures { result ≡ endFor self cause }
+        ensures { result ≡ end_for self cause }
     {
         let exit = self.exit;
         match exit {
@@ -313,7 +313,7 @@ impl Life {
 
     // The workload ended, and its settlement is requested, with a result expected by `by`.
     pub fn end_with(self, status: MaybeStatus, by: Deadline) -> Life
-        ensures { result ≡ endWith self status by }
+        ensures { result ≡ end_with self status by }
     {
         let launch = self.launch;
         let cause = self.cause;
@@ -329,7 +329,7 @@ impl Life {
 
     // The runner gives up: a missing exit becomes one of no status, and the execution is fenced.
     pub fn give_up(self) -> Life
-        ensures { result ≡ lifeGivenUp self }
+        ensures { result ≡ life_given_up self }
     {
         let exit = self.exit;
         let life = self.set_exit(exit.or_lost());
@@ -338,7 +338,7 @@ impl Life {
 
     // The request to end the workload was returned.
     pub fn terminate_taken(self) -> Life
-        ensures { result ≡ terminateTaken self }
+        ensures { result ≡ terminate_taken self }
     {
         let launch = self.launch;
         let exit = self.exit;
@@ -354,14 +354,14 @@ impl Life {
     }
 
     pub fn expire(self, now: u64) -> Life
-        ensures { result ≡ lifeExpired self now }
+        ensures { result ≡ life_expired self now }
     {
         let settling = self.settling;
         self.set_settling(settling.expire(now))
     }
 
     pub fn settle(self, report: Settlement) -> Life
-        ensures { result ≡ lifeSettled self report }
+        ensures { result ≡ life_settled self report }
     {
         let settling = self.settling;
         self.set_settling(settling.settle(report))
@@ -369,7 +369,7 @@ impl Life {
 
     // The outcome, given which streams lost bytes.
     pub fn outcome(self, stdout_truncated: bool, stderr_truncated: bool) -> Outcome
-        ensures { result ≡ lifeOutcome self stdout_truncated stderr_truncated }
+        ensures { result ≡ life_outcome self stdout_truncated stderr_truncated }
     {
         let exit = self.exit;
         let cause = self.cause;

@@ -7,82 +7,82 @@ use Rattle.exec.specs.declared.Received.{Received}
 use Rattle.exec.specs.declared.Reply.{Reply}
 use Rattle.exec.specs.declared.Stream.{Stream}
 use Rattle.exec.specs.Key.{admits}
-use Rattle.exec.specs.Limits.{outputPool}
+use Rattle.exec.specs.Limits.{output_pool}
 use Rattle.runner.specs.declared.runner.Runner.{Runner}
-use Rattle.runner.specs.Calls.{hearing, credit, storesDo, inputBy, input, outputBy, output, writtenBy, inputWritten, messageBy, nextMessage}
-use Rattle.runner.specs.Message.{choose, effect, say, outputSent, outputPaid}
-use Rattle.runner.specs.Range.{bytesDo, lengthsDo, stop}
-use Rattle.runner.specs.State.{withInput, withOutputs, withFlow}
-use Rattle.runner.specs.Streams.{creditAnswer, creditNext, received, inputNext, outputTook, outputNext, writtenNext}
+use Rattle.runner.specs.Calls.{hearing, credit, stores_do, input_by, input, output_by, output, written_by, input_written, message_by, next_message}
+use Rattle.runner.specs.Message.{choose, effect, say, output_sent, output_paid}
+use Rattle.runner.specs.Range.{bytes_do, lengths_do, stop}
+use Rattle.runner.specs.State.{with_input, with_outputs, with_flow}
+use Rattle.runner.specs.Streams.{credit_answer, credit_next, received, input_next, output_took, output_next, written_next}
 
 -- the accounts
-abbrev pub creditMoved : (r next : Runner) → Runner
-creditMoved r next = withFlow next.credits r.turn r.flags r.high_water r
+abbrev pub credit_moved : (r next : Runner) → Runner
+credit_moved r next = with_flow next.credits r.turn r.flags r.high_water r
 
-pub credit_kept : (r : Runner) (k : Key) (p : Pool) (units : ℕ) → (credit r k p units).runner ≡ creditMoved r (credit r k p units).runner
-unfolding credit creditNext
+pub credit_kept : (r : Runner) (k : Key) (p : Pool) (units : ℕ) → (credit r k p units).runner ≡ credit_moved r (credit r k p units).runner
+unfolding credit credit_next
 credit_kept r k p units = by (stop r true)
   where
     next : Runner
-    next = creditNext (admits r.key k) (outputPool r.limits.shared p) r units
+    next = credit_next (admits r.key k) (output_pool r.limits.shared p) r units
 
     answer : Received
-    answer = creditAnswer (admits r.key k) (outputPool r.limits.shared p) r units
+    answer = credit_answer (admits r.key k) (output_pool r.limits.shared p) r units
 
-    by : (x : Reply) → (hearing x answer next r).runner ≡ creditMoved r (hearing x answer next r).runner
+    by : (x : Reply) → (hearing x answer next r).runner ≡ credit_moved r (hearing x answer next r).runner
     by Reply.Ok = refl
     by (Reply.Refused x) = refl
 
 -- input, and what was held at once
-abbrev pub inputMoved : (r next : Runner) → Runner
-inputMoved r next = withFlow r.credits r.turn r.flags next.high_water (withInput next.input r)
+abbrev pub input_moved : (r next : Runner) → Runner
+input_moved r next = with_flow r.credits r.turn r.flags next.high_water (with_input next.input r)
 
-pub input_kept : (r : Runner) (k : Key) (bytes store lengths : List ℕ) → (input r k bytes store lengths).hearing.runner ≡ inputMoved r (input r k bytes store lengths).hearing.runner
-unfolding input received inputNext
-input_kept r k bytes store lengths = by (stop r (storesDo r store lengths))
+pub input_kept : (r : Runner) (k : Key) (bytes store lengths : List ℕ) → (input r k bytes store lengths).hearing.runner ≡ input_moved r (input r k bytes store lengths).hearing.runner
+unfolding input received input_next
+input_kept r k bytes store lengths = by (stop r (stores_do r store lengths))
   where
-    by : (x : Reply) → (inputBy x (admits r.key k) r bytes store lengths).hearing.runner ≡ inputMoved r (inputBy x (admits r.key k) r bytes store lengths).hearing.runner
+    by : (x : Reply) → (input_by x (admits r.key k) r bytes store lengths).hearing.runner ≡ input_moved r (input_by x (admits r.key k) r bytes store lengths).hearing.runner
     by Reply.Ok = refl
     by (Reply.Refused x) = refl
 
 -- the outputs, and what was held at once
-abbrev pub outputMoved : (r next : Runner) → Runner
-outputMoved r next = withFlow r.credits r.turn r.flags next.high_water (withOutputs next.outputs r)
+abbrev pub output_moved : (r next : Runner) → Runner
+output_moved r next = with_flow r.credits r.turn r.flags next.high_water (with_outputs next.outputs r)
 
-pub output_kept : (r : Runner) (x : Stream) (bytes store : List ℕ) → (output r x bytes store).taking.runner ≡ outputMoved r (output r x bytes store).taking.runner
-unfolding output outputTook outputNext
-output_kept r x bytes store = by (stop r (bytesDo r.limits store))
+pub output_kept : (r : Runner) (x : Stream) (bytes store : List ℕ) → (output r x bytes store).taking.runner ≡ output_moved r (output r x bytes store).taking.runner
+unfolding output output_took output_next
+output_kept r x bytes store = by (stop r (bytes_do r.limits store))
   where
-    by : (z : Reply) → (outputBy z r x bytes store).taking.runner ≡ outputMoved r (outputBy z r x bytes store).taking.runner
+    by : (z : Reply) → (output_by z r x bytes store).taking.runner ≡ output_moved r (output_by z r x bytes store).taking.runner
     by Reply.Ok = refl
     by (Reply.Refused z) = refl
 
-pub written_kept : (r : Runner) (count : ℕ) (lengths : List ℕ) → (inputWritten r count lengths).noting.runner ≡ withInput (inputWritten r count lengths).noting.runner.input r
-unfolding inputWritten writtenNext
-written_kept r count lengths = by (stop r (lengthsDo r.limits lengths))
+pub written_kept : (r : Runner) (count : ℕ) (lengths : List ℕ) → (input_written r count lengths).noting.runner ≡ with_input (input_written r count lengths).noting.runner.input r
+unfolding input_written written_next
+written_kept r count lengths = by (stop r (lengths_do r.limits lengths))
   where
-    by : (x : Reply) → (writtenBy x r count lengths).noting.runner ≡ withInput (writtenBy x r count lengths).noting.runner.input r
+    by : (x : Reply) → (written_by x r count lengths).noting.runner ≡ with_input (written_by x r count lengths).noting.runner.input r
     by Reply.Ok = refl
     by (Reply.Refused x) = refl
 
 -- all that a message moves
-abbrev pub saidMoved : (r next : Runner) → Runner
-saidMoved r next = withFlow next.credits next.turn next.flags r.high_water (withInput next.input (withOutputs next.outputs r))
+abbrev pub said_moved : (r next : Runner) → Runner
+said_moved r next = with_flow next.credits next.turn next.flags r.high_water (with_input next.input (with_outputs next.outputs r))
 
-effect-kept : (c : Choice) (r : Runner) → effect c r ≡ saidMoved r (effect c r)
-unfolding effect outputSent outputPaid
-effect-kept Choice.None r = refl
-effect-kept Choice.Credit r = refl
-effect-kept Choice.Started r = refl
-effect-kept Choice.InputClosed r = refl
-effect-kept (Choice.End x) r = refl
-effect-kept (Choice.Output x n) r = refl
-effect-kept Choice.Terminal r = refl
+effect_kept : (c : Choice) (r : Runner) → effect c r ≡ said_moved r (effect c r)
+unfolding effect output_sent output_paid
+effect_kept Choice.None r = refl
+effect_kept Choice.Credit r = refl
+effect_kept Choice.Started r = refl
+effect_kept Choice.InputClosed r = refl
+effect_kept (Choice.End x) r = refl
+effect_kept (Choice.Output x n) r = refl
+effect_kept Choice.Terminal r = refl
 
-pub said_kept : (r : Runner) (store buffer : List ℕ) → (nextMessage r store buffer).saying.runner ≡ saidMoved r (nextMessage r store buffer).saying.runner
-unfolding nextMessage say
-said_kept r store buffer = by (stop r (bytesDo r.limits store))
+pub said_kept : (r : Runner) (store buffer : List ℕ) → (next_message r store buffer).saying.runner ≡ said_moved r (next_message r store buffer).saying.runner
+unfolding next_message say
+said_kept r store buffer = by (stop r (bytes_do r.limits store))
   where
-    by : (x : Reply) → (messageBy x r store buffer).saying.runner ≡ saidMoved r (messageBy x r store buffer).saying.runner
-    by Reply.Ok = effect-kept (choose r (length buffer)) r
+    by : (x : Reply) → (message_by x r store buffer).saying.runner ≡ said_moved r (message_by x r store buffer).saying.runner
+    by Reply.Ok = effect_kept (choose r (length buffer)) r
     by (Reply.Refused x) = refl

@@ -2,57 +2,57 @@
 use Rattle.std.specs.Prelude.{Bool, true, false, cond, ◌≡◌, refl, List, [], ◌∷◌, ◌++◌, ℕ, zero, suc, ◌+◌, ◌-◌, ◌≤◌, min, length, take, drop}
 use Rattle.std.proofs.Common.{sym, ap, ◌∙◌, arith, length-take, length-drop, take_at}
 use Rattle.syntax.specs.Lines.{zeros}
-use Rattle.syntax.specs.Zeros.{zeros-length}
+use Rattle.syntax.specs.Zeros.{zeros_length}
 use Rattle.exec.specs.declared.Stream.{Stream}
 use Rattle.runner.specs.declared.answer.Message.TheVariants as Message
 use Rattle.exec.specs.declared.Reply.{Reply}
 use Rattle.runner.specs.declared.answer.Said.{Said}
 use Rattle.choice.specs.declared.Choice.{Choice}
 use Rattle.runner.specs.declared.runner.Runner.{Runner}
-use Rattle.runner.specs.Calls.{messageBy, nextMessage, pendingBy, pendingInput}
-use Rattle.runner.specs.Range.{bytesDo, stop}
-use Rattle.ring.specs.Ring.{firstRun}
-use Rattle.inbox.specs.Inbox.{front, inboxBase}
-use Rattle.exec.specs.Limits.{inputBytes}
+use Rattle.runner.specs.Calls.{message_by, next_message, pending_by, pending_input}
+use Rattle.runner.specs.Range.{bytes_do, stop}
+use Rattle.ring.specs.Ring.{first_run}
+use Rattle.inbox.specs.Inbox.{front, inbox_base}
+use Rattle.exec.specs.Limits.{input_bytes}
 use Rattle.input.specs.Input as Input
-use Rattle.runner.specs.Streams.{OutputAfter, InputAfter, pendingOf}
+use Rattle.runner.specs.Streams.{OutputAfter, InputAfter, pending_of}
 use Rattle.runner.specs.declared.answer.Saying.{Saying}
-use Rattle.runner.specs.Message.{MessageAfter, messageAfter, saidFor, choose, sendableOf}
-use Rattle.exec.specs.Limits.{poolOf}
-use Rattle.runner.specs.State.{outOf, creditAt}
+use Rattle.runner.specs.Message.{MessageAfter, message_after, said_for, choose, sendable_of}
+use Rattle.exec.specs.Limits.{pool_of}
+use Rattle.runner.specs.State.{out_of, credit_at}
 use Rattle.runner.specs.MessageLaws.{chosen, least}
 use Rattle.calls.specs.Call as Account
 use Rattle.calls.specs.Call.{Call}
-use Rattle.account.specs.Step.{State, next, answer, says, took, receivedAs}
+use Rattle.account.specs.Step.{State, next, answer, says, took, received_as}
 use Rattle.ring.specs.Runs.{copied}
-use Rattle.ring.specs.Lent.{copied-back}
-use Rattle.answering.specs.Answering.{answerIs, AnswerIs}
+use Rattle.ring.specs.Lent.{copied_back}
+use Rattle.answering.specs.Answering.{answer_is, AnswerIs}
 use Rattle.answering.specs.declared.Answer.{Answer}
 
-abbrev pub stateOf : Runner → (bytes lengths : List ℕ) → State
-stateOf r bytes lengths = record { runner = r; bytes = bytes; lengths = lengths }
+abbrev pub state_of : Runner → (bytes lengths : List ℕ) → State
+state_of r bytes lengths = record { runner = r; bytes = bytes; lengths = lengths }
 
 -- the runner, its stores and the answer after a call
 abbrev pub Made : State → Call → Runner → Answer → (bytes lengths work : List ℕ) → Type 0
-Made s c r a bytes lengths work = (stateOf r bytes lengths ≡ next s c) × (answerIs a work ≡ answer s c)
+Made s c r a bytes lengths work = (state_of r bytes lengths ≡ next s c) × (answer_is a work ≡ answer s c)
 
 -- the same for a call that is lent no store, whatever the stores are
 abbrev pub Moves : Runner → Call → Runner → Answer → Type 0
-Moves x c r a = (bytes lengths work : List ℕ) → Made (stateOf x bytes lengths) c r a bytes lengths work
+Moves x c r a = (bytes lengths work : List ℕ) → Made (state_of x bytes lengths) c r a bytes lengths work
 
 -- the answer to a question, whatever the lengths are
 abbrev pub Tells : Runner → (bytes : List ℕ) → Call → Answer → (work : List ℕ) → Type 0
-Tells x bytes c a work = (lengths : List ℕ) → answerIs a work ≡ answer (stateOf x bytes lengths) c
+Tells x bytes c a work = (lengths : List ℕ) → answer_is a work ≡ answer (state_of x bytes lengths) c
 
 -- the same for a call that is lent stores, from what it leaves
 abbrev pub OutputMade : Runner → Answer → (bytes : List ℕ) → OutputAfter → Type 0
 OutputMade r a bytes x = (r ≡ x.taking.runner) × (bytes ≡ x.bytes) × AnswerIs a (λ w. took x.taking.taken)
 
 abbrev pub InputMade : Runner → Answer → (bytes lengths : List ℕ) → InputAfter → Type 0
-InputMade r a bytes lengths x = (r ≡ x.hearing.runner) × (bytes ≡ x.bytes) × (lengths ≡ x.lengths) × AnswerIs a (λ w. receivedAs x.hearing.received)
+InputMade r a bytes lengths x = (r ≡ x.hearing.runner) × (bytes ≡ x.bytes) × (lengths ≡ x.lengths) × AnswerIs a (λ w. received_as x.hearing.received)
 
 abbrev pub MessageMade : Runner → Answer → (work : List ℕ) → MessageAfter → Type 0
-MessageMade r a work x = (r ≡ x.saying.runner) × (answerIs a work ≡ says x.saying.said x.buffer)
+MessageMade r a work x = (r ≡ x.saying.runner) × (answer_is a work ≡ says x.saying.said x.buffer)
 
 -- ---- a message stands at the start of its buffer
 
@@ -66,78 +66,78 @@ Fits (Said.Message Message.InputClosed) k = Unit {0}
 Fits (Said.Message (Message.Terminal o)) k = Unit {0}
 Fits (Said.Refused x) k = Unit {0}
 
-chosen-fits : (c : Choice) (r : Runner) (k : ℕ) → ((x : Stream) (n : ℕ) → Choice.Output x n ≡ c → n ≤ k) → Fits (saidFor c r) k
-unfolding saidFor
-chosen-fits Choice.None r k f = tt
-chosen-fits Choice.Credit r k f = tt
-chosen-fits Choice.Started r k f = tt
-chosen-fits Choice.InputClosed r k f = tt
-chosen-fits (Choice.End x) r k f = tt
-chosen-fits (Choice.Output x n) r k f = f x n refl
-chosen-fits Choice.Terminal r k f = tt
+chosen_fits : (c : Choice) (r : Runner) (k : ℕ) → ((x : Stream) (n : ℕ) → Choice.Output x n ≡ c → n ≤ k) → Fits (said_for c r) k
+unfolding said_for
+chosen_fits Choice.None r k f = tt
+chosen_fits Choice.Credit r k f = tt
+chosen_fits Choice.Started r k f = tt
+chosen_fits Choice.InputClosed r k f = tt
+chosen_fits (Choice.End x) r k f = tt
+chosen_fits (Choice.Output x n) r k f = f x n refl
+chosen_fits Choice.Terminal r k f = tt
 
-sends-fit : (r : Runner) (k : ℕ) (x : Stream) (n : ℕ) → Choice.Output x n ≡ choose r k → n ≤ k
-unfolding sendableOf
-sends-fit r k x n e = let c = chosen r k x n e in let m = min (min (outOf x r).queued r.limits.chunk) k in omega (arith, c.bytes, least r.limits.output.unit (creditAt (poolOf r.limits x) r.credits).available m)
+sends_fit : (r : Runner) (k : ℕ) (x : Stream) (n : ℕ) → Choice.Output x n ≡ choose r k → n ≤ k
+unfolding sendable_of
+sends_fit r k x n e = let c = chosen r k x n e in let m = min (min (out_of x r).queued r.limits.chunk) k in omega (arith, c.bytes, least r.limits.output.unit (credit_at (pool_of r.limits x) r.credits).available m)
 
-pub said_fits : (r : Runner) (store buffer : List ℕ) → Fits (nextMessage r store buffer).saying.said (length buffer)
-unfolding nextMessage
-said_fits r store buffer = by (stop r (bytesDo r.limits store))
+pub said_fits : (r : Runner) (store buffer : List ℕ) → Fits (next_message r store buffer).saying.said (length buffer)
+unfolding next_message
+said_fits r store buffer = by (stop r (bytes_do r.limits store))
   where
-    by : (x : Reply) → Fits (messageBy x r store buffer).saying.said (length buffer)
-    by Reply.Ok = chosen-fits (choose r (length buffer)) r (length buffer) (λ x n e. sends-fit r (length buffer) x n e)
+    by : (x : Reply) → Fits (message_by x r store buffer).saying.said (length buffer)
+    by Reply.Ok = chosen_fits (choose r (length buffer)) r (length buffer) (λ x n e. sends_fit r (length buffer) x n e)
     by (Reply.Refused x) = tt
 
-take-front : (n : ℕ) (s t : List ℕ) → n ≤ length s → take n (s ++ t) ≡ take n s
-take-front zero s t h = refl
-take-front (suc n) [] t h = absurd (omega arith)
-take-front (suc n) (x ∷ s) t h = ap (λ (r : List ℕ). x ∷ r) (take-front n s t (omega arith))
+take_front : (n : ℕ) (s t : List ℕ) → n ≤ length s → take n (s ++ t) ≡ take n s
+take_front zero s t h = refl
+take_front (suc n) [] t h = absurd (omega arith)
+take_front (suc n) (x ∷ s) t h = ap (λ (r : List ℕ). x ∷ r) (take_front n s t (omega arith))
 
-pub says-front : (x : Said) (buffer rest : List ℕ) → Fits x (length buffer) → says x (buffer ++ rest) ≡ says x buffer
-says-front Said.None buffer rest h = refl
-says-front (Said.Message (Message.Credit n)) buffer rest h = refl
-says-front (Said.Message Message.Started) buffer rest h = refl
-says-front (Said.Message (Message.Output x n)) buffer rest h = ap (λ (b : List ℕ). Account.Says (Account.Output x b)) (take-front n buffer rest h)
-says-front (Said.Message (Message.End x)) buffer rest h = refl
-says-front (Said.Message Message.InputClosed) buffer rest h = refl
-says-front (Said.Message (Message.Terminal o)) buffer rest h = refl
-says-front (Said.Refused x) buffer rest h = refl
+pub says_front : (x : Said) (buffer rest : List ℕ) → Fits x (length buffer) → says x (buffer ++ rest) ≡ says x buffer
+says_front Said.None buffer rest h = refl
+says_front (Said.Message (Message.Credit n)) buffer rest h = refl
+says_front (Said.Message Message.Started) buffer rest h = refl
+says_front (Said.Message (Message.Output x n)) buffer rest h = ap (λ (b : List ℕ). Account.Says (Account.Output x b)) (take_front n buffer rest h)
+says_front (Said.Message (Message.End x)) buffer rest h = refl
+says_front (Said.Message Message.InputClosed) buffer rest h = refl
+says_front (Said.Message (Message.Terminal o)) buffer rest h = refl
+says_front (Said.Refused x) buffer rest h = refl
 
 -- the part of an area that was cleared
 pub cleared : (w v : List ℕ) (n : ℕ) → v ≡ zeros n ++ drop n w → take (n - 0) v ≡ zeros n
 cleared w v n h =
-    let z : n - 0 ≡ n = omega arith in rw (h, z) (take_at (zeros n) (drop n w) n (zeros-length n))
+    let z : n - 0 ≡ n = omega arith in rw (h, z) (take_at (zeros n) (drop n w) n (zeros_length n))
 
-pub said-made : (r : Runner) (store : List ℕ) (n : ℕ) (x : Saying) (buffer rest : List ℕ) (a : Answer)
-    → messageAfter x buffer ≡ nextMessage r store (zeros n) → length buffer ≡ n → AnswerIs a (λ w. says x.said w)
-    → MessageMade x.runner a (buffer ++ rest) (nextMessage r store (zeros n))
-said-made r store n x buffer rest a e size h =
-    let m = nextMessage r store (zeros n) in
+pub said_made : (r : Runner) (store : List ℕ) (n : ℕ) (x : Saying) (buffer rest : List ℕ) (a : Answer)
+    → message_after x buffer ≡ next_message r store (zeros n) → length buffer ≡ n → AnswerIs a (λ w. says x.said w)
+    → MessageMade x.runner a (buffer ++ rest) (next_message r store (zeros n))
+said_made r store n x buffer rest a e size h =
+    let m = next_message r store (zeros n) in
     let said = ap (λ (y : MessageAfter). y.saying.said) e in
     let same = ap (λ (y : MessageAfter). y.buffer) e in
-    let k : length buffer ≡ length (zeros n) = size ∙ sym (zeros-length n) in
+    let k : length buffer ≡ length (zeros n) = size ∙ sym (zeros_length n) in
     let fits : Fits x.said (length buffer) = rw (said, k) (said_fits r store (zeros n)) in (
       ap (λ (y : MessageAfter). y.saying.runner) e,
-      h (buffer ++ rest) ∙ says-front x.said buffer rest fits ∙ ap (λ (y : MessageAfter). says y.saying.said y.buffer) e,
+      h (buffer ++ rest) ∙ says_front x.said buffer rest fits ∙ ap (λ (y : MessageAfter). says y.saying.said y.buffer) e,
     )
 
 -- ---- what waits
 
-pub copied-first : (w p : List ℕ) (n : ℕ) → n ≡ length p → n ≤ length w → take n (copied w 0 p 0 n) ≡ p
-copied-first w p n e h = copied-back w 0 p n (sym e) (omega arith)
+pub copied_first : (w p : List ℕ) (n : ℕ) → n ≡ length p → n ≤ length w → take n (copied w 0 p 0 n) ≡ p
+copied_first w p n e h = copied_back w 0 p n (sym e) (omega arith)
 
-part-most : (n i : ℕ) (s : List ℕ) → length (take n (drop i s)) ≤ length s
-part-most n i s = omega (arith, length-take n (drop i s), length-drop i s)
+part_most : (n i : ℕ) (s : List ℕ) → length (take n (drop i s)) ≤ length s
+part_most n i s = omega (arith, length-take n (drop i s), length-drop i s)
 
 -- no more than the store has
-pub pending-most : (r : Runner) (store : List ℕ) → length (pendingInput r store).pending ≤ length store
-unfolding pendingInput pendingOf Input.pendingInput front
-pending-most r store = by (stop r (bytesDo r.limits store))
+pub pending_most : (r : Runner) (store : List ℕ) → length (pending_input r store).pending ≤ length store
+unfolding pending_input pending_of Input.pending_input front
+pending_most r store = by (stop r (bytes_do r.limits store))
   where
-    open-most : (closed : Bool) → length (cond closed [] (front r.limits r.input.inbox store)) ≤ length store
-    open-most true = omega arith
-    open-most false = part-most (firstRun (inputBytes r.limits) r.input.inbox.start r.input.inbox.length) (inboxBase r.limits + r.input.inbox.start) store
+    open_most : (closed : Bool) → length (cond closed [] (front r.limits r.input.inbox store)) ≤ length store
+    open_most true = omega arith
+    open_most false = part_most (first_run (input_bytes r.limits) r.input.inbox.start r.input.inbox.length) (inbox_base r.limits + r.input.inbox.start) store
 
-    by : (x : Reply) → length (pendingBy x r store).pending ≤ length store
-    by Reply.Ok = open-most r.input.closed
+    by : (x : Reply) → length (pending_by x r store).pending ≤ length store
+    by Reply.Ok = open_most r.input.closed
     by (Reply.Refused x) = omega arith

@@ -3,12 +3,12 @@
 
 ghost use Rattle.std.specs.Prelude.{◌≡◌, ℕ, List, [], ◌++◌, ◌≤◌, ◌<◌, length, take, drop};
 ghost use Rattle.calls.specs.Call as Calls;
-ghost use Rattle.account.specs.Step.{replied, receivedAs, asks, waits, answer};
+ghost use Rattle.account.specs.Step.{replied, received_as, asks, waits, answer};
 ghost use Rattle.runner.specs.Calls as Runs;
 ghost use Rattle.syntax.specs.Lines.{zeros};
-ghost use Rattle.syntax.specs.Meaning.{timedIs, questionIs, callIs};
-ghost use Rattle.answering.specs.Answering.{answerIs, AnswerIs};
-ghost use Rattle.making.specs.Making.{stateOf, OutputMade, InputMade, MessageMade, Made, Moves, Tells};
+ghost use Rattle.syntax.specs.Meaning.{timed_is, question_is, call_is};
+ghost use Rattle.answering.specs.Answering.{answer_is, AnswerIs};
+ghost use Rattle.making.specs.Making.{state_of, OutputMade, InputMade, MessageMade, Made, Moves, Tells};
 
 use answering::Answer;
 use exec::{Cause, Key, LaunchResult, MaybeStatus, Pool, Settlement, Stream};
@@ -25,7 +25,7 @@ fn noted(runner: &mut Runner, noting: Noting) -> Answer
 }
 
 fn heard(runner: &mut Runner, hearing: Hearing) -> Answer
-    ensures { (runner.new ≡ hearing.runner) × AnswerIs result (λ w. receivedAs hearing.received) }
+    ensures { (runner.new ≡ hearing.runner) × AnswerIs result (λ w. received_as hearing.received) }
 {
     *runner = hearing.runner;
     answering::received(hearing.received)
@@ -68,7 +68,7 @@ fn input(
 #[tactic(auto, unfolding(account::specs::Step::next, account::specs::Step::answer))]
 #[inline(never)]
 fn end_input(runner: &mut Runner, key: Key) -> Answer
-    ensures { Moves runner.old (Calls.endInput key) runner.new result }
+    ensures { Moves runner.old (Calls.end_input key) runner.new result }
 {
     let hearing = runner.end_input(key);
     heard(runner, hearing)
@@ -117,7 +117,7 @@ fn discarded(runner: &mut Runner, stream: Stream, bytes: usize) -> Answer
 #[tactic(auto, unfolding(account::specs::Step::next, account::specs::Step::answer))]
 #[inline(never)]
 fn output_closed(runner: &mut Runner, stream: Stream) -> Answer
-    ensures { Moves runner.old (Calls.outputClosed stream) runner.new result }
+    ensures { Moves runner.old (Calls.output_closed stream) runner.new result }
 {
     let noting = runner.output_closed(stream);
     noted(runner, noting)
@@ -126,7 +126,7 @@ fn output_closed(runner: &mut Runner, stream: Stream) -> Answer
 #[tactic(auto, unfolding(account::specs::Step::next, account::specs::Step::answer))]
 #[inline(never)]
 fn output_failed(runner: &mut Runner, stream: Stream) -> Answer
-    ensures { Moves runner.old (Calls.outputFailed stream) runner.new result }
+    ensures { Moves runner.old (Calls.output_failed stream) runner.new result }
 {
     let noting = runner.output_failed(stream);
     noted(runner, noting)
@@ -135,7 +135,7 @@ fn output_failed(runner: &mut Runner, stream: Stream) -> Answer
 #[tactic(auto, unfolding(account::specs::Step::next, account::specs::Step::answer))]
 #[inline(never)]
 fn output_hung_up(runner: &mut Runner, stream: Stream) -> Answer
-    ensures { Moves runner.old (Calls.outputHungUp stream) runner.new result }
+    ensures { Moves runner.old (Calls.output_hung_up stream) runner.new result }
 {
     let noting = runner.output_hung_up(stream);
     noted(runner, noting)
@@ -145,7 +145,7 @@ fn output_hung_up(runner: &mut Runner, stream: Stream) -> Answer
 #[tactic(auto, unfolding(account::specs::Step::next, account::specs::Step::answer), using(crate::proofs::Kept::written_kept))]
 #[inline(never)]
 fn input_written(runner: &mut Runner, lengths: &mut [u32], n: usize) -> Answer
-    ensures { (bytes work : List ℕ) → Made (stateOf runner.old bytes lengths.old) (Calls.inputWritten n) runner.new result bytes lengths.new work }
+    ensures { (bytes work : List ℕ) → Made (state_of runner.old bytes lengths.old) (Calls.input_written n) runner.new result bytes lengths.new work }
 {
     let noting = runner.input_written(lengths, n);
     let next = noting.runner;
@@ -156,7 +156,7 @@ fn input_written(runner: &mut Runner, lengths: &mut [u32], n: usize) -> Answer
 #[tactic(auto, unfolding(account::specs::Step::next, account::specs::Step::answer))]
 #[inline(never)]
 fn input_closed(runner: &mut Runner) -> Answer
-    ensures { Moves runner.old Calls.inputClosed runner.new result }
+    ensures { Moves runner.old Calls.input_closed runner.new result }
 {
     let noting = runner.input_closed();
     noted(runner, noting)
@@ -219,7 +219,7 @@ fn tick(runner: &mut Runner, now: u64) -> Answer
 #[tactic(auto, unfolding(account::specs::Step::next, account::specs::Step::answer))]
 #[inline(never)]
 fn next_request(runner: &mut Runner) -> Answer
-    ensures { Moves runner.old Calls.nextRequest runner.new result }
+    ensures { Moves runner.old Calls.next_request runner.new result }
 {
     let asking = runner.next_request();
     *runner = asking.runner;
@@ -242,7 +242,7 @@ pub fn clear(work: &mut [u8], n: usize)
 #[inline(never)]
 fn next_message(runner: &mut Runner, n: usize, store: &[u8], work: &mut [u8]) -> Answer
     requires { n ≤ length work.old }
-    ensures { MessageMade runner.new result work.new (Runs.nextMessage runner.old store.now (zeros n)) }
+    ensures { MessageMade runner.new result work.new (Runs.next_message runner.old store.now (zeros n)) }
 {
     clear(work, n);
     let saying = runner.next_message(store, &mut work[0..n]);
@@ -266,7 +266,7 @@ fn wide(n: u16) -> usize
 // Bytes that wait are copied to the start of work.
 fn waits(refusal: u32, pending: &[u8], work: &mut [u8]) -> Answer
     requires { length pending.now ≤ length work.old }
-    ensures { answerIs result work.new ≡ waits refusal pending.now }
+    ensures { answer_is result work.new ≡ waits refusal pending.now }
 {
     if refusal == 0 {
         let n = pending.len();
@@ -279,7 +279,7 @@ fn waits(refusal: u32, pending: &[u8], work: &mut [u8]) -> Answer
 #[tactic(auto, unfolding(account::specs::Step::answer))]
 fn pending_input(runner: Runner, store: &[u8], work: &mut [u8]) -> Answer
     requires { length store.now ≤ length work.old }
-    ensures { answerIs result work.new ≡ answer (stateOf runner store.now []) Calls.pendingInput }
+    ensures { answer_is result work.new ≡ answer (state_of runner store.now []) Calls.pending_input }
 {
     let mut refusal: u32 = 0;
     let pending = runner.pending_input(store, &mut refusal);
@@ -292,7 +292,7 @@ fn pending_input(runner: Runner, store: &[u8], work: &mut [u8]) -> Answer
 #[inline(never)]
 fn ask(runner: Runner, question: Question, store: &[u8], work: &mut [u8]) -> Answer
     requires { length store.now ≤ length work.old }
-    ensures { Tells runner store.now (questionIs question) result work.new }
+    ensures { Tells runner store.now (question_is question) result work.new }
 {
     match question {
         Question::ReadAllowance(stream) => answering::counted(runner.read_allowance(stream)),
@@ -309,7 +309,7 @@ fn ask(runner: Runner, question: Question, store: &[u8], work: &mut [u8]) -> Ans
 
 #[tactic(auto, unfolding(account::specs::Step::next, account::specs::Step::answer))]
 fn timed(runner: &mut Runner, now: u64, call: Timed) -> Answer
-    ensures { Moves runner.old (timedIs now call) runner.new result }
+    ensures { Moves runner.old (timed_is now call) runner.new result }
 {
     match call {
         Timed::Cancel(key, cause) => cancel(runner, now, key, cause),
@@ -331,7 +331,7 @@ pub fn make(
     work: &mut [u8],
 ) -> Answer
     requires { (length store.old ≤ 65536) × (length work.old ≡ 65536) }
-    ensures { Made (stateOf runner.old store.old lengths.old) (callIs call work.old) runner.new result store.new lengths.new work.new }
+    ensures { Made (state_of runner.old store.old lengths.old) (call_is call work.old) runner.new result store.new lengths.new work.new }
 {
     match call {
         Call::Credit(key, pool, units) => credit(runner, key, pool, units),

@@ -6,9 +6,9 @@ abbrev pub be32 : ℕ → List ℕ
 be32 v = v / 16777216 % 256 ∷ v / 65536 % 256 ∷ v / 256 % 256 ∷ v % 256 ∷ []
 
 -- the number whose four bytes stand at index at
-unfoldable pub be32At : List ℕ → ℕ → ℕ
-be32At s at = get_or s at 0 * 16777216 + get_or s (at + 1) 0 * 65536 + get_or s (at + 2) 0 * 256 + get_or s (at + 3) 0
+unfoldable pub be32_at : List ℕ → ℕ → ℕ
+be32_at s at = get_or s at 0 * 16777216 + get_or s (at + 1) 0 * 65536 + get_or s (at + 2) 0 * 256 + get_or s (at + 3) 0
 
 -- the same, and 0 where the bytes end before it does
-unfoldable pub numberAt : List ℕ → ℕ → ℕ
-numberAt s at = cond (leb (at + 4) (length s)) (be32At s at) 0
+unfoldable pub number_at : List ℕ → ℕ → ℕ
+number_at s at = cond (leb (at + 4) (length s)) (be32_at s at) 0

@@ -22,9 +22,9 @@ same (b ∷ s) (c ∷ t) = eqb b c && same s t
 
 -- ---- laws of the loop that compares them
 
-and-false : (a b : Bool) → b ≡ false → a && b ≡ false
-and-false false b h = refl
-and-false true b h = h
+and_false : (a b : Bool) → b ≡ false → a && b ≡ false
+and_false false b h = refl
+and_false true b h = h
 
 -- texts of unlike lengths are not the same
 pub same_length : (s t : List ℕ) → (length s ≡ length t → ⊥) → same s t ≡ false
@@ -32,7 +32,7 @@ unfolding same
 same_length [] [] h = absurd (h refl)
 same_length [] (c ∷ t) h = refl
 same_length (b ∷ s) [] h = refl
-same_length (b ∷ s) (c ∷ t) h = and-false (eqb b c) (same s t) (same_length s t (λ e. h (ap suc e)))
+same_length (b ∷ s) (c ∷ t) h = and_false (eqb b c) (same s t) (same_length s t (λ e. h (ap suc e)))
 
 -- a turn of the loop
 pub same_turn : (s t : List ℕ) (i : ℕ) → i < length s → i < length t
@@ -51,12 +51,12 @@ unfolding same
 same_refl [] = refl
 same_refl (b ∷ s) = rw (eq-eqb b b refl) (same_refl s)
 
-pub same-is : (s t : List ℕ) → same s t ≡ true → s ≡ t
+pub same_is : (s t : List ℕ) → same s t ≡ true → s ≡ t
 unfolding same
-same-is [] [] h = refl
-same-is [] (c ∷ t) h = absurd (false≢true h)
-same-is (b ∷ s) [] h = absurd (false≢true h)
-same-is (b ∷ s) (c ∷ t) h =
+same_is [] [] h = refl
+same_is [] (c ∷ t) h = absurd (false≢true h)
+same_is (b ∷ s) [] h = absurd (false≢true h)
+same_is (b ∷ s) (c ∷ t) h =
     let e : b ≡ c = eqb-true b c (and_l (eqb b c) (same s t) h) in
-    let f : s ≡ t = same-is s t (and_r (eqb b c) (same s t) h) in
+    let f : s ≡ t = same_is s t (and_r (eqb b c) (same s t) h) in
     cc

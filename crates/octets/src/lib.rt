@@ -3,7 +3,7 @@
 
 ghost use Rattle.std.specs.Prelude.{◌≡◌, [], ◌∷◌, ◌+◌, ◌≤◌, ◌<◌, ◌^◌, length};
 ghost use Rattle.ring.specs.Runs.{copied};
-ghost use Rattle.octets.specs.Bytes.{be32, be32At, numberAt};
+ghost use Rattle.octets.specs.Bytes.{be32, be32_at, number_at};
 ghost use Rattle.octets.specs.Text.{same};
 
 fn wide(x: u8) -> u32
@@ -13,19 +13,19 @@ fn wide(x: u8) -> u32
 }
 
 // The number whose four bytes stand at index at.
-#[tactic(auto, unfolding(crate::specs::Bytes::be32At))]
+#[tactic(auto, unfolding(crate::specs::Bytes::be32_at))]
 pub fn get_be32(s: &[u8], at: usize) -> u32
     requires { at + 4 ≤ length s.now }
-    ensures { result ≡ be32At s.now at }
+    ensures { result ≡ be32_at s.now at }
 {
     wide(s[at]) * 16777216 + wide(s[at + 1]) * 65536 + wide(s[at + 2]) * 256 + wide(s[at + 3])
 }
 
 // The same, and 0 where the bytes end before it does.
-#[tactic(auto, unfolding(crate::specs::Bytes::numberAt))]
+#[tactic(auto, unfolding(crate::specs::Bytes::number_at))]
 pub fn number_at(s: &[u8], at: usize) -> u32
     requires { at + 4 < 2 ^ 64 }
-    ensures { result ≡ numberAt s.now at }
+    ensures { result ≡ number_at s.now at }
 {
     if at + 4 <= s.len() {
         get_be32(s, at)

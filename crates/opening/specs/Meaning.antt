@@ -11,22 +11,22 @@ use Rattle.opening.specs.declared.MaybeTimers.{MaybeTimers}
 use Rattle.opening.specs.declared.MaybeWindow.{MaybeWindow}
 use Rattle.opening.specs.Open.{Opening}
 
-abbrev pub timeoutIs : FoundTimeout → Option MaybeDuration
-timeoutIs FoundTimeout.None = none
-timeoutIs (FoundTimeout.Some x) = some x
+abbrev pub timeout_is : FoundTimeout → Option MaybeDuration
+timeout_is FoundTimeout.None = none
+timeout_is (FoundTimeout.Some x) = some x
 
-abbrev pub windowIs : MaybeWindow → Option Window
-windowIs MaybeWindow.None = none
-windowIs (MaybeWindow.Some x) = some x
+abbrev pub window_is : MaybeWindow → Option Window
+window_is MaybeWindow.None = none
+window_is (MaybeWindow.Some x) = some x
 
-abbrev pub limitsIs : MaybeLimits → Option Limits
-limitsIs MaybeLimits.None = none
-limitsIs (MaybeLimits.Some x) = some x
+abbrev pub limits_is : MaybeLimits → Option Limits
+limits_is MaybeLimits.None = none
+limits_is (MaybeLimits.Some x) = some x
 
-abbrev pub timersIs : MaybeTimers → Option Timers
-timersIs MaybeTimers.None = none
-timersIs (MaybeTimers.Some x) = some x
+abbrev pub timers_is : MaybeTimers → Option Timers
+timers_is MaybeTimers.None = none
+timers_is (MaybeTimers.Some x) = some x
 
-abbrev pub openingIs : MaybeOpening → Option Opening
-openingIs MaybeOpening.None = none
-openingIs (MaybeOpening.Some x) = some (record { conf = record { key = x.key; limits = x.limits; timers = x.timers }; now = x.now })
+abbrev pub opening_is : MaybeOpening → Option Opening
+opening_is MaybeOpening.None = none
+opening_is (MaybeOpening.Some x) = some (record { conf = record { key = x.key; limits = x.limits; timers = x.timers }; now = x.now })

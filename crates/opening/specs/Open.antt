@@ -5,8 +5,8 @@ use Rattle.exec.specs.declared.Limits.{Limits}
 use Rattle.exec.specs.declared.MaybeDuration.{MaybeDuration}
 use Rattle.exec.specs.declared.Timers.{Timers}
 use Rattle.exec.specs.declared.Window.{Window}
-use Rattle.exec.specs.Key.{newKey}
-use Rattle.exec.specs.Limits.{limitsFor}
+use Rattle.exec.specs.Key.{new_key}
+use Rattle.exec.specs.Limits.{limits_for}
 use Rattle.calls.specs.Call.{Conf}
 use Rattle.syntax.specs.Words.{bytes, same, unit}
 use Rattle.syntax.specs.Lines.{on, fields, u64, u32, missing, digit}
@@ -35,25 +35,25 @@ abbrev pub at : List (List ℕ) → ℕ → List ℕ
 at fs i = get_or fs i []
 
 -- open,NOW,ID,GENERATION,CHUNK,UNIT,SIZE,UNIT,SIZE,SHARED,TIMEOUT,GRACE,SETTLEMENT
-unfoldable pub isOpen : List (List ℕ) → Bool
-isOpen fs = eqb (length fs) 13 && same (at fs 0) (bytes "open")
+unfoldable pub is_open : List (List ℕ) → Bool
+is_open fs = eqb (length fs) 13 && same (at fs 0) (bytes "open")
 
-unfoldable pub limitsOf : List (List ℕ) → Option Limits
-limitsOf fs =
+unfoldable pub limits_of : List (List ℕ) → Option Limits
+limits_of fs =
     on (u32 (at fs 4)) λ chunk. on (window (at fs 5) (at fs 6)) λ i. on (window (at fs 7) (at fs 8)) λ o. on (digit (at fs 9)) λ b.
-    some (limitsFor chunk i o b)
+    some (limits_for chunk i o b)
 
-unfoldable pub timersOf : List (List ℕ) → Option Timers
-timersOf fs =
+unfoldable pub timers_of : List (List ℕ) → Option Timers
+timers_of fs =
     on (timeout (at fs 10)) λ x. on (u64 (at fs 11)) λ y. on (u64 (at fs 12)) λ z. some (record { timeout = x; grace = y; settlement = z })
 
-unfoldable pub openingOf : List (List ℕ) → Option Opening
-openingOf fs =
-    on (u64 (at fs 1)) λ now. on (u64 (at fs 2)) λ id. on (u64 (at fs 3)) λ generation. on (limitsOf fs) λ l. on (timersOf fs) λ t.
-    some (record { conf = record { key = newKey id generation; limits = l; timers = t }; now = now })
+unfoldable pub opening_of : List (List ℕ) → Option Opening
+opening_of fs =
+    on (u64 (at fs 1)) λ now. on (u64 (at fs 2)) λ id. on (u64 (at fs 3)) λ generation. on (limits_of fs) λ l. on (timers_of fs) λ t.
+    some (record { conf = record { key = new_key id generation; limits = l; timers = t }; now = now })
 
-unfoldable pub openOf : List (List ℕ) → Option Opening
-openOf fs = cond (isOpen fs) (openingOf fs) none
+unfoldable pub open_of : List (List ℕ) → Option Opening
+open_of fs = cond (is_open fs) (opening_of fs) none
 
-abbrev pub lineOpen : (line : List ℕ) → Option Opening
-lineOpen line = openOf (fields line)
+abbrev pub line_open : (line : List ℕ) → Option Opening
+line_open line = open_of (fields line)

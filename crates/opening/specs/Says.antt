@@ -13,10 +13,10 @@ pub record Says (line : List ℕ) (o : Opening) : Type 0 where
   pub id : u64 (get_or (fields line) 2 []) ≡ some o.conf.key.id
   pub generation : u64 (get_or (fields line) 3 []) ≡ some o.conf.key.generation
   pub chunk : u32 (get_or (fields line) 4 []) ≡ some o.conf.limits.chunk
-  pub input-unit : unit (get_or (fields line) 5 []) ≡ some o.conf.limits.input.unit
-  pub input-size : u32 (get_or (fields line) 6 []) ≡ some o.conf.limits.input.size
-  pub output-unit : unit (get_or (fields line) 7 []) ≡ some o.conf.limits.output.unit
-  pub output-size : u32 (get_or (fields line) 8 []) ≡ some o.conf.limits.output.size
+  pub input_unit : unit (get_or (fields line) 5 []) ≡ some o.conf.limits.input.unit
+  pub input_size : u32 (get_or (fields line) 6 []) ≡ some o.conf.limits.input.size
+  pub output_unit : unit (get_or (fields line) 7 []) ≡ some o.conf.limits.output.unit
+  pub output_size : u32 (get_or (fields line) 8 []) ≡ some o.conf.limits.output.size
   pub shared : digit (get_or (fields line) 9 []) ≡ some o.conf.limits.shared
   pub limit : timeout (get_or (fields line) 10 []) ≡ some o.conf.timers.timeout
   pub grace : u64 (get_or (fields line) 11 []) ≡ some o.conf.timers.grace

@@ -2,31 +2,31 @@
 use Rattle.std.specs.Prelude.{true, false, ◌≡◌, refl}
 use Rattle.std.proofs.Math.Option.{none, some}
 use Rattle.exec.specs.declared.MaybeDuration.TheVariants as MaybeDuration
-use Rattle.exec.specs.Key.{newKey}
-use Rattle.exec.specs.Limits.{bytesWindow, framesWindow, limitsFor}
-use Rattle.exec.specs.Time.{newTimers, withTimeout}
+use Rattle.exec.specs.Key.{new_key}
+use Rattle.exec.specs.Limits.{bytes_window, frames_window, limits_for}
+use Rattle.exec.specs.Time.{new_timers, with_timeout}
 use Rattle.syntax.specs.Table.{calls}
 use Rattle.syntax.specs.Words.{bytes}
-use Rattle.opening.specs.Open.{timeout, openOf, isOpen, openingOf, limitsOf, timersOf, lineOpen}
+use Rattle.opening.specs.Open.{timeout, open_of, is_open, opening_of, limits_of, timers_of, line_open}
 
-table-open : lineOpen (bytes "open,0,7,2,4,B,8,B,8,0,-,10,5")
+table_open : line_open (bytes "open,0,7,2,4,B,8,B,8,0,-,10,5")
     ≡ some (record {
-      conf = record { key = newKey 7 2; limits = limitsFor 4 (bytesWindow 8) (bytesWindow 8) false; timers = withTimeout (newTimers 10 5) 3600000000000 };
+      conf = record { key = new_key 7 2; limits = limits_for 4 (bytes_window 8) (bytes_window 8) false; timers = with_timeout (new_timers 10 5) 3600000000000 };
       now = 0;
     })
-unfolding calls openOf isOpen openingOf limitsOf timersOf timeout
-table-open = refl
+unfolding calls open_of is_open opening_of limits_of timers_of timeout
+table_open = refl
 
 -- every field in its place, and no other line: twelve fields, fourteen, another name
-places : (lineOpen (bytes "open,1,2,3,4,F,5,B,6,1,7,8,9")
+places : (line_open (bytes "open,1,2,3,4,F,5,B,6,1,7,8,9")
     ≡ some (record {
-      conf = record { key = newKey 2 3; limits = limitsFor 4 (framesWindow 5) (bytesWindow 6) true; timers = withTimeout (newTimers 8 9) 7 };
+      conf = record { key = new_key 2 3; limits = limits_for 4 (frames_window 5) (bytes_window 6) true; timers = with_timeout (new_timers 8 9) 7 };
       now = 1;
     }))
-    × (lineOpen (bytes "open,1,2,3,4,F,5,B,6,1,8,9") ≡ none)
-    × (lineOpen (bytes "open,1,2,3,4,F,5,B,6,1,7,8,9,1") ≡ none)
-    × (lineOpen (bytes "Open,1,2,3,4,F,5,B,6,1,7,8,9") ≡ none)
-unfolding calls openOf isOpen openingOf limitsOf timersOf timeout
+    × (line_open (bytes "open,1,2,3,4,F,5,B,6,1,8,9") ≡ none)
+    × (line_open (bytes "open,1,2,3,4,F,5,B,6,1,7,8,9,1") ≡ none)
+    × (line_open (bytes "Open,1,2,3,4,F,5,B,6,1,7,8,9") ≡ none)
+unfolding calls open_of is_open opening_of limits_of timers_of timeout
 places = (refl, refl, refl, refl)
 
 -- missing is an hour, `never` no limit, a number itself up to 2^64 - 1; what is nearly one of these is none (30)
@@ -45,37 +45,37 @@ unfolding calls timeout
 timeouts = (refl, refl, refl, refl, refl, refl, refl, refl, refl, refl, refl, refl, refl, refl, refl, refl, refl, refl)
 
 -- only TIMEOUT may be missing: `-` in any other field opens nothing
-only-timeout : (lineOpen (bytes "open,-,2,3,4,F,5,B,6,1,7,8,9") ≡ none)
-    × (lineOpen (bytes "open,1,-,3,4,F,5,B,6,1,7,8,9") ≡ none)
-    × (lineOpen (bytes "open,1,2,-,4,F,5,B,6,1,7,8,9") ≡ none)
-    × (lineOpen (bytes "open,1,2,3,-,F,5,B,6,1,7,8,9") ≡ none)
-    × (lineOpen (bytes "open,1,2,3,4,-,5,B,6,1,7,8,9") ≡ none)
-    × (lineOpen (bytes "open,1,2,3,4,F,-,B,6,1,7,8,9") ≡ none)
-    × (lineOpen (bytes "open,1,2,3,4,F,5,-,6,1,7,8,9") ≡ none)
-    × (lineOpen (bytes "open,1,2,3,4,F,5,B,-,1,7,8,9") ≡ none)
-    × (lineOpen (bytes "open,1,2,3,4,F,5,B,6,-,7,8,9") ≡ none)
-    × (lineOpen (bytes "open,1,2,3,4,F,5,B,6,1,7,-,9") ≡ none)
-    × (lineOpen (bytes "open,1,2,3,4,F,5,B,6,1,7,8,-") ≡ none)
-unfolding calls openOf isOpen openingOf limitsOf timersOf timeout
-only-timeout = (refl, refl, refl, refl, refl, refl, refl, refl, refl, refl, refl)
+only_timeout : (line_open (bytes "open,-,2,3,4,F,5,B,6,1,7,8,9") ≡ none)
+    × (line_open (bytes "open,1,-,3,4,F,5,B,6,1,7,8,9") ≡ none)
+    × (line_open (bytes "open,1,2,-,4,F,5,B,6,1,7,8,9") ≡ none)
+    × (line_open (bytes "open,1,2,3,-,F,5,B,6,1,7,8,9") ≡ none)
+    × (line_open (bytes "open,1,2,3,4,-,5,B,6,1,7,8,9") ≡ none)
+    × (line_open (bytes "open,1,2,3,4,F,-,B,6,1,7,8,9") ≡ none)
+    × (line_open (bytes "open,1,2,3,4,F,5,-,6,1,7,8,9") ≡ none)
+    × (line_open (bytes "open,1,2,3,4,F,5,B,-,1,7,8,9") ≡ none)
+    × (line_open (bytes "open,1,2,3,4,F,5,B,6,-,7,8,9") ≡ none)
+    × (line_open (bytes "open,1,2,3,4,F,5,B,6,1,7,-,9") ≡ none)
+    × (line_open (bytes "open,1,2,3,4,F,5,B,6,1,7,8,-") ≡ none)
+unfolding calls open_of is_open opening_of limits_of timers_of timeout
+only_timeout = (refl, refl, refl, refl, refl, refl, refl, refl, refl, refl, refl)
 
 -- nor does `never` in another field of time
-only-there : (lineOpen (bytes "open,never,2,3,4,F,5,B,6,1,7,8,9") ≡ none)
-    × (lineOpen (bytes "open,1,2,3,4,F,5,B,6,1,7,never,9") ≡ none)
-    × (lineOpen (bytes "open,1,2,3,4,F,5,B,6,1,7,8,never") ≡ none)
-unfolding calls openOf isOpen openingOf limitsOf timersOf timeout
-only-there = (refl, refl, refl)
+only_there : (line_open (bytes "open,never,2,3,4,F,5,B,6,1,7,8,9") ≡ none)
+    × (line_open (bytes "open,1,2,3,4,F,5,B,6,1,7,never,9") ≡ none)
+    × (line_open (bytes "open,1,2,3,4,F,5,B,6,1,7,8,never") ≡ none)
+unfolding calls open_of is_open opening_of limits_of timers_of timeout
+only_there = (refl, refl, refl)
 
 -- nor a line that is nearly one: another name, a blank, an empty TIMEOUT, a carriage return
-near-lines : (lineOpen (bytes "OPEN,1,2,3,4,F,5,B,6,1,7,8,9") ≡ none)
-    × (lineOpen (bytes "ope,1,2,3,4,F,5,B,6,1,7,8,9") ≡ none)
-    × (lineOpen (bytes "open ,1,2,3,4,F,5,B,6,1,7,8,9") ≡ none)
-    × (lineOpen (bytes "open,1,2,3,4,F,5,B,6,1, -,8,9") ≡ none)
-    × (lineOpen (bytes "open,1,2,3,4,F,5,B,6,1, never,8,9") ≡ none)
-    × (lineOpen (bytes "open,1,2,3,4,F,5,B,6,1,- ,8,9") ≡ none)
-    × (lineOpen (bytes "open,1,2,3,4,F,5,B,6,1,,8,9") ≡ none)
-    × (lineOpen (bytes "open,1,2,3,4,F,5,B,6,1, 7,8,9") ≡ none)
-    × (lineOpen (bytes "open, 1,2,3,4,F,5,B,6,1,7,8,9") ≡ none)
-    × (lineOpen (bytes "open,1,2,3,4,F,5,B,6,1,7,8,9\r") ≡ none)
-unfolding calls openOf isOpen openingOf limitsOf timersOf timeout
-near-lines = (refl, refl, refl, refl, refl, refl, refl, refl, refl, refl)
+near_lines : (line_open (bytes "OPEN,1,2,3,4,F,5,B,6,1,7,8,9") ≡ none)
+    × (line_open (bytes "ope,1,2,3,4,F,5,B,6,1,7,8,9") ≡ none)
+    × (line_open (bytes "open ,1,2,3,4,F,5,B,6,1,7,8,9") ≡ none)
+    × (line_open (bytes "open,1,2,3,4,F,5,B,6,1, -,8,9") ≡ none)
+    × (line_open (bytes "open,1,2,3,4,F,5,B,6,1, never,8,9") ≡ none)
+    × (line_open (bytes "open,1,2,3,4,F,5,B,6,1,- ,8,9") ≡ none)
+    × (line_open (bytes "open,1,2,3,4,F,5,B,6,1,,8,9") ≡ none)
+    × (line_open (bytes "open,1,2,3,4,F,5,B,6,1, 7,8,9") ≡ none)
+    × (line_open (bytes "open, 1,2,3,4,F,5,B,6,1,7,8,9") ≡ none)
+    × (line_open (bytes "open,1,2,3,4,F,5,B,6,1,7,8,9\r") ≡ none)
+unfolding calls open_of is_open opening_of limits_of timers_of timeout
+near_lines = (refl, refl, refl, refl, refl, refl, refl, refl, refl, refl)

@@ -5,12 +5,12 @@ use Rattle.std.proofs.Math.Option.{Option, none, some, map, none-ne-some}
 use Rattle.exec.specs.declared.Limits.{Limits}
 use Rattle.exec.specs.declared.MaybeDuration.{MaybeDuration}
 use Rattle.exec.specs.declared.Timers.{Timers}
-use Rattle.exec.specs.Key.{newKey}
-use Rattle.octets.specs.Text.{same-is}
+use Rattle.exec.specs.Key.{new_key}
+use Rattle.octets.specs.Text.{same_is}
 use Rattle.syntax.specs.Lines.{on, fields, u64}
 use Rattle.syntax.specs.Table.{calls}
 use Rattle.syntax.specs.Words.{bytes, same}
-use Rattle.opening.specs.Open.{Opening, at, timeout, isOpen, openOf, openingOf, limitsOf, timersOf, lineOpen}
+use Rattle.opening.specs.Open.{Opening, at, timeout, is_open, open_of, opening_of, limits_of, timers_of, line_open}
 use Rattle.opening.specs.Says.{Says}
 
 -- ---- the field
@@ -19,23 +19,23 @@ unlike : (s t : List ℕ) → (s ≡ t → ⊥) → same s t ≡ false
 unlike s t n = by (same s t) refl
   where
     by : (b : Bool) → same s t ≡ b → b ≡ false
-    by true e = absurd (n (same-is s t e))
+    by true e = absurd (n (same_is s t e))
     by false e = refl
 
 -- every field but `-` and `never` is a number or none
-pub number-else : (field : List ℕ) → (field ≡ bytes "-" → ⊥) → (field ≡ bytes "never" → ⊥)
+pub number_else : (field : List ℕ) → (field ≡ bytes "-" → ⊥) → (field ≡ bytes "never" → ⊥)
     → timeout field ≡ map MaybeDuration.Some (u64 field)
 unfolding timeout
-number-else field m n = rw (unlike field (bytes "-") m, unlike field (bytes "never") n) refl
+number_else field m n = rw (unlike field (bytes "-") m, unlike field (bytes "never") n) refl
 
 -- neither of which is a number
 no_number : (u64 (bytes "-") ≡ none) × (u64 (bytes "never") ≡ none)
 unfolding calls
 no_number = (refl, refl)
 
-pub number-itself : (field : List ℕ) (n : ℕ) → u64 field ≡ some n → timeout field ≡ some (MaybeDuration.Some n)
-number-itself field n e =
-    number-else field (λ h. other (bytes "-") h no_number.0) (λ h. other (bytes "never") h no_number.1)
+pub number_itself : (field : List ℕ) (n : ℕ) → u64 field ≡ some n → timeout field ≡ some (MaybeDuration.Some n)
+number_itself field n e =
+    number_else field (λ h. other (bytes "-") h no_number.0) (λ h. other (bytes "never") h no_number.1)
     ∙ ap (map MaybeDuration.Some) e
   where
     other : (t : List ℕ) → field ≡ t → u64 t ≡ none → ⊥
@@ -45,27 +45,27 @@ number-itself field n e =
 
 -- a line whose TIMEOUT is not read opens nothing
 unread : (now id generation : Option ℕ) (l : Option Limits)
-    → ◌≡◌ {A = Option Opening} (on now λ n. on id λ i. on generation λ g. on l λ k. on {A = Timers} none λ x. some (record { conf = record { key = newKey i g; limits = k; timers = x }; now = n })) none
+    → ◌≡◌ {A = Option Opening} (on now λ n. on id λ i. on generation λ g. on l λ k. on {A = Timers} none λ x. some (record { conf = record { key = new_key i g; limits = k; timers = x }; now = n })) none
 unread none id generation l = refl
 unread (some n) none generation l = refl
 unread (some n) (some i) none l = refl
 unread (some n) (some i) (some g) none = refl
 unread (some n) (some i) (some g) (some k) = refl
 
-no-timers : (fs : List (List ℕ)) → timersOf fs ≡ none → openOf fs ≡ none
-unfolding openOf openingOf
-no-timers fs h = rw h (by (isOpen fs))
+no_timers : (fs : List (List ℕ)) → timers_of fs ≡ none → open_of fs ≡ none
+unfolding open_of opening_of
+no_timers fs h = rw h (by (is_open fs))
   where
-    by : (b : Bool) → cond b (on (u64 (at fs 1)) λ n. on (u64 (at fs 2)) λ i. on (u64 (at fs 3)) λ g. on (limitsOf fs) λ k. on {A = Timers} {B = Opening} none λ x. some (record { conf = record { key = newKey i g; limits = k; timers = x }; now = n })) none ≡ none
-    by true = unread (u64 (at fs 1)) (u64 (at fs 2)) (u64 (at fs 3)) (limitsOf fs)
+    by : (b : Bool) → cond b (on (u64 (at fs 1)) λ n. on (u64 (at fs 2)) λ i. on (u64 (at fs 3)) λ g. on (limits_of fs) λ k. on {A = Timers} {B = Opening} none λ x. some (record { conf = record { key = new_key i g; limits = k; timers = x }; now = n })) none ≡ none
+    by true = unread (u64 (at fs 1)) (u64 (at fs 2)) (u64 (at fs 3)) (limits_of fs)
     by false = refl
 
-pub line-bad : (line : List ℕ) → timeout (get_or (fields line) 10 []) ≡ none → lineOpen line ≡ none
-unfolding timersOf
-line-bad line h = no-timers (fields line) (rw h refl)
+pub line_bad : (line : List ℕ) → timeout (get_or (fields line) 10 []) ≡ none → line_open line ≡ none
+unfolding timers_of
+line_bad line h = no_timers (fields line) (rw h refl)
 
 -- A LINE THAT SAYS AN OPENING OPENS WITH IT
-pub line-opens : (line : List ℕ) (o : Opening) → Says line o → lineOpen line ≡ some o
-unfolding isOpen openOf openingOf limitsOf timersOf same bytes
-line-opens line o h =
-    rw (h.count, h.name, h.now, h.id, h.generation, h.chunk, h.input-unit, h.input-size, h.output-unit, h.output-size, h.shared, h.limit, h.grace, h.settlement) refl
+pub line_opens : (line : List ℕ) (o : Opening) → Says line o → line_open line ≡ some o
+unfolding is_open open_of opening_of limits_of timers_of same bytes
+line_opens line o h =
+    rw (h.count, h.name, h.now, h.id, h.generation, h.chunk, h.input_unit, h.input_size, h.output_unit, h.output_size, h.shared, h.limit, h.grace, h.settlement) refl

@@ -3,12 +3,12 @@
 
 ghost use Rattle.std.specs.Prelude.{◌≡◌, cond, ◌+◌, ◌≤◌, ◌<◌, eqb, length, drop};
 ghost use Rattle.syntax.specs.Words.{unit};
-ghost use Rattle.opening.specs.Open.{at, timeout, window, lineOpen, isOpen, limitsOf, timersOf, openingOf};
+ghost use Rattle.opening.specs.Open.{at, timeout, window, line_open, is_open, limits_of, timers_of, opening_of};
 ghost use Rattle.syntax.specs.Lines.{fields, u64, u32, digit};
-ghost use Rattle.reading.specs.Meaning.{numberIs, narrowIs, flagIs, unitIs};
-ghost use Rattle.opening.specs.Meaning.{timeoutIs, windowIs, limitsIs, timersIs, openingIs};
-ghost use Rattle.reading.specs.FieldLaws.{commaAt};
-ghost use Rattle.opening.specs.PlaceLaws.{behindOf, Begins};
+ghost use Rattle.reading.specs.Meaning.{number_is, narrow_is, flag_is, unit_is};
+ghost use Rattle.opening.specs.Meaning.{timeout_is, window_is, limits_is, timers_is, opening_is};
+ghost use Rattle.reading.specs.FieldLaws.{comma_at};
+ghost use Rattle.opening.specs.PlaceLaws.{behind_of, Begins};
 
 use decimal::MaybeNumber;
 use exec::{Key, Limits, MaybeDuration, Timers, Window};
@@ -63,7 +63,7 @@ const HOUR: u64 = 3600000000000;
 
 #[tactic(auto, unfolding(crate::specs::Open::timeout, syntax::specs::Words::bytes))]
 fn timeout(field: &[u8]) -> FoundTimeout
-    ensures { timeoutIs result ≡ timeout field.now }
+    ensures { timeout_is result ≡ timeout field.now }
 {
     if words::missing(field) {
         return FoundTimeout::Some(MaybeDuration::Some(HOUR));
@@ -101,9 +101,9 @@ fn count(line: &[u8]) -> usize
 }
 
 // Where the text behind the first field begins; the text's end, where there is one field only.
-#[tactic(auto, unfolding(crate::specs::PlaceLaws::behindOf))]
+#[tactic(auto, unfolding(crate::specs::PlaceLaws::behind_of))]
 fn behind(text: &[u8]) -> usize
-    ensures { (result ≡ behindOf text.now) × (result ≤ length text.now) }
+    ensures { (result ≡ behind_of text.now) × (result ≤ length text.now) }
 {
     let n = text.len();
     let at = comma(text);
@@ -130,7 +130,7 @@ fn place(line: &[u8], k: usize) -> usize
 // Where a field ends that begins at i.
 fn end(line: &[u8], i: usize) -> usize
     requires { i ≤ length line.now }
-    ensures { (result ≡ i + commaAt (drop i line.now)) × (result ≤ length line.now) }
+    ensures { (result ≡ i + comma_at (drop i line.now)) × (result ≤ length line.now) }
 {
     let n = line.len();
     i + comma(&line[i..n])
@@ -138,10 +138,10 @@ fn end(line: &[u8], i: usize) -> usize
 
 // ---- the fields at places
 
-#[tactic(auto, using(crate::specs::PlaceLaws::first_part), unfolding(crate::specs::Open::isOpen, syntax::specs::Words::bytes))]
+#[tactic(auto, using(crate::specs::PlaceLaws::first_part), unfolding(crate::specs::Open::is_open, syntax::specs::Words::bytes))]
 fn is_open(line: &[u8]) -> bool
     requires { length line.now ≤ 65535 }
-    ensures { result ≡ isOpen (fields line.now) }
+    ensures { result ≡ is_open (fields line.now) }
 {
     let e = comma(line);
     let n = count(line);
@@ -150,7 +150,7 @@ fn is_open(line: &[u8]) -> bool
 
 #[tactic(auto, using(crate::specs::PlaceLaws::place_part))]
 fn number_at(line: &[u8], k: usize) -> MaybeNumber
-    ensures { numberIs result ≡ u64 (at (fields line.now) k) }
+    ensures { number_is result ≡ u64 (at (fields line.now) k) }
 {
     let i = place(line, k);
     let e = end(line, i);
@@ -159,7 +159,7 @@ fn number_at(line: &[u8], k: usize) -> MaybeNumber
 
 #[tactic(auto, using(crate::specs::PlaceLaws::place_part))]
 fn narrow_at(line: &[u8], k: usize) -> MaybeU32
-    ensures { narrowIs result ≡ u32 (at (fields line.now) k) }
+    ensures { narrow_is result ≡ u32 (at (fields line.now) k) }
 {
     let i = place(line, k);
     let e = end(line, i);
@@ -168,7 +168,7 @@ fn narrow_at(line: &[u8], k: usize) -> MaybeU32
 
 #[tactic(auto, using(crate::specs::PlaceLaws::place_part))]
 fn unit_at(line: &[u8], k: usize) -> MaybeUnit
-    ensures { unitIs result ≡ unit (at (fields line.now) k) }
+    ensures { unit_is result ≡ unit (at (fields line.now) k) }
 {
     let i = place(line, k);
     let e = end(line, i);
@@ -177,7 +177,7 @@ fn unit_at(line: &[u8], k: usize) -> MaybeUnit
 
 #[tactic(auto, using(crate::specs::PlaceLaws::place_part))]
 fn flag_at(line: &[u8], k: usize) -> MaybeFlag
-    ensures { flagIs result ≡ digit (at (fields line.now) k) }
+    ensures { flag_is result ≡ digit (at (fields line.now) k) }
 {
     let i = place(line, k);
     let e = end(line, i);
@@ -186,7 +186,7 @@ fn flag_at(line: &[u8], k: usize) -> MaybeFlag
 
 #[tactic(auto, using(crate::specs::PlaceLaws::place_part))]
 fn timeout_at(line: &[u8], k: usize) -> FoundTimeout
-    ensures { timeoutIs result ≡ timeout (at (fields line.now) k) }
+    ensures { timeout_is result ≡ timeout (at (fields line.now) k) }
 {
     let i = place(line, k);
     let e = end(line, i);
@@ -195,7 +195,7 @@ fn timeout_at(line: &[u8], k: usize) -> FoundTimeout
 
 fn window_at(line: &[u8], k: usize) -> MaybeWindow
     requires { k < 16 }
-    ensures { windowIs result ≡ window (at (fields line.now) k) (at (fields line.now) (k + 1)) }
+    ensures { window_is result ≡ window (at (fields line.now) k) (at (fields line.now) (k + 1)) }
 {
     let MaybeUnit::Some(unit) = unit_at(line, k) else {
         return MaybeWindow::None;
@@ -207,9 +207,9 @@ fn window_at(line: &[u8], k: usize) -> MaybeWindow
 }
 
 // Fields 4 to 9.
-#[tactic(auto, unfolding(crate::specs::Open::limitsOf))]
+#[tactic(auto, unfolding(crate::specs::Open::limits_of))]
 fn limits(line: &[u8]) -> MaybeLimits
-    ensures { limitsIs result ≡ limitsOf (fields line.now) }
+    ensures { limits_is result ≡ limits_of (fields line.now) }
 {
     let MaybeU32::Some(chunk) = narrow_at(line, 4) else {
         return MaybeLimits::None;
@@ -227,9 +227,9 @@ fn limits(line: &[u8]) -> MaybeLimits
 }
 
 // Fields 10 to 12.
-#[tactic(auto, unfolding(crate::specs::Open::timersOf))]
+#[tactic(auto, unfolding(crate::specs::Open::timers_of))]
 fn timers(line: &[u8]) -> MaybeTimers
-    ensures { timersIs result ≡ timersOf (fields line.now) }
+    ensures { timers_is result ≡ timers_of (fields line.now) }
 {
     let FoundTimeout::Some(timeout) = timeout_at(line, 10) else {
         return MaybeTimers::None;
@@ -247,9 +247,9 @@ fn timers(line: &[u8]) -> MaybeTimers
     })
 }
 
-#[tactic(auto, unfolding(crate::specs::Open::openingOf))]
+#[tactic(auto, unfolding(crate::specs::Open::opening_of))]
 fn opening_of(line: &[u8]) -> MaybeOpening
-    ensures { openingIs result ≡ openingOf (fields line.now) }
+    ensures { opening_is result ≡ opening_of (fields line.now) }
 {
     let MaybeNumber::Some(now) = number_at(line, 1) else {
         return MaybeOpening::None;
@@ -275,10 +275,10 @@ fn opening_of(line: &[u8]) -> MaybeOpening
 }
 
 // open,NOW,ID,GENERATION,CHUNK,UNIT,SIZE,UNIT,SIZE,SHARED,TIMEOUT,GRACE,SETTLEMENT
-#[tactic(auto, unfolding(crate::specs::Open::openOf))]
+#[tactic(auto, unfolding(crate::specs::Open::open_of))]
 pub fn open_of(line: &[u8]) -> MaybeOpening
     requires { length line.now ≤ 65535 }
-    ensures { openingIs result ≡ lineOpen line.now }
+    ensures { opening_is result ≡ line_open line.now }
 {
     if is_open(line) {
         return opening_of(line);

@@ -2,43 +2,43 @@
 use Rattle.std.specs.Prelude.{ℕ, Bool, cond, List, [], ◌∷◌, get_or}
 use Rattle.exec.specs.declared.Stream.{Stream}
 use Rattle.exec.specs.declared.Stream.TheVariants.{Stdout, Stderr}
-use Rattle.exec.specs.Stream.{isStdout, isStderr, pick, everyStream, anyStream, sumOfStreams}
+use Rattle.exec.specs.Stream.{is_stdout, is_stderr, pick, every_stream, any_stream, sum_of_streams}
 use Rattle.output.specs.declared.Output.{Output}
-use Rattle.output.specs.Output.{newOutput, isHeld, isDelivered, outputFits, outputWithin}
+use Rattle.output.specs.Output.{new_output, is_held, is_delivered, output_fits, output_within}
 
 abbrev pub stdout : List Output → Output
-stdout os = get_or os 0 newOutput
+stdout os = get_or os 0 new_output
 
 abbrev pub stderr : List Output → Output
-stderr os = get_or os 1 newOutput
+stderr os = get_or os 1 new_output
 
 -- a stream's output
-abbrev pub outputIn : Stream → List Output → Output
-outputIn x os = pick x (stdout os) (stderr os)
+abbrev pub output_in : Stream → List Output → Output
+output_in x os = pick x (stdout os) (stderr os)
 
 -- and put back
-abbrev pub putOutput : Stream → Output → List Output → List Output
-putOutput x o os = cond (isStdout x) o (stdout os) ∷ cond (isStderr x) o (stderr os) ∷ []
+abbrev pub put_output : Stream → Output → List Output → List Output
+put_output x o os = cond (is_stdout x) o (stdout os) ∷ cond (is_stderr x) o (stderr os) ∷ []
 
 -- each changed alike
-abbrev pub eachOutput : (Output → Output) → List Output → List Output
-eachOutput f os = f (outputIn Stdout os) ∷ f (outputIn Stderr os) ∷ []
+abbrev pub each_output : (Output → Output) → List Output → List Output
+each_output f os = f (output_in Stdout os) ∷ f (output_in Stderr os) ∷ []
 
-abbrev pub allClosed : List Output → Bool
-allClosed os = everyStream (λ (x : Stream). (outputIn x os).closed)
+abbrev pub all_closed : List Output → Bool
+all_closed os = every_stream (λ (x : Stream). (output_in x os).closed)
 
-abbrev pub anyHeld : List Output → Bool
-anyHeld os = anyStream (λ (x : Stream). isHeld (outputIn x os))
+abbrev pub any_held : List Output → Bool
+any_held os = any_stream (λ (x : Stream). is_held (output_in x os))
 
-abbrev pub allDelivered : List Output → (detached : Bool) → Bool
-allDelivered os detached = everyStream (λ (x : Stream). isDelivered detached (outputIn x os))
+abbrev pub all_delivered : List Output → (detached : Bool) → Bool
+all_delivered os detached = every_stream (λ (x : Stream). is_delivered detached (output_in x os))
 
 -- the bytes of output that wait
-abbrev pub queuedOf : List Output → ℕ
-queuedOf os = sumOfStreams (λ (x : Stream). (outputIn x os).queued)
+abbrev pub queued_of : List Output → ℕ
+queued_of os = sum_of_streams (λ (x : Stream). (output_in x os).queued)
 
-abbrev pub outputsFit : (chunk : ℕ) → List Output → Bool
-outputsFit chunk os = everyStream (λ (x : Stream). outputFits chunk (outputIn x os))
+abbrev pub outputs_fit : (chunk : ℕ) → List Output → Bool
+outputs_fit chunk os = every_stream (λ (x : Stream). output_fits chunk (output_in x os))
 
-abbrev pub outputsWithin : (chunk : ℕ) → List Output → Bool
-outputsWithin chunk os = everyStream (λ (x : Stream). outputWithin chunk (outputIn x os))
+abbrev pub outputs_within : (chunk : ℕ) → List Output → Bool
+outputs_within chunk os = every_stream (λ (x : Stream). output_within chunk (output_in x os))

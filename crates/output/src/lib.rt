@@ -3,27 +3,27 @@
 
 ghost use Rattle.std.specs.Prelude.{◌≡◌, cond, ◌+◌, ◌≤◌, ◌<◌, ◌^◌, length, ltb};
 ghost use Rattle.output.specs.Output.{
-  newOutput,
-  isDone,
-  isHeld,
-  isDelivered,
-  graceEnded,
-  givenUp,
+  new_output,
+  is_done,
+  is_held,
+  is_delivered,
+  grace_ended,
+  given_up,
   abandoned,
-  closedOut,
-  failedOut,
-  hungUp,
-  lostOut,
-  endedOut,
-  askedOut,
+  closed_out,
+  failed_out,
+  hung_up,
+  lost_out,
+  ended_out,
+  asked_out,
   allowance,
   filled,
-  intakeAfter,
-  takenIn,
-  sendAfter,
+  intake_after,
+  taken_in,
+  send_after,
   sent,
-  outputFits,
-  outputWithin,
+  output_fits,
+  output_within,
 };
 
 use inbox::ring_fits;
@@ -66,7 +66,7 @@ fn taken(dropped: bool, n: usize, kept: usize) -> usize
 
 impl Output {
     pub fn new() -> Self
-        ensures { result ≡ newOutput }
+        ensures { result ≡ new_output }
     {
         Output {
             start: 0,
@@ -82,28 +82,28 @@ impl Output {
 
     // Whether it closed, with nothing left to send.
     pub fn is_done(self) -> bool
-        ensures { result ≡ isDone self }
+        ensures { result ≡ is_done self }
     {
         self.closed & !(0 < self.queued)
     }
 
     // Whether a process may hold it open.
     pub fn is_held(self) -> bool
-        ensures { result ≡ isHeld self }
+        ensures { result ≡ is_held self }
     {
         !self.closed & !self.hung_up
     }
 
     // Whether it is done, with its end told or nobody to tell.
     pub fn is_delivered(self, detached: bool) -> bool
-        ensures { result ≡ isDelivered detached self }
+        ensures { result ≡ is_delivered detached self }
     {
         self.is_done() & (self.ended | detached)
     }
 
     // Its grace ends: the queue is dropped, and the rest of an open stream is to be discarded.
     pub fn end_grace(mut self) -> Output
-        ensures { result ≡ graceEnded self }
+        ensures { result ≡ grace_ended self }
     {
         let discard = !self.closed & !self.discarding;
         self.truncated = (0 < self.queued) | self.truncated;
@@ -116,7 +116,7 @@ impl Output {
 
     // The runner gives up: the queue is dropped, and an open stream ends truncated.
     pub fn give_up(mut self) -> Output
-        ensures { result ≡ givenUp self }
+        ensures { result ≡ given_up self }
     {
         self.truncated = !self.closed | ((0 < self.queued) | self.truncated);
         self.start = 0;
@@ -136,7 +136,7 @@ impl Output {
 
     // Every writer closed it.
     pub fn close(mut self) -> Output
-        ensures { result ≡ closedOut self }
+        ensures { result ≡ closed_out self }
     {
         self.closed = true;
         self
@@ -144,7 +144,7 @@ impl Output {
 
     // Reading it failed, which ends it too.
     pub fn fail(mut self) -> Output
-        ensures { result ≡ failedOut self }
+        ensures { result ≡ failed_out self }
     {
         self.closed = true;
         self.truncated = true;
@@ -153,7 +153,7 @@ impl Output {
 
     // Every writer closed it, though it is not read to its end.
     pub fn hang_up(mut self) -> Output
-        ensures { result ≡ hungUp self }
+        ensures { result ≡ hung_up self }
     {
         self.hung_up = true;
         self
@@ -161,7 +161,7 @@ impl Output {
 
     // So many bytes were read and dropped.
     pub fn discard(mut self, bytes: usize) -> Output
-        ensures { result ≡ lostOut (ltb 0 bytes) self }
+        ensures { result ≡ lost_out (ltb 0 bytes) self }
     {
         self.truncated = (0 < bytes) | self.truncated;
         self
@@ -169,7 +169,7 @@ impl Output {
 
     // The message of its end was returned.
     pub fn end(mut self) -> Output
-        ensures { result ≡ endedOut self }
+        ensures { result ≡ ended_out self }
     {
         self.ended = true;
         self
@@ -177,7 +177,7 @@ impl Output {
 
     // The request to discard it was returned.
     pub fn discard_asked(mut self) -> Output
-        ensures { result ≡ askedOut self }
+        ensures { result ≡ asked_out self }
     {
         self.discard_requested = false;
         self
@@ -204,7 +204,7 @@ impl Output {
     }
 
     // Takes bytes that were read: as many as the allowance, or all of them to drop where the stream is discarded.
-    #[tactic(auto, unfolding(crate::specs::Output::takenIn))]
+    #[tactic(auto, unfolding(crate::specs::Output::taken_in))]
     pub fn take_in(
         self,
         gave_up: bool,
@@ -214,7 +214,7 @@ impl Output {
         bytes: &[u8],
     ) -> Intake
         requires { (base + chunk ≤ length store.old) × (self.start ≤ chunk) × (self.queued ≤ chunk) }
-        ensures { intakeAfter result store.new ≡ takenIn self gave_up base chunk bytes.now store.old }
+        ensures { intake_after result store.new ≡ taken_in self gave_up base chunk bytes.now store.old }
     {
         let start = self.start as usize;
         let queued = self.queued as usize;
@@ -239,7 +239,7 @@ impl Output {
         buffer: &mut [u8],
     ) -> Output
         requires { (base + chunk ≤ length store.now) × (self.start ≤ chunk) × (self.queued ≤ chunk) × (n ≤ self.queued) × (n ≤ length buffer.old) }
-        ensures { sendAfter result buffer.new ≡ sent chunk base n self store.now buffer.old }
+        ensures { send_after result buffer.new ≡ sent chunk base n self store.now buffer.old }
     {
         let size = chunk as usize;
         let start = self.start as usize;
@@ -253,15 +253,15 @@ impl Output {
 
     // As `fits`, for a chunk that is not 0, and quicker: each call asks it.
     pub fn within(self, chunk: u32) -> bool
-        ensures { result ≡ outputWithin chunk self }
+        ensures { result ≡ output_within chunk self }
     {
         (self.queued <= chunk) & (self.start < chunk)
     }
 
     // Whether the queue is within its ring.
-    #[tactic(auto, unfolding(crate::specs::Output::outputFits))]
+    #[tactic(auto, unfolding(crate::specs::Output::output_fits))]
     pub fn fits(self, chunk: u32) -> bool
-        ensures { result ≡ outputFits chunk self }
+        ensures { result ≡ output_fits chunk self }
     {
         (self.queued <= chunk) & ring_fits(self.start as usize, chunk as usize)
     }

@@ -1,16 +1,16 @@
 // The outputs side by side, in the order of Stream::ALL: that of one stream, and what is asked of every one.
 ghost use Rattle.std.specs.Prelude.{◌≡◌, cond};
-ghost use Rattle.output.specs.Output.{graceEnded, givenUp, abandoned};
+ghost use Rattle.output.specs.Output.{grace_ended, given_up, abandoned};
 ghost use Rattle.output.specs.Outputs.{
-  outputIn,
-  putOutput,
-  eachOutput,
-  allClosed,
-  anyHeld,
-  allDelivered,
-  queuedOf,
-  outputsFit,
-  outputsWithin,
+  output_in,
+  put_output,
+  each_output,
+  all_closed,
+  any_held,
+  all_delivered,
+  queued_of,
+  outputs_fit,
+  outputs_within,
 };
 
 use crate::Output;
@@ -27,7 +27,7 @@ fn one_of(first: bool, a: Output, b: Output) -> Output
 }
 
 pub fn output_in(stream: Stream, outputs: [Output; 2]) -> Output
-    ensures { result ≡ outputIn stream outputs }
+    ensures { result ≡ output_in stream outputs }
 {
     let stdout = outputs[0];
     let stderr = outputs[1];
@@ -35,7 +35,7 @@ pub fn output_in(stream: Stream, outputs: [Output; 2]) -> Output
 }
 
 pub fn put_output(stream: Stream, output: Output, outputs: [Output; 2]) -> [Output; 2]
-    ensures { result ≡ putOutput stream output outputs }
+    ensures { result ≡ put_output stream output outputs }
 {
     let stdout = outputs[0];
     let stderr = outputs[1];
@@ -45,7 +45,7 @@ pub fn put_output(stream: Stream, output: Output, outputs: [Output; 2]) -> [Outp
 }
 
 pub fn end_grace_of_each(outputs: [Output; 2]) -> [Output; 2]
-    ensures { result ≡ eachOutput graceEnded outputs }
+    ensures { result ≡ each_output grace_ended outputs }
 {
     let stdout = outputs[0];
     let stderr = outputs[1];
@@ -53,7 +53,7 @@ pub fn end_grace_of_each(outputs: [Output; 2]) -> [Output; 2]
 }
 
 pub fn give_up_each(outputs: [Output; 2]) -> [Output; 2]
-    ensures { result ≡ eachOutput givenUp outputs }
+    ensures { result ≡ each_output given_up outputs }
 {
     let stdout = outputs[0];
     let stderr = outputs[1];
@@ -61,7 +61,7 @@ pub fn give_up_each(outputs: [Output; 2]) -> [Output; 2]
 }
 
 pub fn abandon_each(outputs: [Output; 2]) -> [Output; 2]
-    ensures { result ≡ eachOutput abandoned outputs }
+    ensures { result ≡ each_output abandoned outputs }
 {
     let stdout = outputs[0];
     let stderr = outputs[1];
@@ -69,7 +69,7 @@ pub fn abandon_each(outputs: [Output; 2]) -> [Output; 2]
 }
 
 pub fn all_closed(outputs: [Output; 2]) -> bool
-    ensures { result ≡ allClosed outputs }
+    ensures { result ≡ all_closed outputs }
 {
     let stdout = outputs[0];
     let stderr = outputs[1];
@@ -77,7 +77,7 @@ pub fn all_closed(outputs: [Output; 2]) -> bool
 }
 
 pub fn any_held(outputs: [Output; 2]) -> bool
-    ensures { result ≡ anyHeld outputs }
+    ensures { result ≡ any_held outputs }
 {
     let stdout = outputs[0];
     let stderr = outputs[1];
@@ -85,7 +85,7 @@ pub fn any_held(outputs: [Output; 2]) -> bool
 }
 
 pub fn all_delivered(outputs: [Output; 2], detached: bool) -> bool
-    ensures { result ≡ allDelivered outputs detached }
+    ensures { result ≡ all_delivered outputs detached }
 {
     let stdout = outputs[0];
     let stderr = outputs[1];
@@ -94,7 +94,7 @@ pub fn all_delivered(outputs: [Output; 2], detached: bool) -> bool
 
 // The bytes of output that the runner holds.
 pub fn buffered_of(outputs: [Output; 2]) -> usize
-    ensures { result ≡ queuedOf outputs }
+    ensures { result ≡ queued_of outputs }
 {
     let stdout = outputs[0];
     let stderr = outputs[1];
@@ -103,7 +103,7 @@ pub fn buffered_of(outputs: [Output; 2]) -> usize
 
 // Whether every queue is within its ring.
 pub fn fit(outputs: [Output; 2], chunk: u32) -> bool
-    ensures { result ≡ outputsFit chunk outputs }
+    ensures { result ≡ outputs_fit chunk outputs }
 {
     let stdout = outputs[0];
     let stderr = outputs[1];
@@ -112,7 +112,7 @@ pub fn fit(outputs: [Output; 2], chunk: u32) -> bool
 
 // The same, for a chunk that is not 0.
 pub fn within(outputs: [Output; 2], chunk: u32) -> bool
-    ensures { result ≡ outputsWithin chunk outputs }
+    ensures { result ≡ outputs_within chunk outputs }
 {
     let stdout = outputs[0];
     let stderr = outputs[1];

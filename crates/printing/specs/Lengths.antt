@@ -5,29 +5,29 @@ use Rattle.std.proofs.Math.Decide.{dec_lt}
 use Rattle.std.specs.Int.{w32}
 use Rattle.ring.specs.Runs.{copied}
 use Rattle.printing.specs.Written.{Wrote, wrote, same_text}
-use Rattle.decimal.specs.Decimal.{signedOf}
+use Rattle.decimal.specs.Decimal.{signed_of}
 use Rattle.decimal.specs.DecimalLaws.{count_most}
 
-pub signed-most : (z : ℤ) → SFits w32 z → length (signedOf z) ≤ 12
-unfolding signedOf
-signed-most (pos n) f =
+pub signed_most : (z : ℤ) → SFits w32 z → length (signed_of z) ≤ 12
+unfolding signed_of
+signed_most (pos n) f =
     let l : n < 2147483648 = f.sfits in
     omega (arith, count_most 9 n (omega arith))
-signed-most (negsuc n) f =
+signed_most (negsuc n) f =
     let l : n < 2147483648 = f.sfits in
     omega (arith, count_most 9 (suc n) (omega arith))
 
-pub take-fewer : (k n : ℕ) (s : List ℕ) → k ≡ min n (length s) → take k s ≡ take n s
-take-fewer k n s h =
+pub take_fewer : (k n : ℕ) (s : List ℕ) → k ≡ min n (length s) → take k s ≡ take n s
+take_fewer k n s h =
     elim (dec_lt (length s) n) [
       | yes l ↦ take_all k s (omega arith) ∙ sym (take_all n s (omega arith))
       | no l ↦ let e : k ≡ n = omega arith in ap (λ (x : ℕ). take x s) e
     ]
 
 -- z written as y, which it is
-pub wrote-signed : {out then : List ℕ} {at to : ℕ} (y z : ℤ) → y ≡ z → SFits w32 z → then ≡ copied out at (signedOf y) 0 (length (signedOf y))
-    → to ≡ at + length (signedOf y) → at + 12 ≤ length out → Wrote 12 out then at to (signedOf z)
-wrote-signed {out} y z e f h g r =
-    let l = signed-most z f in
-    let k = ap (λ (x : ℤ). length (signedOf x)) e in
-    same_text (ap signedOf e) (wrote (signedOf y) h g (omega arith) (omega arith))
+pub wrote_signed : {out then : List ℕ} {at to : ℕ} (y z : ℤ) → y ≡ z → SFits w32 z → then ≡ copied out at (signed_of y) 0 (length (signed_of y))
+    → to ≡ at + length (signed_of y) → at + 12 ≤ length out → Wrote 12 out then at to (signed_of z)
+wrote_signed {out} y z e f h g r =
+    let l = signed_most z f in
+    let k = ap (λ (x : ℤ). length (signed_of x)) e in
+    same_text (ap signed_of e) (wrote (signed_of y) h g (omega arith) (omega arith))

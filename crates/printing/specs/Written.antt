@@ -1,8 +1,8 @@
 -- A text written into a lent area from an index on, and texts written one behind the other.
 use Rattle.std.specs.Prelude.{◌≡◌, refl, List, ◌++◌, ℕ, ◌+◌, ◌≤◌, length}
 use Rattle.std.proofs.Common.{sym, ap, ◌∙◌, append_assoc, arith, length-append}
-use Rattle.ring.specs.Runs.{copied, copied-length}
-use Rattle.ring.specs.Lent.{copied-join}
+use Rattle.ring.specs.Runs.{copied, copied_length}
+use Rattle.ring.specs.Lent.{copied_join}
 
 -- `out` became `then` by the text, which has at most `most` bytes and stands from index `at` to before index `to`, all of it
 -- within `out`. (`size` follows: it stands here for omega to read.)
@@ -21,7 +21,7 @@ wrote {out} {at} text h e s r = record {
   ends = e;
   short = s;
   room = omega arith;
-  size = ap length h ∙ copied-length out at text 0 (length text) r (omega arith);
+  size = ap length h ∙ copied_length out at text 0 (length text) r (omega arith);
 }
 
 -- TWO TEXTS, ONE BEHIND THE OTHER, ARE ONE
@@ -34,7 +34,7 @@ joined {out} {at} {m} {s} {t} p q =
           q.holds
           ∙ ap (λ (x : List ℕ). copied x m t 0 (length t)) p.holds
           ∙ ap (λ (x : ℕ). copied (copied out at s 0 (length s)) x t 0 (length t)) p.ends
-          ∙ copied-join out at s t (length s) (length t) refl refl (omega arith)
+          ∙ copied_join out at s t (length s) (length t) refl refl (omega arith)
           ∙ ap (copied out at (s ++ t) 0) (sym l);
       ends = omega arith;
       short = omega arith;
@@ -51,12 +51,12 @@ pub same_text : {most : ℕ} {out then : List ℕ} {at to : ℕ} {s t : List ℕ
 same_text e w = rw e at w
 
 -- where the second text was written at once and is told in its parts
-pub joined-two : {a b : ℕ} {out mid then : List ℕ} {at m to : ℕ} {s : List ℕ} (p q : List ℕ) → Wrote a out mid at m s
+pub joined_two : {a b : ℕ} {out mid then : List ℕ} {at m to : ℕ} {s : List ℕ} (p q : List ℕ) → Wrote a out mid at m s
     → Wrote b mid then m to (p ++ q) → Wrote (a + b) out then at to (s ++ p ++ q)
-joined-two {s} p q v w = same_text (sym (append_assoc s p q)) (joined v w)
+joined_two {s} p q v w = same_text (sym (append_assoc s p q)) (joined v w)
 
-pub joined-four : {a b : ℕ} {out mid then : List ℕ} {at m to : ℕ} {s : List ℕ} (p q r u : List ℕ) → Wrote a out mid at m s
+pub joined_four : {a b : ℕ} {out mid then : List ℕ} {at m to : ℕ} {s : List ℕ} (p q r u : List ℕ) → Wrote a out mid at m s
     → Wrote b mid then m to (p ++ q ++ r ++ u) → Wrote (a + b) out then at to (s ++ p ++ q ++ r ++ u)
-joined-four {s} p q r u v w =
+joined_four {s} p q r u v w =
     let e : s ++ (p ++ q ++ r ++ u) ≡ s ++ p ++ q ++ r ++ u = simp append_assoc in
     same_text e (joined v w)

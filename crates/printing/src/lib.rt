@@ -2,21 +2,21 @@
 #![tactic(auto)]
 
 ghost use Rattle.std.specs.Prelude.{◌≡◌, [], ◌∷◌, ◌++◌, ◌+◌, ◌≤◌, length, take};
-ghost use Rattle.decimal.specs.Decimal.{digitsOf, signedOf};
-ghost use Rattle.hexadecimal.specs.Hexadecimal.{hexOf};
-ghost use Rattle.syntax.specs.Words.{bytes, streamName, causeName};
+ghost use Rattle.decimal.specs.Decimal.{digits_of, signed_of};
+ghost use Rattle.hexadecimal.specs.Hexadecimal.{hex_of};
+ghost use Rattle.syntax.specs.Words.{bytes, stream_name, cause_name};
 ghost use Rattle.syntax.specs.Answers.{
   dash,
   flag,
-  statusText,
-  causeText,
-  failureText,
+  status_text,
+  cause_text,
+  failure_text,
   three,
   word,
   counted,
   filled,
-  outcomeText,
-  timeText,
+  outcome_text,
+  time_text,
 };
 ghost use Rattle.printing.specs.Written.{Wrote};
 
@@ -52,21 +52,21 @@ pub fn wide(n: u32) -> u64
 
 pub fn put_number(n: u64, out: &mut [u8], at: usize) -> usize
     requires { at + 20 ≤ length out.old }
-    ensures { Wrote 20 out.old out.new at result (digitsOf n) }
+    ensures { Wrote 20 out.old out.new at result (digits_of n) }
 {
     decimal::write(n, out, at)
 }
 
 fn put_signed(n: i32, out: &mut [u8], at: usize) -> usize
     requires { at + 21 ≤ length out.old }
-    ensures { Wrote 12 out.old out.new at result (signedOf n) }
+    ensures { Wrote 12 out.old out.new at result (signed_of n) }
 {
     decimal::write_signed(n, out, at)
 }
 
 fn put_hex(bytes: &[u8], out: &mut [u8], at: usize) -> usize
     requires { (length bytes.now ≤ 65536) × (at + 131072 ≤ length out.old) }
-    ensures { Wrote 131072 out.old out.new at result (hexOf bytes.now) }
+    ensures { Wrote 131072 out.old out.new at result (hex_of bytes.now) }
 {
     hexadecimal::write(bytes, out, at)
 }
@@ -85,7 +85,7 @@ fn put_flag(b: bool, out: &mut [u8], at: usize) -> usize
 #[tactic(auto, unfolding(syntax::specs::Words::bytes))]
 fn put_stream(stream: Stream, out: &mut [u8], at: usize) -> usize
     requires { at + 6 ≤ length out.old }
-    ensures { Wrote 6 out.old out.new at result (streamName stream) }
+    ensures { Wrote 6 out.old out.new at result (stream_name stream) }
 {
     match stream {
         Stream::Stdout => put(b"Stdout", out, at),
@@ -96,7 +96,7 @@ fn put_stream(stream: Stream, out: &mut [u8], at: usize) -> usize
 #[tactic(auto, unfolding(syntax::specs::Words::bytes))]
 fn put_cause(cause: Cause, out: &mut [u8], at: usize) -> usize
     requires { at + 12 ≤ length out.old }
-    ensures { Wrote 12 out.old out.new at result (causeName cause) }
+    ensures { Wrote 12 out.old out.new at result (cause_name cause) }
 {
     match cause {
         Cause::Cancelled => put(b"Cancelled", out, at),
@@ -110,7 +110,7 @@ fn put_cause(cause: Cause, out: &mut [u8], at: usize) -> usize
 #[tactic(auto, unfolding(syntax::specs::Words::bytes))]
 fn put_maybe_cause(cause: MaybeCause, out: &mut [u8], at: usize) -> usize
     requires { at + 12 ≤ length out.old }
-    ensures { Wrote 12 out.old out.new at result (causeText cause) }
+    ensures { Wrote 12 out.old out.new at result (cause_text cause) }
 {
     match cause {
         MaybeCause::None => put_byte(45, out, at),
@@ -121,7 +121,7 @@ fn put_maybe_cause(cause: MaybeCause, out: &mut [u8], at: usize) -> usize
 // A letter, and a number behind it.
 fn put_lettered(letter: u8, n: i32, out: &mut [u8], at: usize) -> usize
     requires { at + 22 ≤ length out.old }
-    ensures { Wrote 13 out.old out.new at result ((letter ∷ []) ++ signedOf n) }
+    ensures { Wrote 13 out.old out.new at result ((letter ∷ []) ++ signed_of n) }
 {
     let m = put_byte(letter, out, at);
     put_signed(n, out, m)
@@ -130,7 +130,7 @@ fn put_lettered(letter: u8, n: i32, out: &mut [u8], at: usize) -> usize
 #[tactic(auto, unfolding(syntax::specs::Words::bytes))]
 fn put_status(status: Status, out: &mut [u8], at: usize) -> usize
     requires { at + 22 ≤ length out.old }
-    ensures { Wrote 13 out.old out.new at result (statusText (MaybeStatus.Some status)) }
+    ensures { Wrote 13 out.old out.new at result (status_text (MaybeStatus.Some status)) }
 {
     match status {
         Status::Exited(n) => put_lettered(69, n, out, at),
@@ -141,7 +141,7 @@ fn put_status(status: Status, out: &mut [u8], at: usize) -> usize
 #[tactic(auto, unfolding(syntax::specs::Words::bytes))]
 fn put_maybe_status(status: MaybeStatus, out: &mut [u8], at: usize) -> usize
     requires { at + 22 ≤ length out.old }
-    ensures { Wrote 13 out.old out.new at result (statusText status) }
+    ensures { Wrote 13 out.old out.new at result (status_text status) }
 {
     match status {
         MaybeStatus::None => put_byte(45, out, at),
@@ -151,7 +151,7 @@ fn put_maybe_status(status: MaybeStatus, out: &mut [u8], at: usize) -> usize
 
 fn put_failure(failure: LaunchFailure, out: &mut [u8], at: usize) -> usize
     requires { at + 42 ≤ length out.old }
-    ensures { Wrote 33 out.old out.new at result (failureText (MaybeLaunchFailure.Some failure)) }
+    ensures { Wrote 33 out.old out.new at result (failure_text (MaybeLaunchFailure.Some failure)) }
 {
     let m = put_number(wide(failure.stage), out, at);
     let m2 = put_byte(47, out, m);
@@ -161,7 +161,7 @@ fn put_failure(failure: LaunchFailure, out: &mut [u8], at: usize) -> usize
 #[tactic(auto, unfolding(syntax::specs::Words::bytes))]
 fn put_maybe_failure(failure: MaybeLaunchFailure, out: &mut [u8], at: usize) -> usize
     requires { at + 42 ≤ length out.old }
-    ensures { Wrote 33 out.old out.new at result (failureText failure) }
+    ensures { Wrote 33 out.old out.new at result (failure_text failure) }
 {
     match failure {
         MaybeLaunchFailure::None => put_byte(45, out, at),
@@ -191,7 +191,7 @@ pub fn with_number(name: &[u8], n: u64, out: &mut [u8], at: usize) -> usize
 
 pub fn with_stream(name: &[u8], stream: Stream, out: &mut [u8], at: usize) -> usize
     requires { (length name.now ≤ 12) × (at + 35 ≤ length out.old) }
-    ensures { Wrote 35 out.old out.new at result (three name.now (streamName stream) dash) }
+    ensures { Wrote 35 out.old out.new at result (three name.now (stream_name stream) dash) }
 {
     let m = put(name, out, at);
     let m2 = put_byte(44, out, m);
@@ -201,7 +201,7 @@ pub fn with_stream(name: &[u8], stream: Stream, out: &mut [u8], at: usize) -> us
 
 pub fn with_cause(name: &[u8], cause: Cause, out: &mut [u8], at: usize) -> usize
     requires { (length name.now ≤ 12) × (at + 35 ≤ length out.old) }
-    ensures { Wrote 35 out.old out.new at result (three name.now (causeName cause) dash) }
+    ensures { Wrote 35 out.old out.new at result (three name.now (cause_name cause) dash) }
 {
     let m = put(name, out, at);
     let m2 = put_byte(44, out, m);
@@ -242,7 +242,7 @@ pub fn with_first(name: &[u8], n: usize, work: &[u8], out: &mut [u8], at: usize)
 #[tactic(auto, unfolding(syntax::specs::Words::bytes))]
 pub fn put_output(stream: Stream, n: usize, work: &[u8], out: &mut [u8], at: usize) -> usize
     requires { (length work.now ≤ 65536) × (at + 131106 ≤ length out.old) }
-    ensures { Wrote 131106 out.old out.new at result (filled (streamName stream) (take n work.now)) }
+    ensures { Wrote 131106 out.old out.new at result (filled (stream_name stream) (take n work.now)) }
 {
     match stream {
         Stream::Stdout => with_first(b"Stdout", n, work, out, at),
@@ -255,7 +255,7 @@ pub fn put_output(stream: Stream, n: usize, work: &[u8], out: &mut [u8], at: usi
 fn put_ended(outcome: Outcome, out: &mut [u8], at: usize) -> usize
     requires { at + 60 ≤ length out.old }
     ensures { Wrote 39 out.old out.new at result
-        (word (bytes "Terminal") ++ bytes "," ++ statusText outcome.status ++ bytes "," ++ causeText outcome.cause) }
+        (word (bytes "Terminal") ++ bytes "," ++ status_text outcome.status ++ bytes "," ++ cause_text outcome.cause) }
 {
     let status = outcome.status;
     let cause = outcome.cause;
@@ -278,7 +278,7 @@ fn put_flags(outcome: Outcome, out: &mut [u8], at: usize) -> usize
 
 pub fn put_outcome(outcome: Outcome, out: &mut [u8], at: usize) -> usize
     requires { at + 131106 ≤ length out.old }
-    ensures { Wrote 131106 out.old out.new at result (outcomeText outcome) }
+    ensures { Wrote 131106 out.old out.new at result (outcome_text outcome) }
 {
     let failure = outcome.launch_failure;
     let m = put_ended(outcome, out, at);
@@ -293,7 +293,7 @@ pub fn put_outcome(outcome: Outcome, out: &mut [u8], at: usize) -> usize
 #[tactic(auto, unfolding(syntax::specs::Words::bytes))]
 pub fn put_time(time: Deadline, out: &mut [u8], at: usize) -> usize
     requires { at + 131106 ≤ length out.old }
-    ensures { Wrote 131106 out.old out.new at result (timeText time) }
+    ensures { Wrote 131106 out.old out.new at result (time_text time) }
 {
     match time {
         Deadline::Never => alone(b"none", out, at),

@@ -17,7 +17,7 @@ use Rattle.decimal.specs.declared.MaybeSigned.{MaybeSigned}
 use Rattle.hexadecimal.specs.declared.MaybeLength.{MaybeLength}
 use Rattle.decimal.specs.Decimal.{signed}
 use Rattle.calls.specs.Call.{Call}
-use Rattle.syntax.specs.Meaning.{callIs}
+use Rattle.syntax.specs.Meaning.{call_is}
 use Rattle.reading.specs.declared.words.MaybeFlag.{MaybeFlag}
 use Rattle.reading.specs.declared.words.MaybePool.{MaybePool}
 use Rattle.reading.specs.declared.words.MaybeSettlement.{MaybeSettlement}
@@ -29,79 +29,79 @@ use Rattle.reading.specs.declared.fields.FoundStatus.{FoundStatus}
 use Rattle.reading.specs.declared.fields.FoundLaunch.{FoundLaunch}
 use Rattle.reading.specs.declared.lines.Line.{Line}
 
-abbrev pub streamIs : MaybeStream → Option Stream
-streamIs MaybeStream.None = none
-streamIs (MaybeStream.Some x) = some x
+abbrev pub stream_is : MaybeStream → Option Stream
+stream_is MaybeStream.None = none
+stream_is (MaybeStream.Some x) = some x
 
-abbrev pub poolIs : MaybePool → Option Pool
-poolIs MaybePool.None = none
-poolIs (MaybePool.Some x) = some x
+abbrev pub pool_is : MaybePool → Option Pool
+pool_is MaybePool.None = none
+pool_is (MaybePool.Some x) = some x
 
-abbrev pub causeIs : MaybeCause → Option Cause
-causeIs MaybeCause.None = none
-causeIs (MaybeCause.Some x) = some x
+abbrev pub cause_is : MaybeCause → Option Cause
+cause_is MaybeCause.None = none
+cause_is (MaybeCause.Some x) = some x
 
-abbrev pub settlementIs : MaybeSettlement → Option Settlement
-settlementIs MaybeSettlement.None = none
-settlementIs (MaybeSettlement.Some x) = some x
+abbrev pub settlement_is : MaybeSettlement → Option Settlement
+settlement_is MaybeSettlement.None = none
+settlement_is (MaybeSettlement.Some x) = some x
 
-abbrev pub unitIs : MaybeUnit → Option Units.Unit
-unitIs MaybeUnit.None = none
-unitIs (MaybeUnit.Some x) = some x
+abbrev pub unit_is : MaybeUnit → Option Units.Unit
+unit_is MaybeUnit.None = none
+unit_is (MaybeUnit.Some x) = some x
 
-abbrev pub flagIs : MaybeFlag → Option Bool
-flagIs MaybeFlag.None = none
-flagIs (MaybeFlag.Some x) = some x
+abbrev pub flag_is : MaybeFlag → Option Bool
+flag_is MaybeFlag.None = none
+flag_is (MaybeFlag.Some x) = some x
 
-abbrev pub numberIs : MaybeNumber → Option ℕ
-numberIs MaybeNumber.None = none
-numberIs (MaybeNumber.Some n) = some n
+abbrev pub number_is : MaybeNumber → Option ℕ
+number_is MaybeNumber.None = none
+number_is (MaybeNumber.Some n) = some n
 
-abbrev pub narrowIs : MaybeU32 → Option ℕ
-narrowIs MaybeU32.None = none
-narrowIs (MaybeU32.Some n) = some n
+abbrev pub narrow_is : MaybeU32 → Option ℕ
+narrow_is MaybeU32.None = none
+narrow_is (MaybeU32.Some n) = some n
 
-abbrev pub signedIs : MaybeSigned → Option ℤ
-signedIs MaybeSigned.None = none
-signedIs (MaybeSigned.Some n) = some n
+abbrev pub signed_is : MaybeSigned → Option ℤ
+signed_is MaybeSigned.None = none
+signed_is (MaybeSigned.Some n) = some n
 
-abbrev pub keyIs : MaybeKey → Option Key
-keyIs MaybeKey.None = none
-keyIs (MaybeKey.Some k) = some k
+abbrev pub key_is : MaybeKey → Option Key
+key_is MaybeKey.None = none
+key_is (MaybeKey.Some k) = some k
 
-abbrev pub statusIs : FoundStatus → Option MaybeStatus
-statusIs FoundStatus.None = none
-statusIs (FoundStatus.Some x) = some x
+abbrev pub status_is : FoundStatus → Option MaybeStatus
+status_is FoundStatus.None = none
+status_is (FoundStatus.Some x) = some x
 
-abbrev pub launchIs : FoundLaunch → Option LaunchResult
-launchIs FoundLaunch.None = none
-launchIs (FoundLaunch.Some x) = some x
+abbrev pub launch_is : FoundLaunch → Option LaunchResult
+launch_is FoundLaunch.None = none
+launch_is (FoundLaunch.Some x) = some x
 
 -- bytes that stand at the start of a buffer
-abbrev pub bytesIs : MaybeLength → (work : List ℕ) → Option (List ℕ)
-bytesIs MaybeLength.None work = none
-bytesIs (MaybeLength.Some n) work = some (take n work)
+abbrev pub bytes_is : MaybeLength → (work : List ℕ) → Option (List ℕ)
+bytes_is MaybeLength.None work = none
+bytes_is (MaybeLength.Some n) work = some (take n work)
 
 -- ---- the parts of a status and of a launch result
 
-abbrev pub exitedWith : List ℕ → Option MaybeStatus
-exitedWith field = map (λ n. MaybeStatus.Some (Status.Exited n)) (signed field)
+abbrev pub exited_with : List ℕ → Option MaybeStatus
+exited_with field = map (λ n. MaybeStatus.Some (Status.Exited n)) (signed field)
 
-abbrev pub signaledWith : List ℕ → Option MaybeStatus
-signaledWith field = map (λ n. MaybeStatus.Some (Status.Signaled n)) (signed field)
+abbrev pub signaled_with : List ℕ → Option MaybeStatus
+signaled_with field = map (λ n. MaybeStatus.Some (Status.Signaled n)) (signed field)
 
-abbrev pub failureOf : (stage error : List ℕ) → Option LaunchResult
-failureOf stage error = on (u32 stage) λ n. on (signed error) λ e. some (LaunchResult.Failed (record { stage = n; error = e }))
+abbrev pub failure_of : (stage error : List ℕ) → Option LaunchResult
+failure_of stage error = on (u32 stage) λ n. on (signed error) λ e. some (LaunchResult.Failed (record { stage = n; error = e }))
 
-abbrev pub startedOf : (stage error : List ℕ) → Option LaunchResult
-startedOf stage error = cond (missing stage && missing error) (some LaunchResult.Started) none
+abbrev pub started_of : (stage error : List ℕ) → Option LaunchResult
+started_of stage error = cond (missing stage && missing error) (some LaunchResult.Started) none
 
 -- ---- calls
 
-abbrev pub lineIs : Line → (work : List ℕ) → Option Call
-lineIs Line.None work = none
-lineIs (Line.Call c) work = some (callIs c work)
+abbrev pub line_is : Line → (work : List ℕ) → Option Call
+line_is Line.None work = none
+line_is (Line.Call c) work = some (call_is c work)
 
 -- (where it has no payload, what stands in work does not matter)
 abbrev pub LineIs : Line → Option Call → Type 0
-LineIs r x = (work : List ℕ) → lineIs r work ≡ x
+LineIs r x = (work : List ℕ) → line_is r work ≡ x

@@ -9,18 +9,18 @@ use Rattle.syntax.specs.Lines.{Entry, find, on, calls1}
 use Rattle.calls.specs.Call.{Call}
 
 -- the place of what `named` finds; how many there are where it finds none
-unfoldable pub placeNamed : {A : Type 0} → (A → List ℕ) → List A → (field : List ℕ) → ℕ
-placeNamed name [] field = 0
-placeNamed name (x ∷ xs) field = cond (same field (name x)) 0 (suc (placeNamed name xs field))
+unfoldable pub place_named : {A : Type 0} → (A → List ℕ) → List A → (field : List ℕ) → ℕ
+place_named name [] field = 0
+place_named name (x ∷ xs) field = cond (same field (name x)) 0 (suc (place_named name xs field))
 
-abbrev pub placeAmong : (field : List ℕ) → List (List ℕ) → ℕ
-placeAmong field names = placeNamed (λ t. t) names field
+abbrev pub place_among : (field : List ℕ) → List (List ℕ) → ℕ
+place_among field names = place_named (λ t. t) names field
 
 -- what stands at a place of a list, or else behind the list
-unfoldable pub standsAt : {A : Type 0} → List A → ℕ → Option A → Option A
-standsAt [] k rest = rest
-standsAt (x ∷ xs) zero rest = some x
-standsAt (x ∷ xs) (suc k) rest = standsAt xs k rest
+unfoldable pub stands_at : {A : Type 0} → List A → ℕ → Option A → Option A
+stands_at [] k rest = rest
+stands_at (x ∷ xs) zero rest = some x
+stands_at (x ∷ xs) (suc k) rest = stands_at xs k rest
 
 -- the last arm of a `match` on the place knows that it is none of the first n
 unfoldable pub Beyond : ℕ → ℕ → Type 0
@@ -32,44 +32,44 @@ unfolding Beyond
 beyond r zero h = omega arith
 beyond r (suc n) h = let l = beyond r n h.0 in let e = h.1 in omega arith
 
-stands-rest : {A : Type 0} (xs : List A) (n k : ℕ) (rest : Option A) → n ≤ k → standsAt (take n xs) k rest ≡ rest
-unfolding standsAt
-stands-rest [] zero k rest h = refl
-stands-rest [] (suc n) k rest h = refl
-stands-rest (x ∷ xs) zero k rest h = refl
-stands-rest (x ∷ xs) (suc n) zero rest h = absurd (omega arith)
-stands-rest (x ∷ xs) (suc n) (suc k) rest h = stands-rest xs n k rest (omega arith)
+stands_rest : {A : Type 0} (xs : List A) (n k : ℕ) (rest : Option A) → n ≤ k → stands_at (take n xs) k rest ≡ rest
+unfolding stands_at
+stands_rest [] zero k rest h = refl
+stands_rest [] (suc n) k rest h = refl
+stands_rest (x ∷ xs) zero k rest h = refl
+stands_rest (x ∷ xs) (suc n) zero rest h = absurd (omega arith)
+stands_rest (x ∷ xs) (suc n) (suc k) rest h = stands_rest xs n k rest (omega arith)
 
 -- n names of a table are looked at, and then what is left of it
-named-place : {A : Type 0} (name : A → List ℕ) (xs : List A) (field : List ℕ) (n : ℕ)
-    → standsAt (take n xs) (placeNamed name (take n xs) field) (named name (drop n xs) field) ≡ named name xs field
-unfolding named placeNamed standsAt
-named-place name [] field zero = refl
-named-place name [] field (suc n) = refl
-named-place name (x ∷ xs) field zero = refl
-named-place name (x ∷ xs) field (suc n) = by (same field (name x)) (named-place name xs field n)
+named_place : {A : Type 0} (name : A → List ℕ) (xs : List A) (field : List ℕ) (n : ℕ)
+    → stands_at (take n xs) (place_named name (take n xs) field) (named name (drop n xs) field) ≡ named name xs field
+unfolding named place_named stands_at
+named_place name [] field zero = refl
+named_place name [] field (suc n) = refl
+named_place name (x ∷ xs) field zero = refl
+named_place name (x ∷ xs) field (suc n) = by (same field (name x)) (named_place name xs field n)
   where
-    by : (b : Bool) → standsAt (take n xs) (placeNamed name (take n xs) field) (named name (drop n xs) field) ≡ named name xs field
-        → standsAt (x ∷ take n xs) (cond b 0 (suc (placeNamed name (take n xs) field))) (named name (drop n xs) field) ≡ cond b (some x) (named name xs field)
+    by : (b : Bool) → stands_at (take n xs) (place_named name (take n xs) field) (named name (drop n xs) field) ≡ named name xs field
+        → stands_at (x ∷ take n xs) (cond b 0 (suc (place_named name (take n xs) field))) (named name (drop n xs) field) ≡ cond b (some x) (named name xs field)
     by true h = refl
     by false h = h
 
 module _ {A : Type 0} (name : A → List ℕ) (xs : List A) (field : List ℕ) {r : ℕ} (n : ℕ) where
-  pub named-at : (k : ℕ) → r ≡ placeNamed name (take n xs) field → r ≡ k → standsAt (take n xs) k (named name (drop n xs) field) ≡ named name xs field
-  named-at k p e = ap (λ (i : ℕ). standsAt (take n xs) i (named name (drop n xs) field)) (sym e ∙ p) ∙ named-place name xs field n
+  pub named_at : (k : ℕ) → r ≡ place_named name (take n xs) field → r ≡ k → stands_at (take n xs) k (named name (drop n xs) field) ≡ named name xs field
+  named_at k p e = ap (λ (i : ℕ). stands_at (take n xs) i (named name (drop n xs) field)) (sym e ∙ p) ∙ named_place name xs field n
 
-  named-rest : r ≡ placeNamed name (take n xs) field → Beyond r n → named name (drop n xs) field ≡ named name xs field
-  named-rest p h = sym (stands-rest xs n r (named name (drop n xs) field) (beyond r n h)) ∙ named-at r p refl
+  named_rest : r ≡ place_named name (take n xs) field → Beyond r n → named name (drop n xs) field ≡ named name xs field
+  named_rest p h = sym (stands_rest xs n r (named name (drop n xs) field) (beyond r n h)) ∙ named_at r p refl
 
-  pub named_none : r ≡ placeNamed name (take n xs) field → Beyond r n → drop n xs ≡ [] → none ≡ named name xs field
+  pub named_none : r ≡ place_named name (take n xs) field → Beyond r n → drop n xs ≡ [] → none ≡ named name xs field
   unfolding named
-  named_none p h e = sym (ap (λ (ys : List A). named name ys field) e) ∙ named-rest p h
+  named_none p h e = sym (ap (λ (ys : List A). named name ys field) e) ∙ named_rest p h
 
 -- a table of calls is a table of names
-find-named : {A : Type 0} (field : List ℕ) (es : List (Entry A)) → map (λ e. e.call) (named (λ e. e.name) es field) ≡ find field es
+find_named : {A : Type 0} (field : List ℕ) (es : List (Entry A)) → map (λ e. e.call) (named (λ e. e.name) es field) ≡ find field es
 unfolding find named
-find-named field [] = refl
-find-named field (e ∷ es) = by (same field e.name) (find-named field es)
+find_named field [] = refl
+find_named field (e ∷ es) = by (same field e.name) (find_named field es)
   where
     by : (b : Bool) → map (λ e. e.call) (named (λ e. e.name) es field) ≡ find field es
         → map (λ e. e.call) (cond b (some e) (named (λ e. e.name) es field)) ≡ cond b (some e.call) (find field es)
@@ -77,22 +77,22 @@ find-named field (e ∷ es) = by (same field e.name) (find-named field es)
     by false h = h
 
 module _ {A : Type 0} (field : List ℕ) (es : List (Entry A)) {r : ℕ} (n : ℕ) where
-  pub find_at : (k : ℕ) → r ≡ placeNamed (λ e. e.name) (take n es) field → r ≡ k
-      → map (λ e. e.call) (standsAt (take n es) k (named (λ e. e.name) (drop n es) field)) ≡ find field es
-  find_at k p e = ap (map (λ (e : Entry A). e.call)) (named-at (λ e. e.name) es field n k p e) ∙ find-named field es
+  pub find_at : (k : ℕ) → r ≡ place_named (λ e. e.name) (take n es) field → r ≡ k
+      → map (λ e. e.call) (stands_at (take n es) k (named (λ e. e.name) (drop n es) field)) ≡ find field es
+  find_at k p e = ap (map (λ (e : Entry A). e.call)) (named_at (λ e. e.name) es field n k p e) ∙ find_named field es
 
-  pub find-rest : r ≡ placeNamed (λ e. e.name) (take n es) field → Beyond r n → find field (drop n es) ≡ find field es
-  find-rest p h =
-      sym (find-named field (drop n es)) ∙ ap (map (λ (e : Entry A). e.call)) (named-rest (λ e. e.name) es field n p h) ∙ find-named field es
+  pub find_rest : r ≡ place_named (λ e. e.name) (take n es) field → Beyond r n → find field (drop n es) ≡ find field es
+  find_rest p h =
+      sym (find_named field (drop n es)) ∙ ap (map (λ (e : Entry A). e.call)) (named_rest (λ e. e.name) es field n p h) ∙ find_named field es
 
-  pub find_none : r ≡ placeNamed (λ e. e.name) (take n es) field → Beyond r n → drop n es ≡ [] → none ≡ find field es
+  pub find_none : r ≡ place_named (λ e. e.name) (take n es) field → Beyond r n → drop n es ≡ [] → none ≡ find field es
   unfolding find
-  find_none p h e = sym (ap (λ (ys : List (Entry A)). find field ys) e) ∙ find-rest p h
+  find_none p h e = sym (ap (λ (ys : List (Entry A)). find field ys) e) ∙ find_rest p h
 
 -- a call with one argument, by what is left of its table
-unfoldable pub call1From : ℕ → (name a : List ℕ) → Option Call
-call1From n name a = on (find name (drop n calls1)) λ f. f a
+unfoldable pub call1_from : ℕ → (name a : List ℕ) → Option Call
+call1_from n name a = on (find name (drop n calls1)) λ f. f a
 
-pub made1 : (n : ℕ) (name a : List ℕ) (o : Option (List ℕ → Option Call)) → o ≡ find name (drop n calls1) → on o (λ f. f a) ≡ call1From n name a
-unfolding call1From
+pub made1 : (n : ℕ) (name a : List ℕ) (o : Option (List ℕ → Option Call)) → o ≡ find name (drop n calls1) → on o (λ f. f a) ≡ call1_from n name a
+unfolding call1_from
 made1 n name a o h = ap (λ (o : Option (List ℕ → Option Call)). on o λ f. f a) h

@@ -3,8 +3,8 @@ ghost use Rattle.std.specs.Prelude.{◌≡◌, ◌≤◌, ◌/◌, length};
 ghost use Rattle.decimal.specs.Answers.{AtMost};
 ghost use Rattle.decimal.specs.Decimal.{signed};
 ghost use Rattle.hexadecimal.specs.Hexadecimal.{unhex};
-ghost use Rattle.syntax.specs.Lines.{u64, u32, messageLength, keyOf, status, launchResult};
-ghost use Rattle.reading.specs.Meaning.{numberIs, narrowIs, signedIs, keyIs, statusIs, launchIs, bytesIs, exitedWith, signaledWith, failureOf, startedOf};
+ghost use Rattle.syntax.specs.Lines.{u64, u32, message_length, key_of, status, launch_result};
+ghost use Rattle.reading.specs.Meaning.{number_is, narrow_is, signed_is, key_is, status_is, launch_is, bytes_is, exited_with, signaled_with, failure_of, started_of};
 
 use crate::words::{MaybeFlag, flag, missing};
 use decimal::{MaybeNumber, MaybeSigned};
@@ -14,7 +14,7 @@ use hexadecimal::MaybeLength;
 // ---- numbers
 
 pub fn wide(field: &[u8]) -> MaybeNumber
-    ensures { numberIs result ≡ u64 field.now }
+    ensures { number_is result ≡ u64 field.now }
 {
     decimal::read(field, 18446744073709551615)
 }
@@ -27,7 +27,7 @@ pub enum MaybeU32 {
 
 fn narrowed(n: MaybeNumber) -> MaybeU32
     requires { AtMost 4294967295 n }
-    ensures { narrowIs result ≡ numberIs n }
+    ensures { narrow_is result ≡ number_is n }
 {
     match n {
         MaybeNumber::None => MaybeU32::None,
@@ -36,20 +36,20 @@ fn narrowed(n: MaybeNumber) -> MaybeU32
 }
 
 pub fn narrow(field: &[u8]) -> MaybeU32
-    ensures { narrowIs result ≡ u32 field.now }
+    ensures { narrow_is result ≡ u32 field.now }
 {
     narrowed(decimal::read(field, 4294967295))
 }
 
 pub(crate) fn message_length(field: &[u8]) -> MaybeNumber
-    ensures value { numberIs result ≡ messageLength field.now }
+    ensures value { number_is result ≡ message_length field.now }
     ensures at_most { AtMost 16384 result }
 {
     decimal::read(field, 16384)
 }
 
 pub(crate) fn integer(field: &[u8]) -> MaybeSigned
-    ensures { signedIs result ≡ signed field.now }
+    ensures { signed_is result ≡ signed field.now }
 {
     decimal::read_signed(field)
 }
@@ -63,7 +63,7 @@ pub enum MaybeKey {
 }
 
 pub(crate) fn key(id: &[u8], generation: &[u8]) -> MaybeKey
-    ensures { keyIs result ≡ keyOf id.now generation.now }
+    ensures { key_is result ≡ key_of id.now generation.now }
 {
     let MaybeNumber::Some(i) = wide(id) else {
         return MaybeKey::None;
@@ -84,7 +84,7 @@ pub enum FoundStatus {
 }
 
 fn exited_with(field: &[u8]) -> FoundStatus
-    ensures { statusIs result ≡ exitedWith field.now }
+    ensures { status_is result ≡ exited_with field.now }
 {
     let MaybeSigned::Some(n) = integer(field) else {
         return FoundStatus::None;
@@ -93,7 +93,7 @@ fn exited_with(field: &[u8]) -> FoundStatus
 }
 
 fn signaled_with(field: &[u8]) -> FoundStatus
-    ensures { statusIs result ≡ signaledWith field.now }
+    ensures { status_is result ≡ signaled_with field.now }
 {
     let MaybeSigned::Some(n) = integer(field) else {
         return FoundStatus::None;
@@ -104,7 +104,7 @@ fn signaled_with(field: &[u8]) -> FoundStatus
 // (The field has a first byte.)
 fn status_by(field: &[u8]) -> FoundStatus
     requires { 1 ≤ length field.now }
-    ensures { statusIs result ≡ status field.now }
+    ensures { status_is result ≡ status field.now }
 {
     if missing(field) {
         return FoundStatus::Some(MaybeStatus::None);
@@ -120,7 +120,7 @@ fn status_by(field: &[u8]) -> FoundStatus
 }
 
 pub(crate) fn status(field: &[u8]) -> FoundStatus
-    ensures { statusIs result ≡ status field.now }
+    ensures { status_is result ≡ status field.now }
 {
     if field.len() == 0 {
         return FoundStatus::None;
@@ -137,7 +137,7 @@ pub enum FoundLaunch {
 }
 
 fn failure(stage: &[u8], error: &[u8]) -> FoundLaunch
-    ensures { launchIs result ≡ failureOf stage.now error.now }
+    ensures { launch_is result ≡ failure_of stage.now error.now }
 {
     let MaybeU32::Some(n) = narrow(stage) else {
         return FoundLaunch::None;
@@ -149,7 +149,7 @@ fn failure(stage: &[u8], error: &[u8]) -> FoundLaunch
 }
 
 fn started(stage: &[u8], error: &[u8]) -> FoundLaunch
-    ensures { launchIs result ≡ startedOf stage.now error.now }
+    ensures { launch_is result ≡ started_of stage.now error.now }
 {
     if missing(stage) & missing(error) {
         return FoundLaunch::Some(LaunchResult::Started);
@@ -157,9 +157,9 @@ fn started(stage: &[u8], error: &[u8]) -> FoundLaunch
     FoundLaunch::None
 }
 
-#[tactic(auto, unfolding(syntax::specs::Lines::launchResult))]
+#[tactic(auto, unfolding(syntax::specs::Lines::launch_result))]
 pub(crate) fn launch_result(ok: &[u8], stage: &[u8], error: &[u8]) -> FoundLaunch
-    ensures { launchIs result ≡ launchResult ok.now stage.now error.now }
+    ensures { launch_is result ≡ launch_result ok.now stage.now error.now }
 {
     let MaybeFlag::Some(failed) = flag(ok) else {
         return FoundLaunch::None;
@@ -174,7 +174,7 @@ pub(crate) fn launch_result(ok: &[u8], stage: &[u8], error: &[u8]) -> FoundLaunc
 
 pub(crate) fn bytes(field: &[u8], work: &mut [u8]) -> MaybeLength
     requires { length field.now / 2 ≤ length work.old }
-    ensures { bytesIs result work.new ≡ unhex field.now }
+    ensures { bytes_is result work.new ≡ unhex field.now }
 {
     hexadecimal::read(field, work)
 }

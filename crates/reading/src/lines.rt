@@ -1,10 +1,10 @@
 // A line as a call: the method's name, and its arguments as in the Rust, a key as two fields. The bytes of a payload are left
 // at the start of `work`.
 ghost use Rattle.std.specs.Prelude.{◌≡◌, [], ◌∷◌, ◌≤◌, ◌/◌, length, drop};
-ghost use Rattle.syntax.specs.Lines.{fields, find, plainCalls, readAllowanceOf, outputClosedOf, outputFailedOf, outputHungUpOf, inputWrittenOf, settledOf, droppedOf, resetOf, disconnectOf, tickOf, messageOf, endInputOf, outputOf, discardedOf, exitedOf, launchedOf, inputOf, creditOf, cancelOf, callOf, lineCall};
-ghost use Rattle.reading.specs.Meaning.{lineIs, LineIs};
-ghost use Rattle.reading.specs.Naming.{call1From};
-ghost use Rattle.reading.specs.FieldLaws.{commaAt};
+ghost use Rattle.syntax.specs.Lines.{fields, find, plain_calls, read_allowance_of, output_closed_of, output_failed_of, output_hung_up_of, input_written_of, settled_of, dropped_of, reset_of, disconnect_of, tick_of, message_of, end_input_of, output_of, discarded_of, exited_of, launched_of, input_of, credit_of, cancel_of, call_of, line_call};
+ghost use Rattle.reading.specs.Meaning.{line_is, LineIs};
+ghost use Rattle.reading.specs.Naming.{call1_from};
+ghost use Rattle.reading.specs.FieldLaws.{comma_at};
 
 use crate::fields::{FoundLaunch, FoundStatus, MaybeKey, MaybeU32};
 use crate::words::{MaybePool, MaybeSettlement, MaybeStream, place2, place4, place5};
@@ -23,9 +23,9 @@ pub enum Line {
 
 // ---- with no argument
 
-#[tactic(auto, unfolding(syntax::specs::Words::bytes, syntax::specs::Lines::find, crate::specs::Naming::placeNamed))]
+#[tactic(auto, unfolding(syntax::specs::Words::bytes, syntax::specs::Lines::find, crate::specs::Naming::place_named))]
 fn plain(name: &[u8]) -> Line
-    ensures { LineIs result (find name.now plainCalls) }
+    ensures { LineIs result (find name.now plain_calls) }
 {
     let n = place5(
         name,
@@ -46,9 +46,9 @@ fn plain(name: &[u8]) -> Line
 }
 
 // (A table of more than five names is read in parts.)
-#[tactic(auto, unfolding(syntax::specs::Words::bytes, syntax::specs::Lines::find, crate::specs::Naming::placeNamed))]
+#[tactic(auto, unfolding(syntax::specs::Words::bytes, syntax::specs::Lines::find, crate::specs::Naming::place_named))]
 fn plain_from_5(name: &[u8]) -> Line
-    ensures { LineIs result (find name.now (drop 5 plainCalls)) }
+    ensures { LineIs result (find name.now (drop 5 plain_calls)) }
 {
     let n = place5(
         name,
@@ -71,7 +71,7 @@ fn plain_from_5(name: &[u8]) -> Line
 // ---- with one
 
 fn read_allowance(a: &[u8]) -> Line
-    ensures { LineIs result (readAllowanceOf a.now) }
+    ensures { LineIs result (read_allowance_of a.now) }
 {
     let MaybeStream::Some(x) = words::stream(a) else {
         return Line::None;
@@ -80,7 +80,7 @@ fn read_allowance(a: &[u8]) -> Line
 }
 
 fn output_closed(a: &[u8]) -> Line
-    ensures { LineIs result (outputClosedOf a.now) }
+    ensures { LineIs result (output_closed_of a.now) }
 {
     let MaybeStream::Some(x) = words::stream(a) else {
         return Line::None;
@@ -89,7 +89,7 @@ fn output_closed(a: &[u8]) -> Line
 }
 
 fn output_failed(a: &[u8]) -> Line
-    ensures { LineIs result (outputFailedOf a.now) }
+    ensures { LineIs result (output_failed_of a.now) }
 {
     let MaybeStream::Some(x) = words::stream(a) else {
         return Line::None;
@@ -98,7 +98,7 @@ fn output_failed(a: &[u8]) -> Line
 }
 
 fn output_hung_up(a: &[u8]) -> Line
-    ensures { LineIs result (outputHungUpOf a.now) }
+    ensures { LineIs result (output_hung_up_of a.now) }
 {
     let MaybeStream::Some(x) = words::stream(a) else {
         return Line::None;
@@ -107,7 +107,7 @@ fn output_hung_up(a: &[u8]) -> Line
 }
 
 fn input_written(a: &[u8]) -> Line
-    ensures { LineIs result (inputWrittenOf a.now) }
+    ensures { LineIs result (input_written_of a.now) }
 {
     let MaybeNumber::Some(n) = fields::wide(a) else {
         return Line::None;
@@ -116,7 +116,7 @@ fn input_written(a: &[u8]) -> Line
 }
 
 fn settled(a: &[u8]) -> Line
-    ensures { LineIs result (settledOf a.now) }
+    ensures { LineIs result (settled_of a.now) }
 {
     let MaybeSettlement::Some(x) = words::settlement(a) else {
         return Line::None;
@@ -125,7 +125,7 @@ fn settled(a: &[u8]) -> Line
 }
 
 fn dropped(a: &[u8]) -> Line
-    ensures { LineIs result (droppedOf a.now) }
+    ensures { LineIs result (dropped_of a.now) }
 {
     let MaybeNumber::Some(now) = fields::wide(a) else {
         return Line::None;
@@ -134,7 +134,7 @@ fn dropped(a: &[u8]) -> Line
 }
 
 fn reset(a: &[u8]) -> Line
-    ensures { LineIs result (resetOf a.now) }
+    ensures { LineIs result (reset_of a.now) }
 {
     let MaybeNumber::Some(now) = fields::wide(a) else {
         return Line::None;
@@ -143,7 +143,7 @@ fn reset(a: &[u8]) -> Line
 }
 
 fn disconnect(a: &[u8]) -> Line
-    ensures { LineIs result (disconnectOf a.now) }
+    ensures { LineIs result (disconnect_of a.now) }
 {
     let MaybeNumber::Some(now) = fields::wide(a) else {
         return Line::None;
@@ -152,7 +152,7 @@ fn disconnect(a: &[u8]) -> Line
 }
 
 fn tick(a: &[u8]) -> Line
-    ensures { LineIs result (tickOf a.now) }
+    ensures { LineIs result (tick_of a.now) }
 {
     let MaybeNumber::Some(now) = fields::wide(a) else {
         return Line::None;
@@ -161,7 +161,7 @@ fn tick(a: &[u8]) -> Line
 }
 
 fn message(a: &[u8]) -> Line
-    ensures { LineIs result (messageOf a.now) }
+    ensures { LineIs result (message_of a.now) }
 {
     let MaybeNumber::Some(n) = fields::message_length(a) else {
         return Line::None;
@@ -169,9 +169,9 @@ fn message(a: &[u8]) -> Line
     Line::Call(Call::NextMessage(n as u16))
 }
 
-#[tactic(auto, unfolding(syntax::specs::Words::bytes, syntax::specs::Lines::find, crate::specs::Naming::placeNamed, syntax::specs::Lines::callOf, crate::specs::Naming::call1From))]
+#[tactic(auto, unfolding(syntax::specs::Words::bytes, syntax::specs::Lines::find, crate::specs::Naming::place_named, syntax::specs::Lines::call_of, crate::specs::Naming::call1_from))]
 fn call1(name: &[u8], a: &[u8]) -> Line
-    ensures { LineIs result (callOf (name.now ∷ a.now ∷ [])) }
+    ensures { LineIs result (call_of (name.now ∷ a.now ∷ [])) }
 {
     let n = place4(
         name,
@@ -189,9 +189,9 @@ fn call1(name: &[u8], a: &[u8]) -> Line
     }
 }
 
-#[tactic(auto, unfolding(syntax::specs::Words::bytes, syntax::specs::Lines::find, crate::specs::Naming::placeNamed, crate::specs::Naming::call1From))]
+#[tactic(auto, unfolding(syntax::specs::Words::bytes, syntax::specs::Lines::find, crate::specs::Naming::place_named, crate::specs::Naming::call1_from))]
 fn call1_from_4(name: &[u8], a: &[u8]) -> Line
-    ensures { LineIs result (call1From 4 name.now a.now) }
+    ensures { LineIs result (call1_from 4 name.now a.now) }
 {
     let n = place5(
         name,
@@ -211,9 +211,9 @@ fn call1_from_4(name: &[u8], a: &[u8]) -> Line
     }
 }
 
-#[tactic(auto, unfolding(syntax::specs::Words::bytes, syntax::specs::Lines::find, crate::specs::Naming::placeNamed, crate::specs::Naming::call1From))]
+#[tactic(auto, unfolding(syntax::specs::Words::bytes, syntax::specs::Lines::find, crate::specs::Naming::place_named, crate::specs::Naming::call1_from))]
 fn call1_from_9(name: &[u8], a: &[u8]) -> Line
-    ensures { LineIs result (call1From 9 name.now a.now) }
+    ensures { LineIs result (call1_from 9 name.now a.now) }
 {
     let n = place2(name, b"tick", b"message");
     match n {
@@ -226,7 +226,7 @@ fn call1_from_9(name: &[u8], a: &[u8]) -> Line
 // ---- with two
 
 fn end_input(a: &[u8], b: &[u8]) -> Line
-    ensures { LineIs result (endInputOf a.now b.now) }
+    ensures { LineIs result (end_input_of a.now b.now) }
 {
     let MaybeKey::Some(key) = fields::key(a, b) else {
         return Line::None;
@@ -236,7 +236,7 @@ fn end_input(a: &[u8], b: &[u8]) -> Line
 
 fn output(a: &[u8], b: &[u8], work: &mut [u8]) -> Line
     requires { length b.now / 2 ≤ length work.old }
-    ensures { lineIs result work.new ≡ outputOf a.now b.now }
+    ensures { line_is result work.new ≡ output_of a.now b.now }
 {
     let MaybeStream::Some(x) = words::stream(a) else {
         return Line::None;
@@ -248,7 +248,7 @@ fn output(a: &[u8], b: &[u8], work: &mut [u8]) -> Line
 }
 
 fn discarded(a: &[u8], b: &[u8]) -> Line
-    ensures { LineIs result (discardedOf a.now b.now) }
+    ensures { LineIs result (discarded_of a.now b.now) }
 {
     let MaybeStream::Some(x) = words::stream(a) else {
         return Line::None;
@@ -260,7 +260,7 @@ fn discarded(a: &[u8], b: &[u8]) -> Line
 }
 
 fn exited(a: &[u8], b: &[u8]) -> Line
-    ensures { LineIs result (exitedOf a.now b.now) }
+    ensures { LineIs result (exited_of a.now b.now) }
 {
     let MaybeNumber::Some(now) = fields::wide(a) else {
         return Line::None;
@@ -271,10 +271,10 @@ fn exited(a: &[u8], b: &[u8]) -> Line
     Line::Call(Call::At(now, Timed::Exited(x)))
 }
 
-#[tactic(auto, unfolding(syntax::specs::Lines::callOf, syntax::specs::Words::bytes, syntax::specs::Lines::find, crate::specs::Naming::placeNamed))]
+#[tactic(auto, unfolding(syntax::specs::Lines::call_of, syntax::specs::Words::bytes, syntax::specs::Lines::find, crate::specs::Naming::place_named))]
 fn call2(name: &[u8], a: &[u8], b: &[u8], work: &mut [u8]) -> Line
     requires { length b.now / 2 ≤ length work.old }
-    ensures { lineIs result work.new ≡ callOf (name.now ∷ a.now ∷ b.now ∷ []) }
+    ensures { line_is result work.new ≡ call_of (name.now ∷ a.now ∷ b.now ∷ []) }
 {
     let n = place4(name, b"end_input", b"output", b"discarded", b"exited");
     match n {
@@ -289,7 +289,7 @@ fn call2(name: &[u8], a: &[u8], b: &[u8], work: &mut [u8]) -> Line
 // ---- with three
 
 fn launched(a: &[u8], b: &[u8], c: &[u8]) -> Line
-    ensures { LineIs result (launchedOf a.now b.now c.now) }
+    ensures { LineIs result (launched_of a.now b.now c.now) }
 {
     let FoundLaunch::Some(x) = fields::launch_result(a, b, c) else {
         return Line::None;
@@ -299,7 +299,7 @@ fn launched(a: &[u8], b: &[u8], c: &[u8]) -> Line
 
 fn input(a: &[u8], b: &[u8], c: &[u8], work: &mut [u8]) -> Line
     requires { length c.now / 2 ≤ length work.old }
-    ensures { lineIs result work.new ≡ inputOf a.now b.now c.now }
+    ensures { line_is result work.new ≡ input_of a.now b.now c.now }
 {
     let MaybeKey::Some(key) = fields::key(a, b) else {
         return Line::None;
@@ -310,10 +310,10 @@ fn input(a: &[u8], b: &[u8], c: &[u8], work: &mut [u8]) -> Line
     Line::Call(Call::Input(key, n))
 }
 
-#[tactic(auto, unfolding(syntax::specs::Lines::callOf, syntax::specs::Words::bytes, syntax::specs::Lines::find, crate::specs::Naming::placeNamed))]
+#[tactic(auto, unfolding(syntax::specs::Lines::call_of, syntax::specs::Words::bytes, syntax::specs::Lines::find, crate::specs::Naming::place_named))]
 fn call3(name: &[u8], a: &[u8], b: &[u8], c: &[u8], work: &mut [u8]) -> Line
     requires { length c.now / 2 ≤ length work.old }
-    ensures { lineIs result work.new ≡ callOf (name.now ∷ a.now ∷ b.now ∷ c.now ∷ []) }
+    ensures { line_is result work.new ≡ call_of (name.now ∷ a.now ∷ b.now ∷ c.now ∷ []) }
 {
     let n = place2(name, b"launched", b"input");
     match n {
@@ -326,7 +326,7 @@ fn call3(name: &[u8], a: &[u8], b: &[u8], c: &[u8], work: &mut [u8]) -> Line
 // ---- with four
 
 fn credit(a: &[u8], b: &[u8], c: &[u8], d: &[u8]) -> Line
-    ensures { LineIs result (creditOf a.now b.now c.now d.now) }
+    ensures { LineIs result (credit_of a.now b.now c.now d.now) }
 {
     let MaybeKey::Some(key) = fields::key(a, b) else {
         return Line::None;
@@ -341,7 +341,7 @@ fn credit(a: &[u8], b: &[u8], c: &[u8], d: &[u8]) -> Line
 }
 
 fn cancel(a: &[u8], b: &[u8], c: &[u8], d: &[u8]) -> Line
-    ensures { LineIs result (cancelOf a.now b.now c.now d.now) }
+    ensures { LineIs result (cancel_of a.now b.now c.now d.now) }
 {
     let MaybeNumber::Some(now) = fields::wide(a) else {
         return Line::None;
@@ -355,9 +355,9 @@ fn cancel(a: &[u8], b: &[u8], c: &[u8], d: &[u8]) -> Line
     Line::Call(Call::At(now, Timed::Cancel(key, x)))
 }
 
-#[tactic(auto, unfolding(syntax::specs::Lines::callOf, syntax::specs::Words::bytes, syntax::specs::Lines::find, crate::specs::Naming::placeNamed))]
+#[tactic(auto, unfolding(syntax::specs::Lines::call_of, syntax::specs::Words::bytes, syntax::specs::Lines::find, crate::specs::Naming::place_named))]
 fn call4(name: &[u8], a: &[u8], b: &[u8], c: &[u8], d: &[u8]) -> Line
-    ensures { LineIs result (callOf (name.now ∷ a.now ∷ b.now ∷ c.now ∷ d.now ∷ [])) }
+    ensures { LineIs result (call_of (name.now ∷ a.now ∷ b.now ∷ c.now ∷ d.now ∷ [])) }
 {
     let n = place2(name, b"credit", b"cancel");
     match n {
@@ -371,13 +371,13 @@ fn call4(name: &[u8], a: &[u8], b: &[u8], c: &[u8], d: &[u8]) -> Line
 
 // The index of the first comma, or the length where there is none.
 pub fn comma(text: &[u8]) -> usize
-    ensures { (result ≡ commaAt text.now) × (result ≤ length text.now) }
+    ensures { (result ≡ comma_at text.now) × (result ≤ length text.now) }
 {
     search::find(text, b',')
 }
 
 fn after4(name: &[u8], a: &[u8], b: &[u8], c: &[u8], rest: &[u8]) -> Line
-    ensures { LineIs result (callOf (name.now ∷ a.now ∷ b.now ∷ c.now ∷ fields rest.now)) }
+    ensures { LineIs result (call_of (name.now ∷ a.now ∷ b.now ∷ c.now ∷ fields rest.now)) }
 {
     if comma(rest) == rest.len() {
         return call4(name, a, b, c, rest);
@@ -387,7 +387,7 @@ fn after4(name: &[u8], a: &[u8], b: &[u8], c: &[u8], rest: &[u8]) -> Line
 
 fn after3(name: &[u8], a: &[u8], b: &[u8], rest: &[u8], work: &mut [u8]) -> Line
     requires { length rest.now / 2 ≤ length work.old }
-    ensures { lineIs result work.new ≡ callOf (name.now ∷ a.now ∷ b.now ∷ fields rest.now) }
+    ensures { line_is result work.new ≡ call_of (name.now ∷ a.now ∷ b.now ∷ fields rest.now) }
 {
     let n = rest.len();
     let at = comma(rest);
@@ -400,7 +400,7 @@ fn after3(name: &[u8], a: &[u8], b: &[u8], rest: &[u8], work: &mut [u8]) -> Line
 
 fn after2(name: &[u8], a: &[u8], rest: &[u8], work: &mut [u8]) -> Line
     requires { length rest.now / 2 ≤ length work.old }
-    ensures { lineIs result work.new ≡ callOf (name.now ∷ a.now ∷ fields rest.now) }
+    ensures { line_is result work.new ≡ call_of (name.now ∷ a.now ∷ fields rest.now) }
 {
     let n = rest.len();
     let at = comma(rest);
@@ -413,7 +413,7 @@ fn after2(name: &[u8], a: &[u8], rest: &[u8], work: &mut [u8]) -> Line
 
 fn after1(name: &[u8], rest: &[u8], work: &mut [u8]) -> Line
     requires { length rest.now / 2 ≤ length work.old }
-    ensures { lineIs result work.new ≡ callOf (name.now ∷ fields rest.now) }
+    ensures { line_is result work.new ≡ call_of (name.now ∷ fields rest.now) }
 {
     let n = rest.len();
     let at = comma(rest);
@@ -425,10 +425,10 @@ fn after1(name: &[u8], rest: &[u8], work: &mut [u8]) -> Line
 }
 
 // The call of a line.
-#[tactic(auto, unfolding(syntax::specs::Lines::callOf))]
+#[tactic(auto, unfolding(syntax::specs::Lines::call_of))]
 pub fn call_of(line: &[u8], work: &mut [u8]) -> Line
     requires { length line.now / 2 ≤ length work.old }
-    ensures { lineIs result work.new ≡ lineCall line.now }
+    ensures { line_is result work.new ≡ line_call line.now }
 {
     let n = line.len();
     let at = comma(line);

@@ -2,8 +2,8 @@
 ghost use Rattle.std.specs.Prelude.{◌≡◌, [], ◌∷◌};
 ghost use Rattle.syntax.specs.Words.{stream, pool, cause, settlement, unit};
 ghost use Rattle.syntax.specs.Lines.{missing, digit};
-ghost use Rattle.reading.specs.Meaning.{streamIs, poolIs, causeIs, settlementIs, unitIs, flagIs};
-ghost use Rattle.reading.specs.Naming.{placeAmong};
+ghost use Rattle.reading.specs.Meaning.{stream_is, pool_is, cause_is, settlement_is, unit_is, flag_is};
+ghost use Rattle.reading.specs.Naming.{place_among};
 
 use exec::{Cause, MaybeCause, Pool, Settlement, Stream, Unit};
 
@@ -40,9 +40,9 @@ pub enum MaybeFlag {
 // ---- the place of a field among names: the first that it is; how many they are where it is none. (Each name is an argument of
 // its own: so the compiler knows its bytes, and a name of another length costs one comparison.)
 
-#[tactic(auto, unfolding(crate::specs::Naming::placeNamed))]
+#[tactic(auto, unfolding(crate::specs::Naming::place_named))]
 pub(crate) fn place2(field: &[u8], a: &[u8], b: &[u8]) -> usize
-    ensures { result ≡ placeAmong field.now (a.now ∷ b.now ∷ []) }
+    ensures { result ≡ place_among field.now (a.now ∷ b.now ∷ []) }
 {
     if octets::same(field, a) {
         return 0;
@@ -53,9 +53,9 @@ pub(crate) fn place2(field: &[u8], a: &[u8], b: &[u8]) -> usize
     2
 }
 
-#[tactic(auto, unfolding(crate::specs::Naming::placeNamed))]
+#[tactic(auto, unfolding(crate::specs::Naming::place_named))]
 pub(crate) fn place4(field: &[u8], a: &[u8], b: &[u8], c: &[u8], d: &[u8]) -> usize
-    ensures { result ≡ placeAmong field.now (a.now ∷ b.now ∷ c.now ∷ d.now ∷ []) }
+    ensures { result ≡ place_among field.now (a.now ∷ b.now ∷ c.now ∷ d.now ∷ []) }
 {
     if octets::same(field, a) {
         return 0;
@@ -72,9 +72,9 @@ pub(crate) fn place4(field: &[u8], a: &[u8], b: &[u8], c: &[u8], d: &[u8]) -> us
     4
 }
 
-#[tactic(auto, unfolding(crate::specs::Naming::placeNamed))]
+#[tactic(auto, unfolding(crate::specs::Naming::place_named))]
 pub(crate) fn place5(field: &[u8], a: &[u8], b: &[u8], c: &[u8], d: &[u8], e: &[u8]) -> usize
-    ensures { result ≡ placeAmong field.now (a.now ∷ b.now ∷ c.now ∷ d.now ∷ e.now ∷ []) }
+    ensures { result ≡ place_among field.now (a.now ∷ b.now ∷ c.now ∷ d.now ∷ e.now ∷ []) }
 {
     if octets::same(field, a) {
         return 0;
@@ -96,9 +96,9 @@ pub(crate) fn place5(field: &[u8], a: &[u8], b: &[u8], c: &[u8], d: &[u8], e: &[
 
 // ---- words
 
-#[tactic(auto, unfolding(syntax::specs::Words::bytes, syntax::specs::Words::named, crate::specs::Naming::placeNamed))]
+#[tactic(auto, unfolding(syntax::specs::Words::bytes, syntax::specs::Words::named, crate::specs::Naming::place_named))]
 pub(crate) fn stream(field: &[u8]) -> MaybeStream
-    ensures { streamIs result ≡ stream field.now }
+    ensures { stream_is result ≡ stream field.now }
 {
     let n = place2(field, b"Stdout", b"Stderr");
     match n {
@@ -108,9 +108,9 @@ pub(crate) fn stream(field: &[u8]) -> MaybeStream
     }
 }
 
-#[tactic(auto, unfolding(syntax::specs::Words::bytes, syntax::specs::Words::named, crate::specs::Naming::placeNamed))]
+#[tactic(auto, unfolding(syntax::specs::Words::bytes, syntax::specs::Words::named, crate::specs::Naming::place_named))]
 pub(crate) fn pool(field: &[u8]) -> MaybePool
-    ensures { poolIs result ≡ pool field.now }
+    ensures { pool_is result ≡ pool field.now }
 {
     let n = place4(field, b"Input", b"Stdout", b"Stderr", b"Output");
     match n {
@@ -122,9 +122,9 @@ pub(crate) fn pool(field: &[u8]) -> MaybePool
     }
 }
 
-#[tactic(auto, unfolding(syntax::specs::Words::bytes, syntax::specs::Words::named, crate::specs::Naming::placeNamed))]
+#[tactic(auto, unfolding(syntax::specs::Words::bytes, syntax::specs::Words::named, crate::specs::Naming::place_named))]
 pub(crate) fn cause(field: &[u8]) -> MaybeCause
-    ensures { causeIs result ≡ cause field.now }
+    ensures { cause_is result ≡ cause field.now }
 {
     let n = place5(
         field,
@@ -144,9 +144,9 @@ pub(crate) fn cause(field: &[u8]) -> MaybeCause
     }
 }
 
-#[tactic(auto, unfolding(syntax::specs::Words::bytes, syntax::specs::Words::named, crate::specs::Naming::placeNamed))]
+#[tactic(auto, unfolding(syntax::specs::Words::bytes, syntax::specs::Words::named, crate::specs::Naming::place_named))]
 pub(crate) fn settlement(field: &[u8]) -> MaybeSettlement
-    ensures { settlementIs result ≡ settlement field.now }
+    ensures { settlement_is result ≡ settlement field.now }
 {
     let n = place2(field, b"Settled", b"Failed");
     match n {
@@ -156,9 +156,9 @@ pub(crate) fn settlement(field: &[u8]) -> MaybeSettlement
     }
 }
 
-#[tactic(auto, unfolding(syntax::specs::Words::bytes, syntax::specs::Words::named, crate::specs::Naming::placeNamed))]
+#[tactic(auto, unfolding(syntax::specs::Words::bytes, syntax::specs::Words::named, crate::specs::Naming::place_named))]
 pub fn unit(field: &[u8]) -> MaybeUnit
-    ensures { unitIs result ≡ unit field.now }
+    ensures { unit_is result ≡ unit field.now }
 {
     let n = place2(field, b"B", b"F");
     match n {
@@ -176,9 +176,9 @@ pub fn missing(field: &[u8]) -> bool
 }
 
 // 0 or 1.
-#[tactic(auto, unfolding(syntax::specs::Words::bytes, syntax::specs::Words::named, syntax::specs::Lines::digit, crate::specs::Naming::Beyond, crate::specs::Naming::placeNamed, crate::specs::Naming::standsAt))]
+#[tactic(auto, unfolding(syntax::specs::Words::bytes, syntax::specs::Words::named, syntax::specs::Lines::digit, crate::specs::Naming::Beyond, crate::specs::Naming::place_named, crate::specs::Naming::stands_at))]
 pub fn flag(field: &[u8]) -> MaybeFlag
-    ensures { flagIs result ≡ digit field.now }
+    ensures { flag_is result ≡ digit field.now }
 {
     let n = place2(field, b"0", b"1");
     match n {

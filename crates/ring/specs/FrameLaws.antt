@@ -5,10 +5,10 @@ use Rattle.std.proofs.Math.Path.{refl}
 use Rattle.std.proofs.Common.{sym, ap, ◌∙◌, lt-ltb, le-ltb, eq-eqb, ne_eqb, length-set, get_or-set_same, get_or-set_other}
 use native.Mathlib.Omega.{arith}
 use Rattle.std.proofs.Math.Decide.{dec_lt}
-use Rattle.ring.specs.Runs.{copied, copied-zero, copied-one}
-use Rattle.ring.specs.Ring.{wrap, firstRun, ringRead, ringFrom, ringWrite}
-use Rattle.ring.specs.RingLaws.{wrap-below, wrap-le, wrap-lt, wrap-wrap, wrap-apart, ringAt, read_length, read_at, read_past, read_is, read_none, read-wrapped, write_read}
-use Rattle.ring.specs.Frames.{freedOf, restOf, sum, Popped, stop, popFrom, popped}
+use Rattle.ring.specs.Runs.{copied, copied_zero, copied_one}
+use Rattle.ring.specs.Ring.{wrap, first_run, ring_read, ring_from, ring_write}
+use Rattle.ring.specs.RingLaws.{wrap_below, wrap_le, wrap_lt, wrap_wrap, wrap_apart, ring_at, read_length, read_at, read_past, read_is, read_none, read_wrapped, write_read}
+use Rattle.ring.specs.Frames.{freed_of, rest_of, sum, Popped, stop, pop_from, popped}
 
 -- ---- a plain list
 
@@ -30,8 +30,8 @@ way f n =
     ]
 
 -- the count is used up or nothing is left: all n bytes are taken, or all that wait
-pub rest_sum : (fs : List ℕ) (n : ℕ) → sum (restOf fs n) ≡ sum fs - n
-unfolding restOf
+pub rest_sum : (fs : List ℕ) (n : ℕ) → sum (rest_of fs n) ≡ sum fs - n
+unfolding rest_of
 rest_sum [] n = omega arith
 rest_sum (f ∷ fs) n =
     elim (way f n) [
@@ -41,147 +41,147 @@ rest_sum (f ∷ fs) n =
     ]
 
 -- every frame is freed or left
-pub rest-length : (fs : List ℕ) (n : ℕ) → freedOf fs n + length (restOf fs n) ≡ length fs
-unfolding freedOf restOf
-rest-length [] n = omega arith
-rest-length (f ∷ fs) n =
+pub rest_length : (fs : List ℕ) (n : ℕ) → freed_of fs n + length (rest_of fs n) ≡ length fs
+unfolding freed_of rest_of
+rest_length [] n = omega arith
+rest_length (f ∷ fs) n =
     elim (way f n) [
       | used z e ↦ rw e (omega arith)
       | part l e t ↦ rw (e, t) (omega arith)
-      | whole l e t ↦ rw (e, t) (omega (arith, rest-length fs (n - f)))
+      | whole l e t ↦ rw (e, t) (omega (arith, rest_length fs (n - f)))
     ]
 
 -- only a finished frame frees a unit: the n bytes cover all frames that are freed
-pub freed-finished : (fs : List ℕ) (n : ℕ) → sum (take (freedOf fs n) fs) ≤ n
-unfolding freedOf
-freed-finished [] n = omega arith
-freed-finished (f ∷ fs) n =
+pub freed_finished : (fs : List ℕ) (n : ℕ) → sum (take (freed_of fs n) fs) ≤ n
+unfolding freed_of
+freed_finished [] n = omega arith
+freed_finished (f ∷ fs) n =
     elim (way f n) [
       | used z e ↦ rw e (omega arith)
       | part l e t ↦ rw (e, t) (omega arith)
-      | whole l e t ↦ rw (e, t) (omega (arith, freed-finished fs (n - f)))
+      | whole l e t ↦ rw (e, t) (omega (arith, freed_finished fs (n - f)))
     ]
 
 -- and every finished frame frees one, where no frame is empty: the n bytes do not cover one frame more
-pub freed-all : (fs : List ℕ) (n : ℕ) → ((i : ℕ) → i < length fs → 0 < get_or fs i 0) → freedOf fs n < length fs
-    → n < sum (take (suc (freedOf fs n)) fs)
-unfolding freedOf
-freed-all [] n some = λ h. absurd (omega arith)
-freed-all (f ∷ fs) n some =
+pub freed_all : (fs : List ℕ) (n : ℕ) → ((i : ℕ) → i < length fs → 0 < get_or fs i 0) → freed_of fs n < length fs
+    → n < sum (take (suc (freed_of fs n)) fs)
+unfolding freed_of
+freed_all [] n some = λ h. absurd (omega arith)
+freed_all (f ∷ fs) n some =
     elim (way f n) [
       | used z e ↦ rw e (λ h. omega (arith, some 0 (omega arith)))
       | part l e t ↦ rw (e, t) (λ h. omega arith)
-      | whole l e t ↦ rw (e, t) (λ h. omega (arith, freed-all fs (n - f) (λ i l. some (suc i) (omega arith)) (omega arith)))
+      | whole l e t ↦ rw (e, t) (λ h. omega (arith, freed_all fs (n - f) (λ i l. some (suc i) (omega arith)) (omega arith)))
     ]
 
 -- ---- the ring of lengths: a push
 
 module _ (size start frames len : ℕ) (s : List ℕ) (area : size ≤ length s) (begins : start ≤ size) (room : frames < size) where
   -- one store is a write of one element, so that the laws of a ring hold of it
-  pub push-is-write : set s (wrap size (start + frames)) len ≡ ringWrite 0 size start frames (len ∷ []) 1 s
-  unfolding ringWrite ringFrom
-  push-is-write =
+  pub push_is_write : set s (wrap size (start + frames)) len ≡ ring_write 0 size start frames (len ∷ []) 1 s
+  unfolding ring_write ring_from
+  push_is_write =
       let p = wrap size (start + frames) in
-      let h : p < size = wrap-lt size (start + frames) (omega arith) in
-      let k : firstRun size p 1 ≡ 1 = omega arith in
+      let h : p < size = wrap_lt size (start + frames) (omega arith) in
+      let k : first_run size p 1 ≡ 1 = omega arith in
       let z : 0 + p ≡ p = omega arith in
-      copied-one s p len (omega arith)
-      ∙ copied-zero (copied s p (len ∷ []) 0 1) 0 (len ∷ []) 1
+      copied_one s p len (omega arith)
+      ∙ copied_zero (copied s p (len ∷ []) 0 1) 0 (len ∷ []) 1
       ∙ rw (k, z) refl
 
   -- a pushed length is the last of the frames
-  pub push-read : ringRead 0 size start (frames + 1) (set s (wrap size (start + frames)) len) ≡ ringRead 0 size start frames s ++ len ∷ []
-  push-read =
-      ap (ringRead 0 size start (frames + 1)) push-is-write
+  pub push_read : ring_read 0 size start (frames + 1) (set s (wrap size (start + frames)) len) ≡ ring_read 0 size start frames s ++ len ∷ []
+  push_read =
+      ap (ring_read 0 size start (frames + 1)) push_is_write
       ∙ write_read 0 size start frames (len ∷ []) 1 s (omega arith) begins (omega arith) (omega arith)
 
-  pub push-length : length (set s (wrap size (start + frames)) len) ≡ length s
-  push-length = length-set s (wrap size (start + frames)) len
+  pub push_length : length (set s (wrap size (start + frames)) len) ≡ length s
+  push_length = length-set s (wrap size (start + frames)) len
 
 -- ---- the ring of lengths: a pop
 
 -- a turn of the code: no byte to take, no frame left, a frame taken in part, a frame finished
-pub pop-used : (k size start left done : ℕ) (s : List ℕ) → left ≡ 0 → popFrom k size start left done s ≡ stop done s
-unfolding popFrom
-pop-used zero size start left done s h = refl
-pop-used (suc k) size start left done s h = simp (eq-eqb left 0 h)
+pub pop_used : (k size start left done : ℕ) (s : List ℕ) → left ≡ 0 → pop_from k size start left done s ≡ stop done s
+unfolding pop_from
+pop_used zero size start left done s h = refl
+pop_used (suc k) size start left done s h = simp (eq-eqb left 0 h)
 
-pub pop-none : (k size start left done : ℕ) (s : List ℕ) → k ≡ 0 → popFrom k size start left done s ≡ stop done s
-unfolding popFrom
-pop-none k size start left done s h = rw h
+pub pop_none : (k size start left done : ℕ) (s : List ℕ) → k ≡ 0 → pop_from k size start left done s ≡ stop done s
+unfolding pop_from
+pop_none k size start left done s h = rw h
 
-pub pop-part : (k size start left done at : ℕ) (s : List ℕ) → at ≡ wrap size (start + done) → 0 < k → (left ≡ 0 → ⊥) → left < get_or s at 0
-    → popFrom k size start left done s ≡ stop done (set s at (get_or s at 0 - left))
-unfolding popFrom
-pop-part zero size start left done at s e h n l = absurd (omega arith)
-pop-part (suc k) size start left done at s e h n l = rw (← e) (simp (ne_eqb left 0 n, lt-ltb left (get_or s at 0) l))
+pub pop_part : (k size start left done at : ℕ) (s : List ℕ) → at ≡ wrap size (start + done) → 0 < k → (left ≡ 0 → ⊥) → left < get_or s at 0
+    → pop_from k size start left done s ≡ stop done (set s at (get_or s at 0 - left))
+unfolding pop_from
+pop_part zero size start left done at s e h n l = absurd (omega arith)
+pop_part (suc k) size start left done at s e h n l = rw (← e) (simp (ne_eqb left 0 n, lt-ltb left (get_or s at 0) l))
 
-pub pop-whole : (k size start left done at : ℕ) (s : List ℕ) → at ≡ wrap size (start + done) → 0 < k → (left ≡ 0 → ⊥) → get_or s at 0 ≤ left
-    → popFrom k size start left done s ≡ popFrom (k - 1) size start (left - get_or s at 0) (done + 1) s
-unfolding popFrom
-pop-whole zero size start left done at s e h n l = absurd (omega arith)
-pop-whole (suc k) size start left done at s e h n l =
+pub pop_whole : (k size start left done at : ℕ) (s : List ℕ) → at ≡ wrap size (start + done) → 0 < k → (left ≡ 0 → ⊥) → get_or s at 0 ≤ left
+    → pop_from k size start left done s ≡ pop_from (k - 1) size start (left - get_or s at 0) (done + 1) s
+unfolding pop_from
+pop_whole zero size start left done at s e h n l = absurd (omega arith)
+pop_whole (suc k) size start left done at s e h n l =
     let less : suc k - 1 ≡ k = omega arith in rw (less, ← e) (simp (ne_eqb left 0 n, le-ltb left (get_or s at 0) l))
 
 -- the store keeps its length
-pub pop-length : (k size start left done : ℕ) (s : List ℕ) → length (popFrom k size start left done s).lengths ≡ length s
-unfolding popFrom
-pop-length zero size start left done s = refl
-pop-length (suc k) size start left done s =
+pub pop_length : (k size start left done : ℕ) (s : List ℕ) → length (pop_from k size start left done s).lengths ≡ length s
+unfolding pop_from
+pop_length zero size start left done s = refl
+pop_length (suc k) size start left done s =
     let at = wrap size (start + done) in
     let f = get_or s at 0 in
     elim (way f left) [
       | used z e ↦ rw e refl
       | part l e t ↦ rw (e, t) (length-set s at (f - left))
-      | whole l e t ↦ rw (e, t) (pop-length k size start (left - f) (done + 1) s)
+      | whole l e t ↦ rw (e, t) (pop_length k size start (left - f) (done + 1) s)
     ]
 
 -- k + 1 frames from place x on, which may be past the end of the area
 module _ (size x k : ℕ) (s : List ℕ) (area : size ≤ length s) (twice : x + k < size + size) (room : k < size) where
   here : wrap size x < size
-  here = wrap-lt size x (omega arith)
+  here = wrap_lt size x (omega arith)
 
   next : wrap size (x + 1) ≤ size
-  next = wrap-le size (x + 1) (omega arith)
+  next = wrap_le size (x + 1) (omega arith)
 
-  others : length (ringRead 0 size (wrap size (x + 1)) k s) ≡ k
+  others : length (ring_read 0 size (wrap size (x + 1)) k s) ≡ k
   others = read_length 0 size (wrap size (x + 1)) k s (omega arith) next (omega arith)
 
   -- the oldest frame, and the others
-  read-cons : ringRead 0 size (wrap size x) (suc k) s ≡ get_or s (wrap size x) 0 ∷ ringRead 0 size (wrap size (x + 1)) k s
-  read-cons =
+  read_cons : ring_read 0 size (wrap size x) (suc k) s ≡ get_or s (wrap size x) 0 ∷ ring_read 0 size (wrap size (x + 1)) k s
+  read_cons =
       read_is 0 size (wrap size x) (suc k) s (omega arith) (omega (arith, here)) room
-      (get_or s (wrap size x) 0 ∷ ringRead 0 size (wrap size (x + 1)) k s) (omega (arith, others))
+      (get_or s (wrap size x) 0 ∷ ring_read 0 size (wrap size (x + 1)) k s) (omega (arith, others))
       (λ i.
-      elim i as (λ j. j < suc k → get_or s (ringAt 0 size (wrap size x) j) 0
-      ≡ get_or (get_or s (wrap size x) 0 ∷ ringRead 0 size (wrap size (x + 1)) k s) j 0) [
-        | zero ↦ λ h. ap (λ (j : ℕ). get_or s j 0) (omega (arith, wrap-below size (wrap size x + 0) (omega (arith, here))))
+      elim i as (λ j. j < suc k → get_or s (ring_at 0 size (wrap size x) j) 0
+      ≡ get_or (get_or s (wrap size x) 0 ∷ ring_read 0 size (wrap size (x + 1)) k s) j 0) [
+        | zero ↦ λ h. ap (λ (j : ℕ). get_or s j 0) (omega (arith, wrap_below size (wrap size x + 0) (omega (arith, here))))
         | suc i ↦
             λ h.
-            ap (λ (j : ℕ). get_or s (0 + j) 0) (wrap-wrap size x (suc i) (omega arith) ∙ ap (wrap size) (omega arith))
+            ap (λ (j : ℕ). get_or s (0 + j) 0) (wrap_wrap size x (suc i) (omega arith) ∙ ap (wrap size) (omega arith))
             ∙ sym (read_past 0 size (x + 1) k s (omega arith) (omega arith) (omega arith) i (omega arith))
       ])
 
   -- lowering the oldest length leaves the others
-  read_behind : (v : ℕ) → ringRead 0 size (wrap size (x + 1)) k (set s (wrap size x) v) ≡ ringRead 0 size (wrap size (x + 1)) k s
+  read_behind : (v : ℕ) → ring_read 0 size (wrap size (x + 1)) k (set s (wrap size x) v) ≡ ring_read 0 size (wrap size (x + 1)) k s
   read_behind v =
       read_is 0 size (wrap size (x + 1)) k (set s (wrap size x) v) (simp length-set (omega arith)) next (omega arith)
-      (ringRead 0 size (wrap size (x + 1)) k s) others
+      (ring_read 0 size (wrap size (x + 1)) k s) others
       (λ i h.
       let e : wrap size (wrap size (x + 1) + i) ≡ wrap size (x + (1 + i)) =
-      wrap-wrap size (x + 1) i (omega arith) ∙ ap (wrap size) (omega arith) in
-      get_or-set_other s (wrap size x) (ringAt 0 size (wrap size (x + 1)) i) v 0
-      (let apart = wrap-apart size x (1 + i) (omega arith) (omega arith) (omega arith) in λ q. apart (omega arith))
+      wrap_wrap size (x + 1) i (omega arith) ∙ ap (wrap size) (omega arith) in
+      get_or-set_other s (wrap size x) (ring_at 0 size (wrap size (x + 1)) i) v 0
+      (let apart = wrap_apart size x (1 + i) (omega arith) (omega arith) (omega arith) in λ q. apart (omega arith))
       ∙ sym (read_at 0 size (wrap size (x + 1)) k s (omega arith) next (omega arith) i h))
 
 -- q, which began with `done` frames finished and k more, has x of these finished and leaves the frames fs
 record Leaves (k size start done : ℕ) (q : Popped) (x : ℕ) (fs : List ℕ) : Type 0 where
   freed : q.freed ≡ done + x
-  rest : ringRead 0 size (wrap size (start + q.freed)) (done + k - q.freed) q.lengths ≡ fs
+  rest : ring_read 0 size (wrap size (start + q.freed)) (done + k - q.freed) q.lengths ≡ fs
 
 leaves : (k size start left done : ℕ) (s : List ℕ) → size ≤ length s → start ≤ size → done + k ≤ size
-    → (let fs = ringRead 0 size (wrap size (start + done)) k s in Leaves k size start done (popFrom k size start left done s) (freedOf fs left) (restOf fs left))
-unfolding popFrom freedOf restOf
+    → (let fs = ring_read 0 size (wrap size (start + done)) k s in Leaves k size start done (pop_from k size start left done s) (freed_of fs left) (rest_of fs left))
+unfolding pop_from freed_of rest_of
 leaves zero size start left done s area begins room =
     let none : done + 0 - done ≡ 0 = omega arith in
     let empty = read_none 0 size (wrap size (start + done)) s in
@@ -191,7 +191,7 @@ leaves (suc k) size start left done s area begins room =
     let at = wrap size x in
     let f = get_or s at 0 in
     let all : done + suc k - done ≡ suc k = omega arith in
-    let cons = read-cons size x k s area (omega arith) (omega arith) in
+    let cons = read_cons size x k s area (omega arith) (omega arith) in
     rw cons
     (elim (way f left) [
       | used z e ↦ rw e (record { freed = omega arith; rest = rw all cons })
@@ -201,7 +201,7 @@ leaves (suc k) size start left done s area begins room =
           rw (e, t)
           (record {
             freed = omega arith;
-            rest = rw all (read-cons size x k (set s at (f - left)) (simp length-set area) (omega arith) (omega arith) ∙ rw (same, behind) refl);
+            rest = rw all (read_cons size x k (set s at (f - left)) (simp length-set area) (omega arith) (omega arith) ∙ rw (same, behind) refl);
           })
       | whole l e t ↦
           let on : start + (done + 1) ≡ x + 1 = omega arith in
@@ -213,23 +213,23 @@ leaves (suc k) size start left done s area begins room =
 -- popping from the ring is popping from the list of its frames: the same units are freed, and the same frames are left
 module _ (frames size start count : ℕ) (s : List ℕ) (area : size ≤ length s) (begins : start ≤ size) (room : frames ≤ size) where
   abbrev waiting : List ℕ
-  waiting = ringRead 0 size start frames s
+  waiting = ring_read 0 size start frames s
 
   abbrev after : Popped
   after = popped frames size start count s
 
-  both : Leaves frames size start 0 after (freedOf waiting count) (restOf waiting count)
+  both : Leaves frames size start 0 after (freed_of waiting count) (rest_of waiting count)
   both =
       let none : start + 0 ≡ start = omega arith in
-      rw (none, ← read-wrapped 0 size start frames s (omega arith) begins room) at (leaves frames size start count 0 s area begins (omega arith))
+      rw (none, ← read_wrapped 0 size start frames s (omega arith) begins room) at (leaves frames size start count 0 s area begins (omega arith))
 
-  pub pop-freed : after.freed ≡ freedOf waiting count
-  pop-freed = both.freed ∙ omega arith
+  pub pop_freed : after.freed ≡ freed_of waiting count
+  pop_freed = both.freed ∙ omega arith
 
-  pub pop-rest : ringRead 0 size (wrap size (start + after.freed)) (frames - after.freed) after.lengths ≡ restOf waiting count
-  pop-rest = let all : 0 + frames ≡ frames = omega arith in rw all at both.rest
+  pub pop_rest : ring_read 0 size (wrap size (start + after.freed)) (frames - after.freed) after.lengths ≡ rest_of waiting count
+  pop_rest = let all : 0 + frames ≡ frames = omega arith in rw all at both.rest
 
   -- no more units are freed than frames wait
-  pub pop-most : after.freed ≤ frames
-  pop-most =
-      omega (arith, pop-freed, rest-length waiting count, read_length 0 size start frames s (omega arith) begins room)
+  pub pop_most : after.freed ≤ frames
+  pop_most =
+      omega (arith, pop_freed, rest_length waiting count, read_length 0 size start frames s (omega arith) begins room)

@@ -4,14 +4,14 @@ use Rattle.std.specs.Prelude.{cond, List, [], ◌∷◌, ℕ, zero, suc, ◌+◌
 use Rattle.ring.specs.Ring.{wrap}
 
 -- the frames that taking n bytes finishes
-unfoldable pub freedOf : List ℕ → (n : ℕ) → ℕ
-freedOf [] n = 0
-freedOf (f ∷ fs) n = cond (eqb n 0) 0 (cond (ltb n f) 0 (suc (freedOf fs (n - f))))
+unfoldable pub freed_of : List ℕ → (n : ℕ) → ℕ
+freed_of [] n = 0
+freed_of (f ∷ fs) n = cond (eqb n 0) 0 (cond (ltb n f) 0 (suc (freed_of fs (n - f))))
 
 -- the frames that are left, of which the first may have been taken in part
-unfoldable pub restOf : List ℕ → (n : ℕ) → List ℕ
-restOf [] n = []
-restOf (f ∷ fs) n = cond (eqb n 0) (f ∷ fs) (cond (ltb n f) ((f - n) ∷ fs) (restOf fs (n - f)))
+unfoldable pub rest_of : List ℕ → (n : ℕ) → List ℕ
+rest_of [] n = []
+rest_of (f ∷ fs) n = cond (eqb n 0) (f ∷ fs) (cond (ltb n f) ((f - n) ∷ fs) (rest_of fs (n - f)))
 
 -- the bytes of all frames
 abbrev pub sum : List ℕ → ℕ
@@ -27,14 +27,14 @@ abbrev pub stop : ℕ → List ℕ → Popped
 stop done s = record { freed = done; lengths = s }
 
 -- with `done` frames finished, `frames` more and `left` bytes still to take
-unfoldable pub popFrom : (frames size start left done : ℕ) → List ℕ → Popped
-popFrom zero size start left done s = stop done s
-popFrom (suc k) size start left done s =
+unfoldable pub pop_from : (frames size start left done : ℕ) → List ℕ → Popped
+pop_from zero size start left done s = stop done s
+pop_from (suc k) size start left done s =
     let at = wrap size (start + done) in
     let len = get_or s at 0 in
     cond (eqb left 0) (stop done s)
-    (cond (ltb left len) (stop done (set s at (len - left))) (popFrom k size start (left - len) (done + 1) s))
+    (cond (ltb left len) (stop done (set s at (len - left))) (pop_from k size start (left - len) (done + 1) s))
 
 -- count bytes taken from the `frames` frames of a ring of lengths
 abbrev pub popped : (frames size start count : ℕ) → List ℕ → Popped
-popped frames size start count s = popFrom frames size start count 0 s
+popped frames size start count s = pop_from frames size start count 0 s

@@ -8,19 +8,19 @@ unfoldable pub wrap : (size x : ℕ) → ℕ
 wrap size x = cond (ltb x size) x (x - size)
 
 -- of n bytes from a place on, those that fit before the end of the area: the first of the two runs
-abbrev pub firstRun : (size place n : ℕ) → ℕ
-firstRun size place n = min n (size - place)
+abbrev pub first_run : (size place n : ℕ) → ℕ
+first_run size place n = min n (size - place)
 
 -- the ring's first n bytes: a run up to the end of the area, and the rest from its start
-unfoldable pub ringRead : (base size start n : ℕ) → List ℕ → List ℕ
-ringRead base size start n s =
-    take (firstRun size start n) (drop (base + start) s) ++ take (n - firstRun size start n) (drop base s)
+unfoldable pub ring_read : (base size start n : ℕ) → List ℕ → List ℕ
+ring_read base size start n s =
+    take (first_run size start n) (drop (base + start) s) ++ take (n - first_run size start n) (drop base s)
 
 -- the store with the first n of bytes written from a place of the area on, in two runs
-unfoldable pub ringFrom : (base size place : ℕ) (bytes : List ℕ) (n : ℕ) → List ℕ → List ℕ
-ringFrom base size place bytes n s =
-    let k = firstRun size place n in copied (copied s (base + place) bytes 0 k) base bytes k (n - k)
+unfoldable pub ring_from : (base size place : ℕ) (bytes : List ℕ) (n : ℕ) → List ℕ → List ℕ
+ring_from base size place bytes n s =
+    let k = first_run size place n in copied (copied s (base + place) bytes 0 k) base bytes k (n - k)
 
 -- the store with the first n of bytes appended to a ring that holds count
-unfoldable pub ringWrite : (base size start count : ℕ) (bytes : List ℕ) (n : ℕ) → List ℕ → List ℕ
-ringWrite base size start count bytes n s = ringFrom base size (wrap size (start + count)) bytes n s
+unfoldable pub ring_write : (base size start count : ℕ) (bytes : List ℕ) (n : ℕ) → List ℕ → List ℕ
+ring_write base size start count bytes n s = ring_from base size (wrap size (start + count)) bytes n s

@@ -12,27 +12,27 @@ unfoldable pub copied : (d : List ℕ) (at : ℕ) (src : List ℕ) (from n : ℕ
 copied d at src from n = take at d ++ take n (drop from src) ++ drop (at + n) d
 
 -- an element of two lists joined that is past the first
-pub getD-append-ge : (xs ys : List ℕ) (i : ℕ) → length xs ≤ i → get_or (xs ++ ys) i 0 ≡ get_or ys (i - length xs) 0
-getD-append-ge xs ys i h =
+pub get_or_append_ge : (xs ys : List ℕ) (i : ℕ) → length xs ≤ i → get_or (xs ++ ys) i 0 ≡ get_or ys (i - length xs) 0
+get_or_append_ge xs ys i h =
     let e : i ≡ length xs + (i - length xs) = omega arith in
     ap (λ (k : ℕ). get_or (xs ++ ys) k 0) e ∙ get_or-append-add xs ys (i - length xs) 0
 
 -- where a loop that copies begins
-pub copied-zero : (d : List ℕ) (at : ℕ) (src : List ℕ) (from : ℕ) → d ≡ copied d at src from 0
+pub copied_zero : (d : List ℕ) (at : ℕ) (src : List ℕ) (from : ℕ) → d ≡ copied d at src from 0
 unfolding copied
-copied-zero d at src from = paste-zero d at (drop from src)
+copied_zero d at src from = paste-zero d at (drop from src)
 
 -- a turn of that loop
-pub copied-step : (d : List ℕ) (at : ℕ) (src : List ℕ) (from j : ℕ) → at + j < length d → from + j < length src
+pub copied_step : (d : List ℕ) (at : ℕ) (src : List ℕ) (from j : ℕ) → at + j < length d → from + j < length src
     → set (copied d at src from j) (at + j) (get_or src (from + j) 0) ≡ copied d at src from (j + 1)
 unfolding copied
-copied-step d at src from j hd hs =
+copied_step d at src from j hd hs =
     rw (← get_or-drop from src j 0, add-one) (paste-suc d at (drop from src) j 0 hd (simp length-drop (omega arith)))
 
 -- a copy of one element
-pub copied-one : (d : List ℕ) (at x : ℕ) → at < length d → set d at x ≡ copied d at (x ∷ []) 0 1
+pub copied_one : (d : List ℕ) (at x : ℕ) → at < length d → set d at x ≡ copied d at (x ∷ []) 0 1
 unfolding copied
-copied-one d at x h = set_split d at x h ∙ rw add-one (sym (append_snoc (take at d) x (drop (suc at) d)))
+copied_one d at x h = set_split d at x h ∙ rw add-one (sym (append_snoc (take at d) x (drop (suc at) d)))
 
 module _ (d : List ℕ) (at : ℕ) (src : List ℕ) (from n : ℕ) (room : at + n ≤ length d) (has : from + n ≤ length src) where
   source : n ≤ length (drop from src)
@@ -41,32 +41,32 @@ module _ (d : List ℕ) (at : ℕ) (src : List ℕ) (from n : ℕ) (room : at + 
   head : length (take at d ++ take n (drop from src)) ≡ at + n
   head = length_paste_head d at (drop from src) n (omega arith) source
 
-  pub copied-length : length (copied d at src from n) ≡ length d
+  pub copied_length : length (copied d at src from n) ≡ length d
   unfolding copied
-  copied-length = length-paste d at (drop from src) n room source
+  copied_length = length-paste d at (drop from src) n room source
 
   -- an element below the run, in it, and above it
-  pub copied-before : (j : ℕ) → j < at → get_or (copied d at src from n) j 0 ≡ get_or d j 0
+  pub copied_before : (j : ℕ) → j < at → get_or (copied d at src from n) j 0 ≡ get_or d j 0
   unfolding copied
-  copied-before j h =
+  copied_before j h =
       let l : length (take at d) ≡ at = length-take-le at d (omega arith) in
       get_or-append (take at d ++ take n (drop from src)) (drop (at + n) d) 0 j (omega (arith, head))
       ∙ get_or-append (take at d) (take n (drop from src)) 0 j (omega arith)
       ∙ get_or-take at d j 0 h
 
-  pub copied-in : (j : ℕ) → j < n → get_or (copied d at src from n) (at + j) 0 ≡ get_or src (from + j) 0
+  pub copied_in : (j : ℕ) → j < n → get_or (copied d at src from n) (at + j) 0 ≡ get_or src (from + j) 0
   unfolding copied
-  copied-in j h =
+  copied_in j h =
       let l : length (take at d) ≡ at = length-take-le at d (omega arith) in
       get_or-append (take at d ++ take n (drop from src)) (drop (at + n) d) 0 (at + j) (omega (arith, head))
-      ∙ getD-append-ge (take at d) (take n (drop from src)) (at + j) (omega arith)
+      ∙ get_or_append_ge (take at d) (take n (drop from src)) (at + j) (omega arith)
       ∙ ap (λ (k : ℕ). get_or (take n (drop from src)) k 0) (omega arith)
       ∙ get_or-take n (drop from src) j 0 h
       ∙ get_or-drop from src j 0
 
-  pub copied-after : (j : ℕ) → at + n ≤ j → get_or (copied d at src from n) j 0 ≡ get_or d j 0
+  pub copied_after : (j : ℕ) → at + n ≤ j → get_or (copied d at src from n) j 0 ≡ get_or d j 0
   unfolding copied
-  copied-after j h =
-      getD-append-ge (take at d ++ take n (drop from src)) (drop (at + n) d) j (omega (arith, head))
+  copied_after j h =
+      get_or_append_ge (take at d ++ take n (drop from src)) (drop (at + n) d) j (omega (arith, head))
       ∙ get_or-drop (at + n) d (j - length (take at d ++ take n (drop from src))) 0
       ∙ ap (λ (k : ℕ). get_or d k 0) (omega (arith, head))

@@ -5,7 +5,7 @@
 
 ghost use Rattle.std.specs.Prelude.{◌≡◌, ◌++◌, ◌+◌, ◌≤◌, ◌<◌, min, length, take, drop, set};
 ghost use Rattle.ring.specs.Runs.{copied};
-ghost use Rattle.ring.specs.Ring.{wrap, firstRun, ringRead, ringWrite};
+ghost use Rattle.ring.specs.Ring.{wrap, first_run, ring_read, ring_write};
 ghost use Rattle.ring.specs.Frames.{popped, stop};
 
 // The smaller of two numbers.
@@ -82,7 +82,7 @@ pub fn copy_in(dst: &mut [u8], at: usize, src: &[u8], from: usize, n: usize)
 }
 
 // Appends the first n of bytes to a ring that holds `count`.
-#[tactic(auto, unfolding(crate::specs::Ring::ringWrite, crate::specs::Ring::ringFrom))]
+#[tactic(auto, unfolding(crate::specs::Ring::ring_write, crate::specs::Ring::ring_from))]
 pub fn push(
     store: &mut [u8],
     base: usize,
@@ -93,7 +93,7 @@ pub fn push(
     n: usize,
 )
     requires { (base + size ≤ length store.old) × (start ≤ size) × (count + n ≤ size) × (n ≤ length bytes.now) }
-    ensures { store.new ≡ ringWrite base size start count bytes.now n store.old }
+    ensures { store.new ≡ ring_write base size start count bytes.now n store.old }
 {
     let at = advance(size, start, count);
     let k = smaller(n, size - at);
@@ -104,7 +104,7 @@ pub fn push(
 // Writes the ring's first n bytes to the first n of buffer, and nothing else. The ring's start is the caller's to move.
 pub fn take(store: &[u8], base: usize, size: usize, start: usize, n: usize, buffer: &mut [u8])
     requires { (base + size ≤ length store.now) × (start ≤ size) × (n ≤ size) × (n ≤ length buffer.old) }
-    ensures { buffer.new ≡ ringRead base size start n store.now ++ drop n buffer.old }
+    ensures { buffer.new ≡ ring_read base size start n store.now ++ drop n buffer.old }
 {
     let k = smaller(n, size - start);
     copy_in(buffer, 0, store, base + start, k);
@@ -114,7 +114,7 @@ pub fn take(store: &[u8], base: usize, size: usize, start: usize, n: usize, buff
 // Of `count` waiting bytes those from the ring's head to the end of its area or the last of them, as a part of the store.
 pub fn pending(store: &[u8], base: usize, size: usize, start: usize, count: usize) -> &[u8]
     requires { (base + size ≤ length store.now) × (start ≤ size) }
-    ensures { result.now ≡ take (firstRun size start count) (drop (base + start) store.now) }
+    ensures { result.now ≡ take (first_run size start count) (drop (base + start) store.now) }
 {
     let at = base + start;
     let k = smaller(count, size - start);

@@ -5,41 +5,41 @@ use Rattle.exec.specs.declared.Admission.{Admission}
 use Rattle.exec.specs.declared.Key.{Key}
 use Rattle.exec.specs.declared.Reply.TheVariants as Reply
 use Rattle.exec.specs.Key.{admits}
-use Rattle.inbox.specs.Need.{byteNeed, lengthNeed}
+use Rattle.inbox.specs.Need.{byte_need, length_need}
 use Rattle.inbox.specs.RangeLaws.{both}
 use Rattle.runner.specs.declared.runner.Runner.{Runner}
-use Rattle.runner.specs.Range.{bytesDo, lengthsDo, stop}
-use Rattle.runner.specs.RangeLaws.{InRange, Good, is-good, stopIf, stopped, stands, agrees, tested, goes}
-use Rattle.runner.specs.Streams.{isTaken}
+use Rattle.runner.specs.Range.{bytes_do, lengths_do, stop}
+use Rattle.runner.specs.RangeLaws.{InRange, Good, is_good_lem, stop_if, stopped, stands, agrees, tested, goes}
+use Rattle.runner.specs.Streams.{is_taken}
 
 pub tested_stop : (r : Runner) (stores : Bool) → stop r stores ≡ cond (agrees r stores && stands r) Reply.Ok (Reply.Refused (stopped r))
-unfolding stopIf
+unfolding stop_if
 tested_stop r stores = tested r {stores = stores} {found = stores} refl refl refl
 
 -- by what the code tested, where found is whether the stores do
 module _ (r : Runner) {found s a : Bool} (hs : s ≡ stands r) (ha : a ≡ agrees r found) (h : (a && s) ≡ true) where
   passed : (stores : Bool) → found ≡ stores → Good r stores
-  passed stores hf = is-good r stores (goes r hf hs ha h)
+  passed stores hf = is_good_lem r stores (goes r hf hs ha h)
 
-  pub bytes-good : (store : List ℕ) → found ≡ bytesDo r.limits store → InRange r × (byteNeed r.limits ≤ length store)
-  bytes-good store hf =
-      let g = passed (bytesDo r.limits store) hf in
-      (g.range, leb-true (byteNeed r.limits) (length store) g.stores-do)
+  pub bytes_good : (store : List ℕ) → found ≡ bytes_do r.limits store → InRange r × (byte_need r.limits ≤ length store)
+  bytes_good store hf =
+      let g = passed (bytes_do r.limits store) hf in
+      (g.range, leb-true (byte_need r.limits) (length store) g.stores_do_lem)
 
-  pub lengths-good : (lengths : List ℕ) → found ≡ lengthsDo r.limits lengths → InRange r × (lengthNeed r.limits ≤ length lengths)
-  lengths-good lengths hf =
-      let g = passed (lengthsDo r.limits lengths) hf in
-      (g.range, leb-true (lengthNeed r.limits) (length lengths) g.stores-do)
+  pub lengths_good : (lengths : List ℕ) → found ≡ lengths_do r.limits lengths → InRange r × (length_need r.limits ≤ length lengths)
+  lengths_good lengths hf =
+      let g = passed (lengths_do r.limits lengths) hf in
+      (g.range, leb-true (length_need r.limits) (length lengths) g.stores_do_lem)
 
-  pub stores-good : (store lengths : List ℕ) (b n : Bool) → found ≡ (b && n) → b ≡ bytesDo r.limits store → n ≡ lengthsDo r.limits lengths
-      → InRange r × (byteNeed r.limits ≤ length store) × (lengthNeed r.limits ≤ length lengths)
-  stores-good store lengths b n hf hb hn =
+  pub stores_good : (store lengths : List ℕ) (b n : Bool) → found ≡ (b && n) → b ≡ bytes_do r.limits store → n ≡ lengths_do r.limits lengths
+      → InRange r × (byte_need r.limits ≤ length store) × (length_need r.limits ≤ length lengths)
+  stores_good store lengths b n hf hb hn =
       let g = passed (b && n) hf in
-      let p = both b n g.stores-do in
-      (g.range, leb-true (byteNeed r.limits) (length store) (sym hb ∙ p.0), leb-true (lengthNeed r.limits) (length lengths) (sym hn ∙ p.1))
+      let p = both b n g.stores_do_lem in
+      (g.range, leb-true (byte_need r.limits) (length store) (sym hb ∙ p.0), leb-true (length_need r.limits) (length lengths) (sym hn ∙ p.1))
 
-pub is-in-range : (r : Runner) {s a : Bool} → s ≡ stands r → a ≡ agrees r true → (a && s) ≡ true → InRange r
-is-in-range r hs ha h = (passed r hs ha h true refl).range
+pub is_in_range : (r : Runner) {s a : Bool} → s ≡ stands r → a ≡ agrees r true → (a && s) ≡ true → InRange r
+is_in_range r hs ha h = (passed r hs ha h true refl).range
 
 -- a message that does something: the call is not refused, the key is the execution's own, and the outcome was not returned
 pub record Heard (r : Runner) (k : Key) (g : Bool) : Type 0 where
@@ -47,13 +47,13 @@ pub record Heard (r : Runner) (k : Key) (g : Bool) : Type 0 where
   pub own : admits r.key k ≡ Admission.Own
   pub goes_on : r.flags.finished ≡ false
 
-pub heard : (r : Runner) (k : Key) (good h : Bool) → h ≡ (good && isTaken (admits r.key k) r) → h ≡ true → Heard r k good
+pub heard : (r : Runner) (k : Key) (good h : Bool) → h ≡ (good && is_taken (admits r.key k) r) → h ≡ true → Heard r k good
 heard r k good h e t =
-    let b = both good (isTaken (admits r.key k) r) (sym e ∙ t) in
+    let b = both good (is_taken (admits r.key k) r) (sym e ∙ t) in
     let p = by (admits r.key k) b.1 in
     record { good = b.0; own = p.0; goes_on = p.1 }
   where
-    by : (a : Admission) → isTaken a r ≡ true → (a ≡ Admission.Own) × (r.flags.finished ≡ false)
+    by : (a : Admission) → is_taken a r ≡ true → (a ≡ Admission.Own) × (r.flags.finished ≡ false)
     by Admission.Own t = (refl, not-true r.flags.finished t)
     by Admission.Stale t = absurd (false≢true t)
     by (Admission.Refused x) t = absurd (false≢true t)

@@ -15,10 +15,10 @@ use Rattle.exec.specs.declared.Settlement.{Settlement}
 use Rattle.exec.specs.declared.Stream.{Stream}
 use Rattle.exec.specs.declared.Timers.{Timers}
 use Rattle.exec.specs.Key.{admits}
-use Rattle.exec.specs.Limits.{outputPool, noLimits}
+use Rattle.exec.specs.Limits.{output_pool, no_limits}
 use Rattle.exec.specs.Refusal.{number}
-use Rattle.inbox.specs.Need.{byteNeed}
-use Rattle.lifecycle.specs.Life.{isRequested}
+use Rattle.inbox.specs.Need.{byte_need}
+use Rattle.lifecycle.specs.Life.{is_requested}
 use Rattle.runner.specs.declared.answer.Asked.{Asked}
 use Rattle.runner.specs.declared.answer.Asking.{Asking}
 use Rattle.runner.specs.declared.answer.Count.{Count}
@@ -34,11 +34,11 @@ use Rattle.choice.specs.declared.Choice.{Choice}
 use Rattle.runner.specs.declared.message.Wish.{Wish}
 use Rattle.runner.specs.declared.runner.Runner.{Runner}
 use Rattle.runner.specs.declared.streams.Accounting.{Accounting}
-use Rattle.runner.specs.Life.{closeRunnerInput, cancelAnswer, cancelNext, launchedNext, exitedNext, settledNext, detachNext, ticked, deadlineOf}
-use Rattle.runner.specs.Message.{choose, effect, bufferAfter, saidFor, MessageAfter, messageAfter, wish, wishEffect}
-use Rattle.runner.specs.Range.{bytesDo, lengthsDo, stop, openStop, fresh}
+use Rattle.runner.specs.Life.{close_runner_input, cancel_answer, cancel_next, launched_next, exited_next, settled_next, detach_next, ticked, deadline_of}
+use Rattle.runner.specs.Message.{choose, effect, buffer_after, said_for, MessageAfter, message_after, wish, wish_effect}
+use Rattle.runner.specs.Range.{bytes_do, lengths_do, stop, open_stop, fresh}
 use Rattle.runner.specs.State as State
-use Rattle.runner.specs.Streams.{OutputAfter, outputAfter, outputTook, InputAfter, inputAfter, received, readAllowanceOf, discardedNext, closedNext, failedNext, hungUpNext, creditAnswer, creditNext, endAnswer, endNext, pendingOf, writtenNext, writtenLengths}
+use Rattle.runner.specs.Streams.{OutputAfter, output_after, output_took, InputAfter, input_after, received, read_allowance_of, discarded_next, closed_next, failed_next, hung_up_next, credit_answer, credit_next, end_answer, end_next, pending_of, written_next, written_lengths}
 
 -- ---- answers: what a call gives that meets no stop, or the refusal, which leaves the runner as it was
 
@@ -61,176 +61,176 @@ told (Reply.Refused x) b = Truth.Refused x
 -- ---- the calls, in the Rust's order
 
 -- a refused open hands back a runner without limits, so that every call on it is refused by 10
-abbrev pub openBy : Reply → Key → Limits → Timers → ℕ → Noting
-openBy Reply.Ok k l t now = record { runner = fresh k l t now; reply = Reply.Ok }
-openBy (Reply.Refused x) k l t now = record { runner = fresh k noLimits t now; reply = Reply.Refused x }
+abbrev pub open_by : Reply → Key → Limits → Timers → ℕ → Noting
+open_by Reply.Ok k l t now = record { runner = fresh k l t now; reply = Reply.Ok }
+open_by (Reply.Refused x) k l t now = record { runner = fresh k no_limits t now; reply = Reply.Refused x }
 
 unfoldable pub «open» : Key → Limits → Timers → ℕ → (bytes lengths : List ℕ) → Noting
-«open» k l t now bytes lengths = openBy (openStop l (bytesDo l bytes && lengthsDo l lengths)) k l t now
+«open» k l t now bytes lengths = open_by (open_stop l (bytes_do l bytes && lengths_do l lengths)) k l t now
 
-abbrev pub keyBy : Reply → Key → KeyAnswer
-keyBy Reply.Ok k = KeyAnswer.Is k
-keyBy (Reply.Refused x) k = KeyAnswer.Refused x
+abbrev pub key_by : Reply → Key → KeyAnswer
+key_by Reply.Ok k = KeyAnswer.Is k
+key_by (Reply.Refused x) k = KeyAnswer.Refused x
 
 unfoldable pub key : Runner → KeyAnswer
-key r = keyBy (stop r true) r.key
+key r = key_by (stop r true) r.key
 
-abbrev pub limitsBy : Reply → Limits → LimitsAnswer
-limitsBy Reply.Ok l = LimitsAnswer.Is l
-limitsBy (Reply.Refused x) l = LimitsAnswer.Refused x
+abbrev pub limits_by : Reply → Limits → LimitsAnswer
+limits_by Reply.Ok l = LimitsAnswer.Is l
+limits_by (Reply.Refused x) l = LimitsAnswer.Refused x
 
 unfoldable pub limits : Runner → LimitsAnswer
-limits r = limitsBy (stop r true) r.limits
+limits r = limits_by (stop r true) r.limits
 
 unfoldable pub credit : Runner → Key → Pool → ℕ → Hearing
 credit r k p units =
     hearing (stop r true)
-    (creditAnswer (admits r.key k) (outputPool r.limits.shared p) r units)
-    (creditNext (admits r.key k) (outputPool r.limits.shared p) r units) r
+    (credit_answer (admits r.key k) (output_pool r.limits.shared p) r units)
+    (credit_next (admits r.key k) (output_pool r.limits.shared p) r units) r
 
 -- what the code's inner functions hand back of it: the accounts, and the answer
-abbrev pub accountingOf : Hearing → Accounting
-accountingOf h = record { credits = h.runner.credits; received = h.received }
+abbrev pub accounting_of : Hearing → Accounting
+accounting_of h = record { credits = h.runner.credits; received = h.received }
 
 -- the stores that input is lent do
-abbrev pub storesDo : Runner → (store lengths : List ℕ) → Bool
-storesDo r store lengths = bytesDo r.limits store && lengthsDo r.limits lengths
+abbrev pub stores_do : Runner → (store lengths : List ℕ) → Bool
+stores_do r store lengths = bytes_do r.limits store && lengths_do r.limits lengths
 
-abbrev pub inputBy : Reply → Admission → Runner → (bytes store lengths : List ℕ) → InputAfter
-inputBy Reply.Ok a r bytes store lengths = received a r bytes store lengths
-inputBy (Reply.Refused x) a r bytes store lengths =
-    inputAfter (record { runner = r; received = Received.Refused x }) store lengths
+abbrev pub input_by : Reply → Admission → Runner → (bytes store lengths : List ℕ) → InputAfter
+input_by Reply.Ok a r bytes store lengths = received a r bytes store lengths
+input_by (Reply.Refused x) a r bytes store lengths =
+    input_after (record { runner = r; received = Received.Refused x }) store lengths
 
 unfoldable pub input : Runner → Key → (bytes store lengths : List ℕ) → InputAfter
-input r k bytes store lengths = inputBy (stop r (storesDo r store lengths)) (admits r.key k) r bytes store lengths
+input r k bytes store lengths = input_by (stop r (stores_do r store lengths)) (admits r.key k) r bytes store lengths
 
-unfoldable pub endInput : Runner → Key → Hearing
-endInput r k = hearing (stop r true) (endAnswer (admits r.key k) r) (endNext (admits r.key k) r) r
+unfoldable pub end_input : Runner → Key → Hearing
+end_input r k = hearing (stop r true) (end_answer (admits r.key k) r) (end_next (admits r.key k) r) r
 
 unfoldable pub cancel : Runner → ℕ → Key → Cause → Hearing
 cancel r now k cause =
-    hearing (stop r true) (cancelAnswer (admits r.key k) r now) (cancelNext (admits r.key k) r now cause) r
+    hearing (stop r true) (cancel_answer (admits r.key k) r now) (cancel_next (admits r.key k) r now cause) r
 
 unfoldable pub launched : Runner → LaunchResult → Noting
-launched r x = noting (stop r true) (launchedNext r x) r
+launched r x = noting (stop r true) (launched_next r x) r
 
-unfoldable pub readAllowance : Runner → Stream → Count
-readAllowance r x = counted (stop r true) (readAllowanceOf r x)
+unfoldable pub read_allowance : Runner → Stream → Count
+read_allowance r x = counted (stop r true) (read_allowance_of r x)
 
-abbrev pub outputBy : Reply → Runner → Stream → (bytes store : List ℕ) → OutputAfter
-outputBy Reply.Ok r x bytes store = outputTook r x bytes store
-outputBy (Reply.Refused z) r x bytes store = outputAfter (record { runner = r; taken = Taken.Refused z }) store
+abbrev pub output_by : Reply → Runner → Stream → (bytes store : List ℕ) → OutputAfter
+output_by Reply.Ok r x bytes store = output_took r x bytes store
+output_by (Reply.Refused z) r x bytes store = output_after (record { runner = r; taken = Taken.Refused z }) store
 
 unfoldable pub output : Runner → Stream → (bytes store : List ℕ) → OutputAfter
-output r x bytes store = outputBy (stop r (bytesDo r.limits store)) r x bytes store
+output r x bytes store = output_by (stop r (bytes_do r.limits store)) r x bytes store
 
 unfoldable pub discarded : Runner → Stream → ℕ → Noting
-discarded r x n = noting (stop r true) (discardedNext r x n) r
+discarded r x n = noting (stop r true) (discarded_next r x n) r
 
-unfoldable pub outputClosed : Runner → Stream → Noting
-outputClosed r x = noting (stop r true) (closedNext r x) r
+unfoldable pub output_closed : Runner → Stream → Noting
+output_closed r x = noting (stop r true) (closed_next r x) r
 
-unfoldable pub outputFailed : Runner → Stream → Noting
-outputFailed r x = noting (stop r true) (failedNext r x) r
+unfoldable pub output_failed : Runner → Stream → Noting
+output_failed r x = noting (stop r true) (failed_next r x) r
 
-unfoldable pub outputHungUp : Runner → Stream → Noting
-outputHungUp r x = noting (stop r true) (hungUpNext r x) r
+unfoldable pub output_hung_up : Runner → Stream → Noting
+output_hung_up r x = noting (stop r true) (hung_up_next r x) r
 
 -- what pending_input gives: a part of the byte store, and the refusal's number, 0 where there is none
 pub record PendingAfter : Type 0 where
   pub pending : List ℕ
   pub refusal : ℕ
 
-abbrev pub pendingAfter : List ℕ → ℕ → PendingAfter
-pendingAfter pending refusal = record { pending = pending; refusal = refusal }
+abbrev pub pending_after : List ℕ → ℕ → PendingAfter
+pending_after pending refusal = record { pending = pending; refusal = refusal }
 
-abbrev pub pendingBy : Reply → Runner → List ℕ → PendingAfter
-pendingBy Reply.Ok r store = pendingAfter (pendingOf r store) 0
-pendingBy (Reply.Refused x) r store = pendingAfter [] (number x)
+abbrev pub pending_by : Reply → Runner → List ℕ → PendingAfter
+pending_by Reply.Ok r store = pending_after (pending_of r store) 0
+pending_by (Reply.Refused x) r store = pending_after [] (number x)
 
-unfoldable pub pendingInput : Runner → List ℕ → PendingAfter
-pendingInput r store = pendingBy (stop r (bytesDo r.limits store)) r store
+unfoldable pub pending_input : Runner → List ℕ → PendingAfter
+pending_input r store = pending_by (stop r (bytes_do r.limits store)) r store
 
 -- what input_written leaves: its answer with the state, and the length store
 pub record WrittenAfter : Type 0 where
   pub noting : Noting
   pub lengths : List ℕ
 
-abbrev pub writtenAfter : Noting → List ℕ → WrittenAfter
-writtenAfter n lengths = record { noting = n; lengths = lengths }
+abbrev pub written_after : Noting → List ℕ → WrittenAfter
+written_after n lengths = record { noting = n; lengths = lengths }
 
-abbrev pub writtenBy : Reply → Runner → ℕ → List ℕ → WrittenAfter
-writtenBy Reply.Ok r count lengths =
-    writtenAfter (record { runner = writtenNext r count lengths; reply = Reply.Ok }) (writtenLengths r count lengths)
-writtenBy (Reply.Refused x) r count lengths = writtenAfter (record { runner = r; reply = Reply.Refused x }) lengths
+abbrev pub written_by : Reply → Runner → ℕ → List ℕ → WrittenAfter
+written_by Reply.Ok r count lengths =
+    written_after (record { runner = written_next r count lengths; reply = Reply.Ok }) (written_lengths r count lengths)
+written_by (Reply.Refused x) r count lengths = written_after (record { runner = r; reply = Reply.Refused x }) lengths
 
-unfoldable pub inputWritten : Runner → ℕ → List ℕ → WrittenAfter
-inputWritten r count lengths = writtenBy (stop r (lengthsDo r.limits lengths)) r count lengths
+unfoldable pub input_written : Runner → ℕ → List ℕ → WrittenAfter
+input_written r count lengths = written_by (stop r (lengths_do r.limits lengths)) r count lengths
 
-unfoldable pub inputClosed : Runner → Noting
-inputClosed r = noting (stop r true) (closeRunnerInput r) r
+unfoldable pub input_closed : Runner → Noting
+input_closed r = noting (stop r true) (close_runner_input r) r
 
 unfoldable pub exited : Runner → ℕ → MaybeStatus → Noting
-exited r now status = noting (stop r true) (exitedNext r now status) r
+exited r now status = noting (stop r true) (exited_next r now status) r
 
 unfoldable pub settled : Runner → Settlement → Noting
-settled r s = noting (stop r true) (settledNext r s) r
+settled r s = noting (stop r true) (settled_next r s) r
 
 unfoldable pub dropped : Runner → ℕ → Noting
-dropped r now = noting (stop r true) (detachNext r now Cause.Dropped) r
+dropped r now = noting (stop r true) (detach_next r now Cause.Dropped) r
 
 unfoldable pub reset : Runner → ℕ → Noting
-reset r now = noting (stop r true) (detachNext r now Cause.Reset) r
+reset r now = noting (stop r true) (detach_next r now Cause.Reset) r
 
 unfoldable pub disconnect : Runner → ℕ → Noting
-disconnect r now = noting (stop r true) (detachNext r now Cause.Disconnected) r
+disconnect r now = noting (stop r true) (detach_next r now Cause.Disconnected) r
 
 unfoldable pub tick : Runner → ℕ → Noting
 tick r now = noting (stop r true) (ticked r now) r
 
-abbrev pub whenBy : Reply → Deadline → When
-whenBy Reply.Ok d = When.Is d
-whenBy (Reply.Refused x) d = When.Refused x
+abbrev pub when_by : Reply → Deadline → When
+when_by Reply.Ok d = When.Is d
+when_by (Reply.Refused x) d = When.Refused x
 
 unfoldable pub deadline : Runner → When
-deadline r = whenBy (stop r true) (deadlineOf r)
+deadline r = when_by (stop r true) (deadline_of r)
 
-abbrev pub askedFor : Wish → Asked
-askedFor Wish.None = Asked.None
-askedFor (Wish.Request q) = Asked.Request q
+abbrev pub asked_for : Wish → Asked
+asked_for Wish.None = Asked.None
+asked_for (Wish.Request q) = Asked.Request q
 
-abbrev pub requestBy : Reply → Runner → Asking
-requestBy Reply.Ok r = record { runner = wishEffect (wish r) r; asked = askedFor (wish r) }
-requestBy (Reply.Refused x) r = record { runner = r; asked = Asked.Refused x }
+abbrev pub request_by : Reply → Runner → Asking
+request_by Reply.Ok r = record { runner = wish_effect (wish r) r; asked = asked_for (wish r) }
+request_by (Reply.Refused x) r = record { runner = r; asked = Asked.Refused x }
 
-unfoldable pub nextRequest : Runner → Asking
-nextRequest r = requestBy (stop r true) r
+unfoldable pub next_request : Runner → Asking
+next_request r = request_by (stop r true) r
 
 -- a choice, then its effect and its answer
-abbrev pub chosenBy : Choice → Runner → (store buffer : List ℕ) → MessageAfter
-chosenBy c r store buffer = messageAfter (record { runner = effect c r; said = saidFor c r }) (bufferAfter c r store buffer)
+abbrev pub chosen_by : Choice → Runner → (store buffer : List ℕ) → MessageAfter
+chosen_by c r store buffer = message_after (record { runner = effect c r; said = said_for c r }) (buffer_after c r store buffer)
 
-abbrev pub messageBy : Reply → Runner → (store buffer : List ℕ) → MessageAfter
-messageBy Reply.Ok r store buffer = chosenBy (choose r (length buffer)) r store buffer
-messageBy (Reply.Refused x) r store buffer = messageAfter (record { runner = r; said = Said.Refused x }) buffer
+abbrev pub message_by : Reply → Runner → (store buffer : List ℕ) → MessageAfter
+message_by Reply.Ok r store buffer = chosen_by (choose r (length buffer)) r store buffer
+message_by (Reply.Refused x) r store buffer = message_after (record { runner = r; said = Said.Refused x }) buffer
 
-unfoldable pub nextMessage : Runner → (store buffer : List ℕ) → MessageAfter
-nextMessage r store buffer = messageBy (stop r (bytesDo r.limits store)) r store buffer
+unfoldable pub next_message : Runner → (store buffer : List ℕ) → MessageAfter
+next_message r store buffer = message_by (stop r (bytes_do r.limits store)) r store buffer
 
-unfoldable pub isFinished : Runner → Truth
-isFinished r = told (stop r true) r.flags.finished
+unfoldable pub is_finished : Runner → Truth
+is_finished r = told (stop r true) r.flags.finished
 
-unfoldable pub isDetached : Runner → Truth
-isDetached r = told (stop r true) r.flags.detached
+unfoldable pub is_detached : Runner → Truth
+is_detached r = told (stop r true) r.flags.detached
 
-unfoldable pub awaitsSettlement : Runner → Truth
-awaitsSettlement r = told (stop r true) (isRequested r.life.settling)
+unfoldable pub awaits_settlement : Runner → Truth
+awaits_settlement r = told (stop r true) (is_requested r.life.settling)
 
-unfoldable pub memoryBound : Runner → Count
-memoryBound r = counted (stop r true) (byteNeed r.limits)
+unfoldable pub memory_bound : Runner → Count
+memory_bound r = counted (stop r true) (byte_need r.limits)
 
 unfoldable pub buffered : Runner → Count
 buffered r = counted (stop r true) (State.buffered r)
 
-unfoldable pub highWater : Runner → Count
-highWater r = counted (stop r true) r.high_water
+unfoldable pub high_water : Runner → Count
+high_water r = counted (stop r true) r.high_water

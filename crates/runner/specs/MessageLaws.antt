@@ -9,46 +9,46 @@ use Rattle.exec.specs.declared.Stream.{Stream}
 use Rattle.exec.specs.declared.Stream.TheVariants.{Stdout, Stderr}
 use Rattle.exec.specs.declared.Unit as Units
 use Rattle.exec.specs.declared.Unit.TheVariants.{Bytes, Frames}
-use Rattle.exec.specs.Limits.{cost, poolOf}
-use Rattle.exec.specs.Stream.{streamAt, following}
+use Rattle.exec.specs.Limits.{cost, pool_of}
+use Rattle.exec.specs.Stream.{stream_at, following}
 use Rattle.ring.specs.RingLaws.{read_length}
-use Rattle.inbox.specs.Need.{byteNeed}
+use Rattle.inbox.specs.Need.{byte_need}
 use Rattle.inbox.specs.RangeLaws.{both}
 use Rattle.credit.specs.Sender.{sendable}
 use Rattle.choice.specs.declared.Choice.{Choice}
 use Rattle.runner.specs.declared.runner.Runner.{Runner}
-use Rattle.choice.specs.Order.{ifElse, order}
-use Rattle.input.specs.Input.{canGrant}
-use Rattle.runner.specs.Life.{awaitsLaunch, isReady}
-use Rattle.runner.specs.Message.{sendableOf, untold, choose, payload}
-use Rattle.runner.specs.Range.{bytesDo, stop}
-use Rattle.runner.specs.RangeLaws.{Queued, InRange, Good, is-good}
-use Rattle.runner.specs.State.{outOf, base, creditAt}
+use Rattle.choice.specs.Order.{if_else, order}
+use Rattle.input.specs.Input.{can_grant}
+use Rattle.runner.specs.Life.{awaits_launch, is_ready}
+use Rattle.runner.specs.Message.{sendable_of, untold, choose, payload}
+use Rattle.runner.specs.Range.{bytes_do, stop}
+use Rattle.runner.specs.RangeLaws.{Queued, InRange, Good, is_good_lem}
+use Rattle.runner.specs.State.{out_of, base, credit_at}
 
 -- the account of its pool has the cost of n bytes
 pub record Payable (r : Runner) (x : Stream) (n : ℕ) : Type 0 where
-  pub paid : cost r.limits.output.unit n ≤ (creditAt (poolOf r.limits x) r.credits).available
+  pub paid : cost r.limits.output.unit n ≤ (credit_at (pool_of r.limits x) r.credits).available
 
 -- n bytes are queued in the store, and fit the buffer
 pub record Sendable (r : Runner) (x : Stream) (n : ℕ) (store buffer : List ℕ) : Type 0 where
   pub area : base x r.limits.chunk + r.limits.chunk ≤ length store
-  pub queue : Queued r.limits.chunk (outOf x r)
-  pub queued : n ≤ (outOf x r).queued
+  pub queue : Queued r.limits.chunk (out_of x r)
+  pub queued : n ≤ (out_of x r).queued
   pub fits : n ≤ length buffer
 
 -- something is said
-abbrev pub isSaid : Choice → Bool
-isSaid Choice.None = false
-isSaid Choice.Credit = true
-isSaid Choice.Started = true
-isSaid Choice.InputClosed = true
-isSaid (Choice.End x) = true
-isSaid (Choice.Output x n) = true
-isSaid Choice.Terminal = true
+abbrev pub is_said : Choice → Bool
+is_said Choice.None = false
+is_said Choice.Credit = true
+is_said Choice.Started = true
+is_said Choice.InputClosed = true
+is_said (Choice.End x) = true
+is_said (Choice.Output x n) = true
+is_said Choice.Terminal = true
 
 -- where something is said it was chosen, of a runner in range with a store that does
 abbrev pub Sayable : Choice → Runner → (store buffer : List ℕ) → Type 0
-Sayable c r store buffer = isSaid c ≡ true → InRange r × (byteNeed r.limits ≤ length store) × (c ≡ choose r (length buffer))
+Sayable c r store buffer = is_said c ≡ true → InRange r × (byte_need r.limits ≤ length store) × (c ≡ choose r (length buffer))
 
 -- ---- the choice of an output is of what its stream can send
 
@@ -62,8 +62,8 @@ Of P (Choice.End x) = Unit
 Of P (Choice.Output x n) = P x n
 Of P Choice.Terminal = Unit
 
-either : (P : Choice → Type 0) (b : Bool) (x y : Choice) → (b ≡ true → P x) → P y → P (ifElse b x y)
-unfolding ifElse
+either : (P : Choice → Type 0) (b : Bool) (x y : Choice) → (b ≡ true → P x) → P y → P (if_else b x y)
+unfolding if_else
 either P true x y hx hy = hx refl
 either P false x y hx hy = hy
 
@@ -88,16 +88,16 @@ module _ (P : Stream → ℕ → Type 0) (finished detached can credited started
       (either (Of P) ready _ _ (λ _. tt) tt))))))))))
 
 pub record Chosen (r : Runner) (buffer : ℕ) (x : Stream) (n : ℕ) : Type 0 where
-  pub bytes : n ≡ sendableOf r buffer x
+  pub bytes : n ≡ sendable_of r buffer x
   pub some_bytes : 0 < n
 
 pub chosen : (r : Runner) (buffer : ℕ) (x : Stream) (n : ℕ) → Choice.Output x n ≡ choose r buffer → Chosen r buffer x n
 unfolding choose Of
 chosen r buffer x n e =
-    let x₁ = streamAt r.turn in
+    let x₁ = stream_at r.turn in
     let all : Of (Chosen r buffer) (choose r buffer) =
-    ordered (Chosen r buffer) r.flags.finished r.flags.detached (canGrant r.input) r.flags.credited r.flags.started_message
-    r.input.closed_message (awaitsLaunch r) (untold r Stdout) (untold r Stderr) (isReady r) x₁ (sendableOf r buffer x₁) (sendableOf r buffer (following x₁))
+    ordered (Chosen r buffer) r.flags.finished r.flags.detached (can_grant r.input) r.flags.credited r.flags.started_message
+    r.input.closed_message (awaits_launch r) (untold r Stdout) (untold r Stderr) (is_ready r) x₁ (sendable_of r buffer x₁) (sendable_of r buffer (following x₁))
     (λ h. record { bytes = refl; some_bytes = h }) (λ h. record { bytes = refl; some_bytes = h }) in
     rw (← e) at all
 
@@ -121,24 +121,24 @@ affordable Frames available m h = at (ltb 0 available) refl h
     at true e p = ltb-true 0 available e
     at false e p = absurd (omega arith)
 
-pub area_of : (r : Runner) (x : Stream) (store : List ℕ) → byteNeed r.limits ≤ length store → base x r.limits.chunk + r.limits.chunk ≤ length store
+pub area_of : (r : Runner) (x : Stream) (store : List ℕ) → byte_need r.limits ≤ length store → base x r.limits.chunk + r.limits.chunk ≤ length store
 area_of r Stdout store h = omega arith
 area_of r Stderr store h = omega arith
 
-module _ (r : Runner) (x : Stream) (n : ℕ) (store buffer : List ℕ) (h : InRange r) (need : byteNeed r.limits ≤ length store)
+module _ (r : Runner) (x : Stream) (n : ℕ) (store buffer : List ℕ) (h : InRange r) (need : byte_need r.limits ≤ length store)
     (e : Choice.Output x n ≡ choose r (length buffer)) where
   c : Chosen r (length buffer) x n
   c = chosen r (length buffer) x n e
 
-  pub is-payable : Payable r x n
-  unfolding sendableOf
-  is-payable = record { paid = rw c.bytes (affordable _ _ _ (rw c.bytes at c.some_bytes)) }
+  pub is_payable : Payable r x n
+  unfolding sendable_of
+  is_payable = record { paid = rw c.bytes (affordable _ _ _ (rw c.bytes at c.some_bytes)) }
 
-  pub is-sendable : Sendable r x n store buffer
-  unfolding sendableOf
-  is-sendable =
-      let m = min (min (outOf x r).queued r.limits.chunk) (length buffer) in
-      let l = least r.limits.output.unit (creditAt (poolOf r.limits x) r.credits).available m in
+  pub is_sendable : Sendable r x n store buffer
+  unfolding sendable_of
+  is_sendable =
+      let m = min (min (out_of x r).queued r.limits.chunk) (length buffer) in
+      let l = least r.limits.output.unit (credit_at (pool_of r.limits x) r.credits).available m in
       record {
         area = area_of r x store need;
         queue = h.queue x;
@@ -147,11 +147,11 @@ module _ (r : Runner) (x : Stream) (n : ℕ) (store buffer : List ℕ) (h : InRa
       }
 
 -- the bytes of an output message that is chosen are as many as it says
-pub payload-length : (r : Runner) (store buffer : List ℕ) (x : Stream) (n : ℕ) → stop r (bytesDo r.limits store) ≡ Reply.Ok
+pub payload_length : (r : Runner) (store buffer : List ℕ) (x : Stream) (n : ℕ) → stop r (bytes_do r.limits store) ≡ Reply.Ok
     → Choice.Output x n ≡ choose r (length buffer) → length (payload r x n store) ≡ n
 unfolding payload
-payload-length r store buffer x n g e =
-    let good : Good r (bytesDo r.limits store) = is-good r (bytesDo r.limits store) g in
-    let b : Sendable r x n store buffer = is-sendable r x n store buffer good.range (leb-true (byteNeed r.limits) (length store) good.stores-do) e in
+payload_length r store buffer x n g e =
+    let good : Good r (bytes_do r.limits store) = is_good_lem r (bytes_do r.limits store) g in
+    let b : Sendable r x n store buffer = is_sendable r x n store buffer good.range (leb-true (byte_need r.limits) (length store) good.stores_do_lem) e in
     let most = b.queued in let within = b.queue.most in
-    read_length (base x r.limits.chunk) r.limits.chunk (outOf x r).start n store b.area b.queue.begins (omega arith)
+    read_length (base x r.limits.chunk) r.limits.chunk (out_of x r).start n store b.area b.queue.begins (omega arith)

@@ -7,43 +7,43 @@ use Rattle.exec.specs.declared.MaybeCause.TheVariants as MaybeCause
 use Rattle.exec.specs.declared.Refusal.TheVariants.{NoLimits, StoreShort, StateOutOfRange}
 use Rattle.exec.specs.declared.Reply.{Reply}
 use Rattle.exec.specs.declared.Timers.{Timers}
-use Rattle.exec.specs.Limits.{isValid}
-use Rattle.exec.specs.Time.{timeoutAt}
-use Rattle.inbox.specs.Need.{byteNeed, lengthNeed}
-use Rattle.inbox.specs.Range.{inboxFits}
-use Rattle.credit.specs.Sender.{newCredit}
+use Rattle.exec.specs.Limits.{is_valid}
+use Rattle.exec.specs.Time.{timeout_at}
+use Rattle.inbox.specs.Need.{byte_need, length_need}
+use Rattle.inbox.specs.Range.{inbox_fits}
+use Rattle.credit.specs.Sender.{new_credit}
 use Rattle.lifecycle.specs.declared.life.Exit.TheVariants as Exit
 use Rattle.lifecycle.specs.declared.life.Launch.TheVariants as Launch
 use Rattle.lifecycle.specs.declared.life.Settling.TheVariants as Settling
-use Rattle.input.specs.Input.{newInput}
-use Rattle.output.specs.Output.{newOutput}
-use Rattle.output.specs.Outputs.{outputsFit}
+use Rattle.input.specs.Input.{new_input}
+use Rattle.output.specs.Output.{new_output}
+use Rattle.output.specs.Outputs.{outputs_fit}
 use Rattle.runner.specs.declared.runner.Runner.{Runner}
-use Rattle.runner.specs.State.{flagsOf, creditsFit}
+use Rattle.runner.specs.State.{flags_of, credits_fit}
 
 -- queues, starts, credit, units and turn are in their ranges
-unfoldable pub inRange : Runner → Bool
-inRange r =
-    ((outputsFit r.limits.chunk r.outputs && creditsFit r.credits)
-    && inboxFits r.limits r.input.window r.input.inbox)
+unfoldable pub in_range : Runner → Bool
+in_range r =
+    ((outputs_fit r.limits.chunk r.outputs && credits_fit r.credits)
+    && inbox_fits r.limits r.input.window r.input.inbox)
     && leb r.turn 1
 
 -- a lent store is not below its need
-abbrev pub bytesDo : Limits → List ℕ → Bool
-bytesDo l bytes = leb (byteNeed l) (length bytes)
+abbrev pub bytes_do : Limits → List ℕ → Bool
+bytes_do l bytes = leb (byte_need l) (length bytes)
 
-abbrev pub lengthsDo : Limits → List ℕ → Bool
-lengthsDo l lengths = leb (lengthNeed l) (length lengths)
+abbrev pub lengths_do : Limits → List ℕ → Bool
+lengths_do l lengths = leb (length_need l) (length lengths)
 
 -- what open meets: no limits (10), then, unless the lent stores do, a short store (11); Ok where it is neither
-abbrev pub openStop : Limits → (stores : Bool) → Reply
-openStop l stores =
-    cond (not (isValid l)) (Reply.Refused NoLimits)
+abbrev pub open_stop : Limits → (stores : Bool) → Reply
+open_stop l stores =
+    cond (not (is_valid l)) (Reply.Refused NoLimits)
     (cond (not stores) (Reply.Refused StoreShort) Reply.Ok)
 
 -- what any other call meets: a state out of range (12), and then the same
 unfoldable pub stop : Runner → (stores : Bool) → Reply
-stop r stores = cond (not (inRange r)) (Reply.Refused StateOutOfRange) (openStop r.limits stores)
+stop r stores = cond (not (in_range r)) (Reply.Refused StateOutOfRange) (open_stop r.limits stores)
 
 -- ---- open
 
@@ -54,7 +54,7 @@ fresh k l t now = record {
   limits = l;
   timers = t;
   clocks = record {
-    timeout_at = timeoutAt t.timeout now;
+    timeout_at = timeout_at t.timeout now;
     grace_until = Never;
     give_up_at = Never;
     abandon_at = Never;
@@ -67,10 +67,10 @@ fresh k l t now = record {
     terminate_request = MaybeCause.None;
     settling = Settling.Idle;
   };
-  flags = flagsOf false false false false false false false;
-  input = newInput l.input.size;
-  outputs = newOutput ∷ newOutput ∷ [];
-  credits = newCredit l.output.size ∷ newCredit l.output.size ∷ [];
+  flags = flags_of false false false false false false false;
+  input = new_input l.input.size;
+  outputs = new_output ∷ new_output ∷ [];
+  credits = new_credit l.output.size ∷ new_credit l.output.size ∷ [];
   turn = 0;
   high_water = 0;
 }

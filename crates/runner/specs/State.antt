@@ -1,15 +1,15 @@
 -- The runner's state with some of its parts set, and its parts by stream and by pool.
 use Rattle.std.specs.Prelude.{ℕ, ◌+◌, Bool, cond, List, [], ◌∷◌, eqb, get_or}
 use Rattle.exec.specs.declared.Stream.{Stream}
-use Rattle.exec.specs.Stream.{index, pick, everyStream}
+use Rattle.exec.specs.Stream.{index, pick, every_stream}
 use Rattle.credit.specs.declared.sender.Credit.{Credit}
-use Rattle.credit.specs.Sender.{newCredit, creditFits}
+use Rattle.credit.specs.Sender.{new_credit, credit_fits}
 use Rattle.lifecycle.specs.declared.clocks.Clocks.{Clocks}
 use Rattle.lifecycle.specs.declared.flags.Flags.{Flags}
 use Rattle.lifecycle.specs.declared.life.Life.{Life}
 use Rattle.input.specs.declared.Input.{Input}
 use Rattle.output.specs.declared.Output.{Output}
-use Rattle.output.specs.Outputs.{outputIn, putOutput, queuedOf}
+use Rattle.output.specs.Outputs.{output_in, put_output, queued_of}
 use Rattle.runner.specs.declared.runner.Runner.{Runner}
 
 -- ---- parts set
@@ -30,24 +30,24 @@ with c l f i os r = record {
   high_water = r.high_water;
 }
 
-abbrev pub withClocks : Clocks → Runner → Runner
-withClocks c r = with c r.life r.flags r.input r.outputs r
+abbrev pub with_clocks : Clocks → Runner → Runner
+with_clocks c r = with c r.life r.flags r.input r.outputs r
 
-abbrev pub withLife : Life → Runner → Runner
-withLife l r = with r.clocks l r.flags r.input r.outputs r
+abbrev pub with_life : Life → Runner → Runner
+with_life l r = with r.clocks l r.flags r.input r.outputs r
 
-abbrev pub withFlags : Flags → Runner → Runner
-withFlags f r = with r.clocks r.life f r.input r.outputs r
+abbrev pub with_flags : Flags → Runner → Runner
+with_flags f r = with r.clocks r.life f r.input r.outputs r
 
-abbrev pub withInput : Input → Runner → Runner
-withInput i r = with r.clocks r.life r.flags i r.outputs r
+abbrev pub with_input : Input → Runner → Runner
+with_input i r = with r.clocks r.life r.flags i r.outputs r
 
-abbrev pub withOutputs : List Output → Runner → Runner
-withOutputs os r = with r.clocks r.life r.flags r.input os r
+abbrev pub with_outputs : List Output → Runner → Runner
+with_outputs os r = with r.clocks r.life r.flags r.input os r
 
 -- what the messages move
-abbrev pub withFlow : List Credit → ℕ → Flags → ℕ → Runner → Runner
-withFlow cs turn flags high r = record {
+abbrev pub with_flow : List Credit → ℕ → Flags → ℕ → Runner → Runner
+with_flow cs turn flags high r = record {
   key = r.key;
   limits = r.limits;
   timers = r.timers;
@@ -62,11 +62,11 @@ withFlow cs turn flags high r = record {
 }
 
 -- the flags, in their order
-abbrev pub flagsOf : (started settle gaveUp left detached credited finished : Bool) → Flags
-flagsOf started settle gaveUp left detached credited finished = record {
+abbrev pub flags_of : (started settle gave_up left detached credited finished : Bool) → Flags
+flags_of started settle gave_up left detached credited finished = record {
   started_message = started;
   settle_request = settle;
-  gave_up = gaveUp;
+  gave_up = gave_up;
   launch_abandoned = left;
   detached = detached;
   credited = credited;
@@ -75,12 +75,12 @@ flagsOf started settle gaveUp left detached credited finished = record {
 
 -- ---- the outputs
 
-abbrev pub outOf : Stream → Runner → Output
-outOf x r = outputIn x r.outputs
+abbrev pub out_of : Stream → Runner → Output
+out_of x r = output_in x r.outputs
 
 -- one stream's output changed, every other kept
 abbrev pub at : Stream → (Output → Output) → Runner → Runner
-at x f r = withOutputs (putOutput x (f (outOf x r)) r.outputs) r
+at x f r = with_outputs (put_output x (f (out_of x r)) r.outputs) r
 
 -- where a stream's ring begins in the byte store: stdout's comes first
 abbrev pub base : Stream → (chunk : ℕ) → ℕ
@@ -90,23 +90,23 @@ base x chunk = pick x 0 chunk
 
 -- (an empty one where the list is too short)
 abbrev pub credit0 : List Credit → Credit
-credit0 cs = get_or cs 0 (newCredit 0)
+credit0 cs = get_or cs 0 (new_credit 0)
 
 abbrev pub credit1 : List Credit → Credit
-credit1 cs = get_or cs 1 (newCredit 0)
+credit1 cs = get_or cs 1 (new_credit 0)
 
 -- the account at a position, 0 or 1
-abbrev pub creditAt : ℕ → List Credit → Credit
-creditAt i cs = cond (eqb i 0) (credit0 cs) (credit1 cs)
+abbrev pub credit_at : ℕ → List Credit → Credit
+credit_at i cs = cond (eqb i 0) (credit0 cs) (credit1 cs)
 
-abbrev pub putCredit : ℕ → Credit → List Credit → List Credit
-putCredit i c cs = cond (eqb i 0) c (credit0 cs) ∷ cond (eqb i 0) (credit1 cs) c ∷ []
+abbrev pub put_credit : ℕ → Credit → List Credit → List Credit
+put_credit i c cs = cond (eqb i 0) c (credit0 cs) ∷ cond (eqb i 0) (credit1 cs) c ∷ []
 
 -- no account has more than its window
-abbrev pub creditsFit : List Credit → Bool
-creditsFit cs = everyStream (λ (x : Stream). creditFits (creditAt (index x) cs))
+abbrev pub credits_fit : List Credit → Bool
+credits_fit cs = every_stream (λ (x : Stream). credit_fits (credit_at (index x) cs))
 
 -- ---- the bytes held
 
 abbrev pub buffered : Runner → ℕ
-buffered r = queuedOf r.outputs + r.input.inbox.length
+buffered r = queued_of r.outputs + r.input.inbox.length

@@ -8,148 +8,148 @@ use Rattle.exec.specs.declared.Received.TheVariants.{Receipt, Refused}
 use Rattle.exec.specs.declared.Refusal.TheVariants as Refusal
 use Rattle.exec.specs.declared.Reply.{Reply}
 use Rattle.exec.specs.declared.Stream.{Stream}
-use Rattle.ring.specs.Ring.{ringWrite}
+use Rattle.ring.specs.Ring.{ring_write}
 use Rattle.credit.specs.declared.sender.Credit.{Credit}
 use Rattle.credit.specs.Sender.{grantable, grant}
 use Rattle.input.specs.Input as Input
-use Rattle.output.specs.Output.{allowance, takes, keeps, intake, closedOut, failedOut, hungUp, lostOut}
+use Rattle.output.specs.Output.{allowance, takes, keeps, intake, closed_out, failed_out, hung_up, lost_out}
 use Rattle.runner.specs.declared.answer.Hearing.{Hearing}
 use Rattle.runner.specs.declared.answer.Taken.TheVariants as Taken
 use Rattle.runner.specs.declared.answer.Taking.{Taking}
 use Rattle.runner.specs.declared.runner.Runner.{Runner}
 use Rattle.runner.specs.RangeLaws.{stopped}
-use Rattle.runner.specs.State.{withInput, withFlow, outOf, at, base, creditAt, putCredit, buffered}
+use Rattle.runner.specs.State.{with_input, with_flow, out_of, at, base, credit_at, put_credit, buffered}
 
 -- ---- output: closed or given up, it takes 0; while discarding it takes all and keeps none; else min(length, chunk - queued)
 
 -- closed or given up
-abbrev pub isShut : Stream → Runner → Bool
-isShut x r = (outOf x r).closed || r.flags.gave_up
+abbrev pub is_shut : Stream → Runner → Bool
+is_shut x r = (out_of x r).closed || r.flags.gave_up
 
 abbrev pub room : Stream → Runner → ℕ
-room x r = r.limits.chunk - (outOf x r).queued
+room x r = r.limits.chunk - (out_of x r).queued
 
-unfoldable pub outputTaken : Runner → Stream → ℕ → ℕ
-outputTaken r x n = takes (isShut x r) (outOf x r).discarding (room x r) n
+unfoldable pub output_taken : Runner → Stream → ℕ → ℕ
+output_taken r x n = takes (is_shut x r) (out_of x r).discarding (room x r) n
 
 -- the stream's output with n bytes more
-abbrev pub outputFilled : Runner → Stream → ℕ → Runner
-outputFilled r x n = at x (intake (isShut x r) (outOf x r).discarding (room x r) n) r
+abbrev pub output_filled : Runner → Stream → ℕ → Runner
+output_filled r x n = at x (intake (is_shut x r) (out_of x r).discarding (room x r) n) r
 
 -- none are kept: closed, given up or discarding
-abbrev pub keepsNone : Stream → Runner → Bool
-keepsNone x r = isShut x r || (outOf x r).discarding
+abbrev pub keeps_none : Stream → Runner → Bool
+keeps_none x r = is_shut x r || (out_of x r).discarding
 
 -- the high water is noted where bytes are kept
-unfoldable pub outputNext : Runner → Stream → ℕ → Runner
-outputNext r x n =
-    withFlow r.credits r.turn r.flags
-    (cond (keepsNone x r) r.high_water (max r.high_water (buffered (outputFilled r x n))))
-    (outputFilled r x n)
+unfoldable pub output_next : Runner → Stream → ℕ → Runner
+output_next r x n =
+    with_flow r.credits r.turn r.flags
+    (cond (keeps_none x r) r.high_water (max r.high_water (buffered (output_filled r x n))))
+    (output_filled r x n)
 
-unfoldable pub outputStore : Runner → Stream → (bytes store : List ℕ) → List ℕ
-outputStore r x bytes store =
-    ringWrite (base x r.limits.chunk) r.limits.chunk (outOf x r).start (outOf x r).queued bytes
-    (keeps (isShut x r) (outOf x r).discarding (room x r) (length bytes)) store
+unfoldable pub output_store : Runner → Stream → (bytes store : List ℕ) → List ℕ
+output_store r x bytes store =
+    ring_write (base x r.limits.chunk) r.limits.chunk (out_of x r).start (out_of x r).queued bytes
+    (keeps (is_shut x r) (out_of x r).discarding (room x r) (length bytes)) store
 
 -- what output leaves: its answer with the state, and the byte store
 pub record OutputAfter : Type 0 where
   pub taking : Taking
   pub bytes : List ℕ
 
-abbrev pub outputAfter : Taking → List ℕ → OutputAfter
-outputAfter t store = record { taking = t; bytes = store }
+abbrev pub output_after : Taking → List ℕ → OutputAfter
+output_after t store = record { taking = t; bytes = store }
 
-unfoldable pub outputTook : Runner → Stream → (bytes store : List ℕ) → OutputAfter
-outputTook r x bytes store =
-    outputAfter
-    (record { runner = outputNext r x (length bytes); taken = Taken.Bytes (outputTaken r x (length bytes)) })
-    (outputStore r x bytes store)
+unfoldable pub output_took : Runner → Stream → (bytes store : List ℕ) → OutputAfter
+output_took r x bytes store =
+    output_after
+    (record { runner = output_next r x (length bytes); taken = Taken.Bytes (output_taken r x (length bytes)) })
+    (output_store r x bytes store)
 
-unfoldable pub readAllowanceOf : Runner → Stream → ℕ
-readAllowanceOf r x = allowance (outOf x r) r.flags.gave_up r.limits.chunk
+unfoldable pub read_allowance_of : Runner → Stream → ℕ
+read_allowance_of r x = allowance (out_of x r) r.flags.gave_up r.limits.chunk
 
-unfoldable pub discardedNext : Runner → Stream → ℕ → Runner
-discardedNext r x n = at x (lostOut (ltb 0 n)) r
+unfoldable pub discarded_next : Runner → Stream → ℕ → Runner
+discarded_next r x n = at x (lost_out (ltb 0 n)) r
 
-unfoldable pub closedNext : Runner → Stream → Runner
-closedNext r x = at x closedOut r
+unfoldable pub closed_next : Runner → Stream → Runner
+closed_next r x = at x closed_out r
 
-unfoldable pub failedNext : Runner → Stream → Runner
-failedNext r x = at x failedOut r
+unfoldable pub failed_next : Runner → Stream → Runner
+failed_next r x = at x failed_out r
 
-unfoldable pub hungUpNext : Runner → Stream → Runner
-hungUpNext r x = at x hungUp r
+unfoldable pub hung_up_next : Runner → Stream → Runner
+hung_up_next r x = at x hung_up r
 
 -- ---- credit: key, pool, finished (Late), then the grant
 
-unfoldable pub creditIn : PoolIndex → Runner → ℕ → Received
-creditIn (PoolIndex.Refused x) r units = Refused x
-creditIn (PoolIndex.At i) r units =
+unfoldable pub credit_in : PoolIndex → Runner → ℕ → Received
+credit_in (PoolIndex.Refused x) r units = Refused x
+credit_in (PoolIndex.At i) r units =
     cond r.flags.finished (Receipt Late)
-    (cond (grantable (creditAt i r.credits) units) (Receipt Applied) (Refused Refusal.Credit))
+    (cond (grantable (credit_at i r.credits) units) (Receipt Applied) (Refused Refusal.Credit))
 
-unfoldable pub creditAnswer : Admission → PoolIndex → Runner → ℕ → Received
-creditAnswer (Admission.Refused x) p r units = Refused x
-creditAnswer Admission.Stale p r units = Receipt Stale
-creditAnswer Admission.Own p r units = creditIn p r units
+unfoldable pub credit_answer : Admission → PoolIndex → Runner → ℕ → Received
+credit_answer (Admission.Refused x) p r units = Refused x
+credit_answer Admission.Stale p r units = Receipt Stale
+credit_answer Admission.Own p r units = credit_in p r units
 
 -- the accounts after it: a grant that is refused leaves them
-abbrev pub creditsIn : PoolIndex → Bool → ℕ → List Credit → List Credit
-creditsIn (PoolIndex.Refused x) finished units cs = cs
-creditsIn (PoolIndex.At i) finished units cs =
-    cond (not finished && grantable (creditAt i cs) units) (putCredit i (grant (creditAt i cs) units).credit cs) cs
+abbrev pub credits_in : PoolIndex → Bool → ℕ → List Credit → List Credit
+credits_in (PoolIndex.Refused x) finished units cs = cs
+credits_in (PoolIndex.At i) finished units cs =
+    cond (not finished && grantable (credit_at i cs) units) (put_credit i (grant (credit_at i cs) units).credit cs) cs
 
-abbrev pub creditsAfter : Admission → PoolIndex → Bool → ℕ → List Credit → List Credit
-creditsAfter (Admission.Refused x) p finished units cs = cs
-creditsAfter Admission.Stale p finished units cs = cs
-creditsAfter Admission.Own p finished units cs = creditsIn p finished units cs
+abbrev pub credits_after : Admission → PoolIndex → Bool → ℕ → List Credit → List Credit
+credits_after (Admission.Refused x) p finished units cs = cs
+credits_after Admission.Stale p finished units cs = cs
+credits_after Admission.Own p finished units cs = credits_in p finished units cs
 
-unfoldable pub creditNext : Admission → PoolIndex → Runner → ℕ → Runner
-creditNext a p r units =
-    withFlow (creditsAfter a p r.flags.finished units r.credits) r.turn r.flags r.high_water r
+unfoldable pub credit_next : Admission → PoolIndex → Runner → ℕ → Runner
+credit_next a p r units =
+    with_flow (credits_after a p r.flags.finished units r.credits) r.turn r.flags r.high_water r
 
 -- ---- input: key, finished (Late), Ended, Chunk, Window, then closed
 
 -- the message is for an execution that still takes it
-abbrev pub isTaken : Admission → Runner → Bool
-isTaken (Admission.Refused x) r = false
-isTaken Admission.Stale r = false
-isTaken Admission.Own r = not r.flags.finished
+abbrev pub is_taken : Admission → Runner → Bool
+is_taken (Admission.Refused x) r = false
+is_taken Admission.Stale r = false
+is_taken Admission.Own r = not r.flags.finished
 
 -- the answer to one that is not: of a call that meets none of refusals 12, 10 and 11, and of any
-abbrev pub metBy : Admission → Received
-metBy (Admission.Refused x) = Refused x
-metBy Admission.Stale = Receipt Stale
-metBy Admission.Own = Receipt Late
+abbrev pub met_by : Admission → Received
+met_by (Admission.Refused x) = Refused x
+met_by Admission.Stale = Receipt Stale
+met_by Admission.Own = Receipt Late
 
 abbrev pub met : (good : Bool) → Admission → Runner → Received
-met good a r = cond good (metBy a) (Refused (stopped r))
+met good a r = cond good (met_by a) (Refused (stopped r))
 
-unfoldable pub inputAnswer : Admission → Runner → ℕ → Received
-inputAnswer (Admission.Refused x) r n = Refused x
-inputAnswer Admission.Stale r n = Receipt Stale
-inputAnswer Admission.Own r n = cond r.flags.finished (Receipt Late) (Input.receiveAnswer r.limits r.input n)
+unfoldable pub input_answer : Admission → Runner → ℕ → Received
+input_answer (Admission.Refused x) r n = Refused x
+input_answer Admission.Stale r n = Receipt Stale
+input_answer Admission.Own r n = cond r.flags.finished (Receipt Late) (Input.receive_answer r.limits r.input n)
 
 -- it is kept in the inbox
-abbrev pub isKept : Admission → Runner → ℕ → Bool
-isKept a r n = isTaken a r && Input.isKept r.limits r.input n
+abbrev pub is_kept : Admission → Runner → ℕ → Bool
+is_kept a r n = is_taken a r && Input.is_kept r.limits r.input n
 
-abbrev pub inputReceived : Admission → Runner → ℕ → Runner
-inputReceived a r n =
-    withInput (cond (isTaken a r) (Input.receiveInput r.limits r.input n) r.input) r
+abbrev pub input_received : Admission → Runner → ℕ → Runner
+input_received a r n =
+    with_input (cond (is_taken a r) (Input.receive_input r.limits r.input n) r.input) r
 
-unfoldable pub inputNext : Admission → Runner → ℕ → Runner
-inputNext a r n =
-    withFlow r.credits r.turn r.flags
-    (cond (isKept a r n) (max r.high_water (buffered (inputReceived a r n))) r.high_water)
-    (inputReceived a r n)
+unfoldable pub input_next : Admission → Runner → ℕ → Runner
+input_next a r n =
+    with_flow r.credits r.turn r.flags
+    (cond (is_kept a r n) (max r.high_water (buffered (input_received a r n))) r.high_water)
+    (input_received a r n)
 
-unfoldable pub inputStore : Admission → Runner → (bytes store : List ℕ) → List ℕ
-inputStore a r bytes store = cond (isTaken a r) (Input.receiveBytes r.limits r.input bytes store) store
+unfoldable pub input_store : Admission → Runner → (bytes store : List ℕ) → List ℕ
+input_store a r bytes store = cond (is_taken a r) (Input.receive_bytes r.limits r.input bytes store) store
 
-unfoldable pub inputLengths : Admission → Runner → ℕ → List ℕ → List ℕ
-inputLengths a r n lengths = cond (isTaken a r) (Input.receiveLengths r.limits r.input n lengths) lengths
+unfoldable pub input_lengths : Admission → Runner → ℕ → List ℕ → List ℕ
+input_lengths a r n lengths = cond (is_taken a r) (Input.receive_lengths r.limits r.input n lengths) lengths
 
 -- what input leaves: its answer with the state, and both stores
 pub record InputAfter : Type 0 where
@@ -157,37 +157,37 @@ pub record InputAfter : Type 0 where
   pub bytes : List ℕ
   pub lengths : List ℕ
 
-abbrev pub inputAfter : Hearing → (store lengths : List ℕ) → InputAfter
-inputAfter h store lengths = record { hearing = h; bytes = store; lengths = lengths }
+abbrev pub input_after : Hearing → (store lengths : List ℕ) → InputAfter
+input_after h store lengths = record { hearing = h; bytes = store; lengths = lengths }
 
 unfoldable pub received : Admission → Runner → (bytes store lengths : List ℕ) → InputAfter
 received a r bytes store lengths =
-    inputAfter
-    (record { runner = inputNext a r (length bytes); received = inputAnswer a r (length bytes) })
-    (inputStore a r bytes store) (inputLengths a r (length bytes) lengths)
+    input_after
+    (record { runner = input_next a r (length bytes); received = input_answer a r (length bytes) })
+    (input_store a r bytes store) (input_lengths a r (length bytes) lengths)
 
 -- a grant's reply as the answer to its message
-abbrev pub receiptOf : Reply → Received
-receiptOf Reply.Ok = Receipt Applied
-receiptOf (Reply.Refused x) = Refused x
+abbrev pub receipt_of : Reply → Received
+receipt_of Reply.Ok = Receipt Applied
+receipt_of (Reply.Refused x) = Refused x
 
 -- ---- end_input
 
-unfoldable pub endAnswer : Admission → Runner → Received
-endAnswer (Admission.Refused x) r = Refused x
-endAnswer Admission.Stale r = Receipt Stale
-endAnswer Admission.Own r = cond r.flags.finished (Receipt Late) (Input.endAnswer r.input)
+unfoldable pub end_answer : Admission → Runner → Received
+end_answer (Admission.Refused x) r = Refused x
+end_answer Admission.Stale r = Receipt Stale
+end_answer Admission.Own r = cond r.flags.finished (Receipt Late) (Input.end_answer r.input)
 
-unfoldable pub endNext : Admission → Runner → Runner
-endNext a r = withInput (cond (isTaken a r) (Input.endInput r.input) r.input) r
+unfoldable pub end_next : Admission → Runner → Runner
+end_next a r = with_input (cond (is_taken a r) (Input.end_input r.input) r.input) r
 
 -- ---- the workload's side of the input
 
-unfoldable pub pendingOf : Runner → List ℕ → List ℕ
-pendingOf r store = Input.pendingInput r.limits r.input store
+unfoldable pub pending_of : Runner → List ℕ → List ℕ
+pending_of r store = Input.pending_input r.limits r.input store
 
-unfoldable pub writtenNext : Runner → ℕ → List ℕ → Runner
-writtenNext r count lengths = withInput (Input.writtenInput r.limits r.input count lengths) r
+unfoldable pub written_next : Runner → ℕ → List ℕ → Runner
+written_next r count lengths = with_input (Input.written_input r.limits r.input count lengths) r
 
-unfoldable pub writtenLengths : Runner → ℕ → List ℕ → List ℕ
-writtenLengths r count lengths = Input.writtenLengths r.limits r.input count lengths
+unfoldable pub written_lengths : Runner → ℕ → List ℕ → List ℕ
+written_lengths r count lengths = Input.written_lengths r.limits r.input count lengths

@@ -1,44 +1,44 @@
 // The runner in time: terminations, the timers and what they do, launch, exit and settlement.
 ghost use Rattle.std.specs.Prelude.{◌≡◌};
 ghost use Rattle.runner.specs.Life.{
-  awaitsLaunch,
-  isCleanedUp,
-  closeRunnerInput,
-  endGrace,
-  giveUp,
-  abandonLaunch,
-  abandonOpenStreams,
-  beginTermination,
-  passGrace,
+  awaits_launch,
+  is_cleaned_up,
+  close_runner_input,
+  end_grace,
+  give_up,
+  abandon_launch,
+  abandon_open_streams,
+  begin_termination,
+  pass_grace,
   terminate,
-  passTimeout,
-  passSettlement,
-  giveUpUnlessClean,
-  passGiveUp,
-  dropLaunch,
-  dropStreams,
-  passAbandonment,
+  pass_timeout,
+  pass_settlement,
+  give_up_unless_clean,
+  pass_give_up,
+  drop_launch,
+  drop_streams,
+  pass_abandonment,
   fire,
-  anyDue,
+  any_due,
   ticked,
-  deadlineOf,
+  deadline_of,
   cancelled,
-  noteStarted,
-  noteLaunch,
-  launchedNext,
-  noteExit,
-  isOver,
-  noteExitOnce,
-  timeoutCleared,
-  exitedNext,
-  settledNext,
+  note_started,
+  note_launch,
+  launched_next,
+  note_exit,
+  is_over,
+  note_exit_once,
+  timeout_cleared,
+  exited_next,
+  settled_next,
   silenced,
-  giveUpSoon,
-  cutOff,
-  cutOffOnce,
-  detachNext,
-  isReady,
-  outcomeOf,
+  give_up_soon,
+  cut_off,
+  cut_off_once,
+  detach_next,
+  is_ready,
+  outcome_of,
 };
 
 use crate::answer::Hearing;
@@ -52,7 +52,7 @@ use output::outputs::{
 impl Runner {
     // Whether the launch result is still waited for.
     pub(crate) fn awaits_launch(self) -> bool
-        ensures { result ≡ awaitsLaunch self }
+        ensures { result ≡ awaits_launch self }
     {
         let life = self.life;
         let launch = life.launch;
@@ -61,7 +61,7 @@ impl Runner {
 
     // Whether nothing is left to give up on but the delivery of the last messages.
     fn is_cleaned_up(self) -> bool
-        ensures { result ≡ isCleanedUp self }
+        ensures { result ≡ is_cleaned_up self }
     {
         let life = self.life;
         let launch = life.launch;
@@ -72,9 +72,9 @@ impl Runner {
     }
 
     // The workload's input closed, other than by the runner's request.
-    #[tactic(auto, unfolding(crate::specs::Life::closeRunnerInput))]
+    #[tactic(auto, unfolding(crate::specs::Life::close_runner_input))]
     pub(crate) fn close_input(mut self) -> Runner
-        ensures { result ≡ closeRunnerInput self }
+        ensures { result ≡ close_runner_input self }
     {
         let open = self.input;
         let input = open.close(self.flags.detached);
@@ -83,9 +83,9 @@ impl Runner {
     }
 
     // Ends the grace of pending output.
-    #[tactic(auto, unfolding(crate::specs::Life::endGrace))]
+    #[tactic(auto, unfolding(crate::specs::Life::end_grace))]
     fn end_grace(mut self) -> Runner
-        ensures { result ≡ endGrace self }
+        ensures { result ≡ end_grace self }
     {
         let was = self.clocks;
         let clocks = was.set_grace_until(Deadline::Never);
@@ -97,9 +97,9 @@ impl Runner {
     }
 
     // Gives up on the execution after a termination.
-    #[tactic(auto, unfolding(crate::specs::Life::giveUp))]
+    #[tactic(auto, unfolding(crate::specs::Life::give_up))]
     fn give_up(mut self) -> Runner
-        ensures { result ≡ giveUp self }
+        ensures { result ≡ give_up self }
     {
         let was = self.clocks;
         let clocks = was.stop_waiting();
@@ -116,9 +116,9 @@ impl Runner {
     }
 
     // Gives up on the launch result, and fences the execution.
-    #[tactic(auto, unfolding(crate::specs::Life::abandonLaunch))]
+    #[tactic(auto, unfolding(crate::specs::Life::abandon_launch))]
     fn abandon_launch(mut self) -> Runner
-        ensures { result ≡ abandonLaunch self }
+        ensures { result ≡ abandon_launch self }
     {
         let lived = self.life;
         let life = lived.set_settling(Settling::Fenced);
@@ -128,9 +128,9 @@ impl Runner {
     }
 
     // Gives up on the streams that neither closed nor hung up.
-    #[tactic(auto, unfolding(crate::specs::Life::abandonOpenStreams))]
+    #[tactic(auto, unfolding(crate::specs::Life::abandon_open_streams))]
     fn abandon_open_streams(mut self) -> Runner
-        ensures { result ≡ abandonOpenStreams self }
+        ensures { result ≡ abandon_open_streams self }
     {
         let was = self.clocks;
         let clocks = was.set_abandon_at(Deadline::Never);
@@ -141,9 +141,9 @@ impl Runner {
         self
     }
 
-    #[tactic(auto, unfolding(crate::specs::Life::beginTermination))]
+    #[tactic(auto, unfolding(crate::specs::Life::begin_termination))]
     fn begin_termination(mut self, now: u64, cause: Cause) -> Runner
-        ensures { result ≡ beginTermination self now cause }
+        ensures { result ≡ begin_termination self now cause }
     {
         let was = self.clocks;
         let clocks = was.terminate(now, self.timers.grace, self.timers.settlement);
@@ -171,9 +171,9 @@ impl Runner {
 
     // The timers, each if it is due.
 
-    #[tactic(auto, unfolding(crate::specs::Life::passTimeout))]
+    #[tactic(auto, unfolding(crate::specs::Life::pass_timeout))]
     fn pass_timeout(mut self, now: u64) -> Runner
-        ensures { result ≡ passTimeout self now }
+        ensures { result ≡ pass_timeout self now }
     {
         let clocks = self.clocks;
         let at = clocks.timeout_at;
@@ -185,9 +185,9 @@ impl Runner {
         self
     }
 
-    #[tactic(auto, unfolding(crate::specs::Life::passGrace))]
+    #[tactic(auto, unfolding(crate::specs::Life::pass_grace))]
     fn pass_grace(self, now: u64) -> Runner
-        ensures { result ≡ passGrace self now }
+        ensures { result ≡ pass_grace self now }
     {
         let clocks = self.clocks;
         let at = clocks.grace_until;
@@ -197,9 +197,9 @@ impl Runner {
         self
     }
 
-    #[tactic(auto, unfolding(crate::specs::Life::passSettlement))]
+    #[tactic(auto, unfolding(crate::specs::Life::pass_settlement))]
     fn pass_settlement(mut self, now: u64) -> Runner
-        ensures { result ≡ passSettlement self now }
+        ensures { result ≡ pass_settlement self now }
     {
         let lived = self.life;
         let life = lived.expire(now);
@@ -207,9 +207,9 @@ impl Runner {
         self
     }
 
-    #[tactic(auto, unfolding(crate::specs::Life::passGiveUp))]
+    #[tactic(auto, unfolding(crate::specs::Life::pass_give_up))]
     fn pass_give_up(self, now: u64) -> Runner
-        ensures { result ≡ passGiveUp self now }
+        ensures { result ≡ pass_give_up self now }
     {
         let clocks = self.clocks;
         let at = clocks.give_up_at;
@@ -219,9 +219,9 @@ impl Runner {
         self
     }
 
-    #[tactic(auto, unfolding(crate::specs::Life::giveUpUnlessClean))]
+    #[tactic(auto, unfolding(crate::specs::Life::give_up_unless_clean))]
     fn give_up_unless_clean(mut self) -> Runner
-        ensures { result ≡ giveUpUnlessClean self }
+        ensures { result ≡ give_up_unless_clean self }
     {
         if self.is_cleaned_up() {
             let clocks = self.clocks;
@@ -232,9 +232,9 @@ impl Runner {
         self.give_up()
     }
 
-    #[tactic(auto, unfolding(crate::specs::Life::dropLaunch))]
+    #[tactic(auto, unfolding(crate::specs::Life::drop_launch))]
     fn drop_launch(self) -> Runner
-        ensures { result ≡ dropLaunch self }
+        ensures { result ≡ drop_launch self }
     {
         if self.awaits_launch() {
             return self.abandon_launch();
@@ -242,9 +242,9 @@ impl Runner {
         self
     }
 
-    #[tactic(auto, unfolding(crate::specs::Life::dropStreams))]
+    #[tactic(auto, unfolding(crate::specs::Life::drop_streams))]
     fn drop_streams(self) -> Runner
-        ensures { result ≡ dropStreams self }
+        ensures { result ≡ drop_streams self }
     {
         let life = self.life;
         let settling = life.settling;
@@ -254,9 +254,9 @@ impl Runner {
         self
     }
 
-    #[tactic(auto, unfolding(crate::specs::Life::passAbandonment))]
+    #[tactic(auto, unfolding(crate::specs::Life::pass_abandonment))]
     fn pass_abandonment(self, now: u64) -> Runner
-        ensures { result ≡ passAbandonment self now }
+        ensures { result ≡ pass_abandonment self now }
     {
         let clocks = self.clocks;
         let at = clocks.abandon_at;
@@ -282,7 +282,7 @@ impl Runner {
 
     // Whether a tick has something to do. It copies nothing, so it is asked before the runner is handed on.
     pub(crate) fn any_due(self, now: u64) -> bool
-        ensures { result ≡ anyDue self now }
+        ensures { result ≡ any_due self now }
     {
         let clocks = self.clocks;
         let life = self.life;
@@ -301,9 +301,9 @@ impl Runner {
         self
     }
 
-    #[tactic(auto, unfolding(crate::specs::Life::deadlineOf))]
+    #[tactic(auto, unfolding(crate::specs::Life::deadline_of))]
     pub(crate) fn deadline_of(self) -> Deadline
-        ensures { result ≡ deadlineOf self }
+        ensures { result ≡ deadline_of self }
     {
         if self.flags.finished {
             return Deadline::Never;
@@ -337,9 +337,9 @@ impl Runner {
     }
 
     // The launch result.
-    #[tactic(auto, unfolding(crate::specs::Life::launchedNext))]
+    #[tactic(auto, unfolding(crate::specs::Life::launched_next))]
     pub(crate) fn launch(self, report: LaunchResult) -> Runner
-        ensures { result ≡ launchedNext self report }
+        ensures { result ≡ launched_next self report }
     {
         if self.awaits_launch() {
             return self.note_launch(report);
@@ -347,9 +347,9 @@ impl Runner {
         self
     }
 
-    #[tactic(auto, unfolding(crate::specs::Life::noteLaunch))]
+    #[tactic(auto, unfolding(crate::specs::Life::note_launch))]
     fn note_launch(mut self, report: LaunchResult) -> Runner
-        ensures { result ≡ noteLaunch self report }
+        ensures { result ≡ note_launch self report }
     {
         match report {
             LaunchResult::Started => self.note_started(),
@@ -362,9 +362,9 @@ impl Runner {
         }
     }
 
-    #[tactic(auto, unfolding(crate::specs::Life::noteStarted))]
+    #[tactic(auto, unfolding(crate::specs::Life::note_started))]
     fn note_started(mut self) -> Runner
-        ensures { result ≡ noteStarted self }
+        ensures { result ≡ note_started self }
     {
         let lived = self.life;
         let life = lived.set_launch(Launch::Started);
@@ -375,18 +375,18 @@ impl Runner {
     }
 
     // The workload's end.
-    #[tactic(auto, unfolding(crate::specs::Life::exitedNext))]
+    #[tactic(auto, unfolding(crate::specs::Life::exited_next))]
     pub(crate) fn exit(self, now: u64, status: MaybeStatus) -> Runner
-        ensures { result ≡ exitedNext self now status }
+        ensures { result ≡ exited_next self now status }
     {
         let a = self.clear_timeout();
         let b = a.ticked(now);
         b.note_exit_once(now, status)
     }
 
-    #[tactic(auto, unfolding(crate::specs::Life::noteExitOnce))]
+    #[tactic(auto, unfolding(crate::specs::Life::note_exit_once))]
     fn note_exit_once(self, now: u64, status: MaybeStatus) -> Runner
-        ensures { result ≡ noteExitOnce self now status }
+        ensures { result ≡ note_exit_once self now status }
     {
         if self.is_over() {
             return self;
@@ -396,16 +396,16 @@ impl Runner {
 
     // Whether the exit is known, or the runner gave up on it.
     fn is_over(self) -> bool
-        ensures { result ≡ isOver self }
+        ensures { result ≡ is_over self }
     {
         let life = self.life;
         let exit = life.exit;
         exit.is_known() | self.flags.gave_up
     }
 
-    #[tactic(auto, unfolding(crate::specs::Life::noteExit))]
+    #[tactic(auto, unfolding(crate::specs::Life::note_exit))]
     fn note_exit(mut self, now: u64, status: MaybeStatus) -> Runner
-        ensures { result ≡ noteExit self now status }
+        ensures { result ≡ note_exit self now status }
     {
         let settlement = Deadline::after(now, self.timers.settlement);
         let was = self.clocks;
@@ -420,7 +420,7 @@ impl Runner {
 
     // The timeout fires no more.
     fn clear_timeout(mut self) -> Runner
-        ensures { result ≡ timeoutCleared self }
+        ensures { result ≡ timeout_cleared self }
     {
         let was = self.clocks;
         let clocks = was.set_timeout_at(Deadline::Never);
@@ -429,9 +429,9 @@ impl Runner {
     }
 
     // The result of the settlement, if one is awaited.
-    #[tactic(auto, unfolding(crate::specs::Life::settledNext))]
+    #[tactic(auto, unfolding(crate::specs::Life::settled_next))]
     pub(crate) fn settle(mut self, report: Settlement) -> Runner
-        ensures { result ≡ settledNext self report }
+        ensures { result ≡ settled_next self report }
     {
         let lived = self.life;
         let life = lived.settle(report);
@@ -440,17 +440,17 @@ impl Runner {
     }
 
     // Detaches the runner from the peer.
-    #[tactic(auto, unfolding(crate::specs::Life::detachNext))]
+    #[tactic(auto, unfolding(crate::specs::Life::detach_next))]
     pub(crate) fn detach(self, now: u64, cause: Cause) -> Runner
-        ensures { result ≡ detachNext self now cause }
+        ensures { result ≡ detach_next self now cause }
     {
         let r = self.ticked(now);
         r.cut_off_once(now, cause)
     }
 
-    #[tactic(auto, unfolding(crate::specs::Life::cutOffOnce))]
+    #[tactic(auto, unfolding(crate::specs::Life::cut_off_once))]
     fn cut_off_once(self, now: u64, cause: Cause) -> Runner
-        ensures { result ≡ cutOffOnce self now cause }
+        ensures { result ≡ cut_off_once self now cause }
     {
         if self.flags.finished | self.flags.detached {
             return self;
@@ -458,9 +458,9 @@ impl Runner {
         self.cut_off(now, cause)
     }
 
-    #[tactic(auto, unfolding(crate::specs::Life::cutOff))]
+    #[tactic(auto, unfolding(crate::specs::Life::cut_off))]
     fn cut_off(self, now: u64, cause: Cause) -> Runner
-        ensures { result ≡ cutOff self now cause }
+        ensures { result ≡ cut_off self now cause }
     {
         let a = self.terminate(now, cause);
         let b = a.set_detached();
@@ -480,9 +480,9 @@ impl Runner {
         self
     }
 
-    #[tactic(auto, unfolding(crate::specs::Life::giveUpSoon))]
+    #[tactic(auto, unfolding(crate::specs::Life::give_up_soon))]
     fn give_up_soon(mut self, now: u64) -> Runner
-        ensures { result ≡ giveUpSoon self now }
+        ensures { result ≡ give_up_soon self now }
     {
         let was = self.clocks;
         let clocks = was.give_up_by(now, self.timers.settlement);
@@ -491,9 +491,9 @@ impl Runner {
     }
 
     // Whether everything that the outcome reports is known.
-    #[tactic(auto, unfolding(crate::specs::Life::isReady))]
+    #[tactic(auto, unfolding(crate::specs::Life::is_ready))]
     pub(crate) fn is_ready(self) -> bool
-        ensures { result ≡ isReady self }
+        ensures { result ≡ is_ready self }
     {
         let life = self.life;
         let exit = life.exit;
@@ -504,9 +504,9 @@ impl Runner {
         ((!self.awaits_launch() & exit.is_known()) & delivered) & over
     }
 
-    #[tactic(auto, unfolding(crate::specs::Life::outcomeOf))]
+    #[tactic(auto, unfolding(crate::specs::Life::outcome_of))]
     pub(crate) fn outcome(self) -> Outcome
-        ensures { result ≡ outcomeOf self }
+        ensures { result ≡ outcome_of self }
     {
         let stdout = self.outputs[0];
         let stderr = self.outputs[1];

@@ -1,20 +1,20 @@
 // What the runner says next, and what it asks of the adapter: a choice by what the state shows, and then its effect.
 ghost use Rattle.std.specs.Prelude.{◌≡◌, true, ◌≤◌, length};
-ghost use Rattle.inbox.specs.Need.{byteNeed};
+ghost use Rattle.inbox.specs.Need.{byte_need};
 ghost use Rattle.exec.specs.Stream.{index, following};
 ghost use Rattle.runner.specs.Message.{
-  sendableOf,
+  sendable_of,
   untold,
   choose,
-  outputPaid,
-  sentAfter,
-  sentOutput,
-  saidFor,
-  choiceOf,
-  answerOf,
-  sayAfter,
+  output_paid,
+  sent_after,
+  sent_output,
+  said_for,
+  choice_of,
+  answer_of,
+  say_after,
   say,
-  wishFor,
+  wish_for,
   wish,
   handed,
 };
@@ -39,9 +39,9 @@ pub enum Wish {
 
 impl Runner {
     // How many bytes of a stream one message may carry now.
-    #[tactic(auto, unfolding(crate::specs::Message::sendableOf))]
+    #[tactic(auto, unfolding(crate::specs::Message::sendable_of))]
     fn sendable_of(self, buffer: usize, stream: Stream) -> u32
-        ensures { result ≡ sendableOf self buffer stream }
+        ensures { result ≡ sendable_of self buffer stream }
     {
         let outputs = self.outputs;
         let output = output_in(stream, outputs);
@@ -102,7 +102,7 @@ impl Runner {
     // The choice of a call, given whether it meets none of refusals 12, 10 and 11.
     pub(crate) fn choice(self, good: bool, buffer: usize) -> Choice
         requires { good ≡ true → InRange self }
-        ensures { result ≡ choiceOf good self buffer }
+        ensures { result ≡ choice_of good self buffer }
     {
         if good {
             return self.choose(buffer);
@@ -112,7 +112,7 @@ impl Runner {
 
     // Its answer.
     pub(crate) fn answer(self, good: bool, choice: Choice) -> Said
-        ensures { result ≡ answerOf good choice self }
+        ensures { result ≡ answer_of good choice self }
     {
         if good {
             return self.said(choice);
@@ -121,9 +121,9 @@ impl Runner {
     }
 
     // What is said.
-    #[tactic(auto, unfolding(crate::specs::Message::saidFor))]
+    #[tactic(auto, unfolding(crate::specs::Message::said_for))]
     fn said(self, choice: Choice) -> Said
-        ensures { result ≡ saidFor choice self }
+        ensures { result ≡ said_for choice self }
     {
         match choice {
             Choice::None => Said::None,
@@ -144,10 +144,10 @@ impl Runner {
     }
 
     // The runner once it is said. It is changed in place and handed back at one place, so that saying nothing copies nothing.
-    #[tactic(auto, unfolding(crate::specs::Message::say, crate::specs::Message::effect, crate::specs::Message::bufferAfter, crate::specs::Message::outputSent, crate::specs::Message::outputPaid, crate::specs::Message::sentOutput))]
+    #[tactic(auto, unfolding(crate::specs::Message::say, crate::specs::Message::effect, crate::specs::Message::buffer_after, crate::specs::Message::output_sent, crate::specs::Message::output_paid, crate::specs::Message::sent_output))]
     pub(crate) fn say(mut self, choice: Choice, store: &[u8], buffer: &mut [u8]) -> Runner
         requires { Sayable choice self store.now buffer.old }
-        ensures { sayAfter result buffer.new ≡ say choice self store.now buffer.old }
+        ensures { say_after result buffer.new ≡ say choice self store.now buffer.old }
     {
         match choice {
             Choice::None => {}
@@ -191,10 +191,10 @@ impl Runner {
     }
 
     // The accounts once the cost of n bytes of a stream is spent.
-    #[tactic(auto, unfolding(crate::specs::Message::outputPaid))]
+    #[tactic(auto, unfolding(crate::specs::Message::output_paid))]
     fn paid(self, stream: Stream, n: u32) -> [Credit; 2]
         requires { Payable self stream n }
-        ensures { result ≡ (outputPaid stream n self).credits }
+        ensures { result ≡ (output_paid stream n self).credits }
     {
         let limits = self.limits;
         let window = limits.output;
@@ -206,10 +206,10 @@ impl Runner {
     }
 
     // The outputs once n bytes of a stream's queue are moved to the start of the buffer.
-    #[tactic(auto, unfolding(crate::specs::Message::sentOutput, crate::specs::Message::payload, output::specs::Output::sent))]
+    #[tactic(auto, unfolding(crate::specs::Message::sent_output, crate::specs::Message::payload, output::specs::Output::sent))]
     fn sent(self, stream: Stream, n: u32, store: &[u8], buffer: &mut [u8]) -> [Output; 2]
         requires { Sendable self stream n store.now buffer.old }
-        ensures { sentAfter result buffer.new ≡ sentOutput stream n self store.now buffer.old }
+        ensures { sent_after result buffer.new ≡ sent_output stream n self store.now buffer.old }
     {
         let limits = self.limits;
         let chunk = limits.chunk;
@@ -282,9 +282,9 @@ fn turn_after(stream: Stream) -> u8
 }
 
 // The order of requests.
-#[tactic(auto, unfolding(crate::specs::Message::wishFor))]
+#[tactic(auto, unfolding(crate::specs::Message::wish_for))]
 fn wish_for(cause: MaybeCause, discard0: bool, discard1: bool, close: bool, settle: bool) -> Wish
-    ensures { result ≡ wishFor cause discard0 discard1 close settle }
+    ensures { result ≡ wish_for cause discard0 discard1 close settle }
 {
     match cause {
         MaybeCause::Some(cause) => Wish::Request(Request::Terminate(cause)),

@@ -1,6 +1,6 @@
 // The rings of the streams and the credit accounts, which stand side by side, by stream and by pool.
 ghost use Rattle.std.specs.Prelude.{◌≡◌, cond, [], ◌∷◌};
-ghost use Rattle.runner.specs.State.{base, creditAt, putCredit, creditsFit};
+ghost use Rattle.runner.specs.State.{base, credit_at, put_credit, credits_fit};
 
 use credit::sender::Credit;
 use exec::Stream;
@@ -26,7 +26,7 @@ fn one_of(first: bool, a: Credit, b: Credit) -> Credit
 }
 
 pub(crate) fn credit_at(index: usize, credits: [Credit; 2]) -> Credit
-    ensures { result ≡ creditAt index credits }
+    ensures { result ≡ credit_at index credits }
 {
     let first = credits[0];
     let second = credits[1];
@@ -34,7 +34,7 @@ pub(crate) fn credit_at(index: usize, credits: [Credit; 2]) -> Credit
 }
 
 pub(crate) fn put_credit(index: usize, credit: Credit, credits: [Credit; 2]) -> [Credit; 2]
-    ensures { result ≡ putCredit index credit credits }
+    ensures { result ≡ put_credit index credit credits }
 {
     let first = credits[0];
     let second = credits[1];
@@ -45,7 +45,7 @@ pub(crate) fn put_credit(index: usize, credit: Credit, credits: [Credit; 2]) -> 
 
 // Whether no account has more than its window. It takes the accounts and not their array, which would be copied whole.
 pub(crate) fn credits_fit(first: Credit, second: Credit) -> bool
-    ensures { result ≡ creditsFit (first ∷ second ∷ []) }
+    ensures { result ≡ credits_fit (first ∷ second ∷ []) }
 {
     first.fits() & second.fits()
 }

@@ -1,8 +1,8 @@
 // What is met before a call: refusals 12, 10 and 11.
 ghost use Rattle.std.specs.Prelude.{◌≡◌, leb, length};
-ghost use Rattle.inbox.specs.Need.{byteNeed, lengthNeed};
-ghost use Rattle.runner.specs.Range.{inRange};
-ghost use Rattle.runner.specs.RangeLaws.{unopened, stopped, stopIf, stands, agrees};
+ghost use Rattle.inbox.specs.Need.{byte_need, length_need};
+ghost use Rattle.runner.specs.Range.{in_range};
+ghost use Rattle.runner.specs.RangeLaws.{unopened, stopped, stop_if, stands, agrees};
 
 use crate::answer::{Count, Hearing, Noting, Truth, When};
 use crate::pairs::credits_fit;
@@ -11,14 +11,14 @@ use exec::{Limits, Received, Refusal, Reply};
 
 // Whether a byte store of so many bytes does.
 pub(crate) fn bytes_do(limits: Limits, bytes: usize) -> bool
-    ensures { result ≡ leb (byteNeed limits) bytes }
+    ensures { result ≡ leb (byte_need limits) bytes }
 {
     inbox::need::byte_need(limits) <= bytes
 }
 
 // Whether a length store of so many lengths does.
 pub(crate) fn lengths_do(limits: Limits, lengths: usize) -> bool
-    ensures { result ≡ leb (lengthNeed limits) lengths }
+    ensures { result ≡ leb (length_need limits) lengths }
 {
     inbox::need::length_need(limits) <= lengths
 }
@@ -35,9 +35,9 @@ pub(crate) fn unopened(limits: Limits) -> Refusal
 
 impl Runner {
     // Whether queues, starts, credit, units and turn are in their ranges.
-    #[tactic(auto, unfolding(crate::specs::Range::inRange))]
+    #[tactic(auto, unfolding(crate::specs::Range::in_range))]
     pub(crate) fn in_range(self) -> bool
-        ensures { result ≡ inRange self }
+        ensures { result ≡ in_range self }
     {
         let limits = self.limits;
         let outputs = self.outputs;
@@ -91,9 +91,9 @@ impl Runner {
     }
 
     // The reply of a call with no result, given whether it meets none of the three.
-    #[tactic(auto, unfolding(crate::specs::RangeLaws::stopIf))]
+    #[tactic(auto, unfolding(crate::specs::RangeLaws::stop_if))]
     pub(crate) fn reply(self, good: bool) -> Reply
-        ensures { result ≡ stopIf good self }
+        ensures { result ≡ stop_if good self }
     {
         if good {
             return Reply::Ok;

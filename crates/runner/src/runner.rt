@@ -8,20 +8,20 @@ ghost use Rattle.runner.specs.Calls.{
   limits,
   credit,
   input,
-  endInput,
+  end_input,
   cancel,
   launched,
-  readAllowance,
+  read_allowance,
   output,
   discarded,
-  outputClosed,
-  outputFailed,
-  outputHungUp,
-  pendingAfter,
-  pendingInput,
-  writtenAfter,
-  inputWritten,
-  inputClosed,
+  output_closed,
+  output_failed,
+  output_hung_up,
+  pending_after,
+  pending_input,
+  written_after,
+  input_written,
+  input_closed,
   exited,
   settled,
   dropped,
@@ -29,18 +29,18 @@ ghost use Rattle.runner.specs.Calls.{
   disconnect,
   tick,
   deadline,
-  nextRequest,
-  nextMessage,
-  isFinished,
-  isDetached,
-  awaitsSettlement,
-  memoryBound,
+  next_request,
+  next_message,
+  is_finished,
+  is_detached,
+  awaits_settlement,
+  memory_bound,
   buffered,
-  highWater,
+  high_water,
 };
-ghost use Rattle.runner.specs.Message.{messageAfter};
+ghost use Rattle.runner.specs.Message.{message_after};
 ghost use Rattle.runner.specs.Range.{fresh};
-ghost use Rattle.runner.specs.Streams.{inputAfter, outputAfter};
+ghost use Rattle.runner.specs.Streams.{input_after, output_after};
 
 use crate::answer::{
     Asked, Asking, Count, Hearing, KeyAnswer, LimitsAnswer, Noting, Said, Saying, Taken, Taking,
@@ -199,9 +199,9 @@ impl Runner {
     }
 
     // Bytes of the workload's input from the peer. Once the input is closed they are dropped, and the charge stands.
-    #[tactic(auto, unfolding(crate::specs::Calls::input, crate::specs::Streams::received, crate::specs::Streams::inputNext, crate::specs::Streams::inputAnswer, crate::specs::Streams::inputStore, crate::specs::Streams::inputLengths), using(crate::proofs::Guards::tested_stop))]
+    #[tactic(auto, unfolding(crate::specs::Calls::input, crate::specs::Streams::received, crate::specs::Streams::input_next, crate::specs::Streams::input_answer, crate::specs::Streams::input_store, crate::specs::Streams::input_lengths), using(crate::proofs::Guards::tested_stop))]
     pub fn input(mut self, key: Key, store: &mut [u8], lengths: &mut [u32], bytes: &[u8]) -> Hearing
-        ensures { inputAfter result store.new lengths.new ≡ input self key bytes.now store.old lengths.old }
+        ensures { input_after result store.new lengths.new ≡ input self key bytes.now store.old lengths.old }
     {
         let limits = self.limits;
         let enough = bytes_do(limits, store.len()) & lengths_do(limits, lengths.len());
@@ -225,9 +225,9 @@ impl Runner {
     }
 
     // The end of the workload's input from the peer.
-    #[tactic(auto, unfolding(crate::specs::Calls::endInput), using(crate::proofs::Guards::tested_stop))]
+    #[tactic(auto, unfolding(crate::specs::Calls::end_input), using(crate::proofs::Guards::tested_stop))]
     pub fn end_input(self, key: Key) -> Hearing
-        ensures { result ≡ endInput self key }
+        ensures { result ≡ end_input self key }
     {
         if self.agrees(true) & self.stands() {
             let own = self.key;
@@ -239,7 +239,7 @@ impl Runner {
     // The peer's cancellation: it ends the workload for `cause`, and begins the grace of its pending output. Late once a
     // termination began or the execution ended; nothing at all for a stale key.
     // Its answers are all given here: a function below would copy the runner once more.
-    #[tactic(auto, unfolding(crate::specs::Calls::cancel, crate::specs::Life::cancelAnswer, crate::specs::Life::cancelNext, crate::specs::Life::cancelled), using(crate::proofs::Guards::tested_stop, crate::proofs::Quiet::ticked_is))]
+    #[tactic(auto, unfolding(crate::specs::Calls::cancel, crate::specs::Life::cancel_answer, crate::specs::Life::cancel_next, crate::specs::Life::cancelled), using(crate::proofs::Guards::tested_stop, crate::proofs::Quiet::ticked_is))]
     pub fn cancel(self, now: u64, key: Key, cause: Cause) -> Hearing
         ensures { result ≡ cancel self now key cause }
     {
@@ -297,9 +297,9 @@ impl Runner {
     }
 
     // How many more bytes of a stream may be read and handed over with `output`.
-    #[tactic(auto, unfolding(crate::specs::Calls::readAllowance), using(crate::proofs::Guards::tested_stop))]
+    #[tactic(auto, unfolding(crate::specs::Calls::read_allowance), using(crate::proofs::Guards::tested_stop))]
     pub fn read_allowance(self, stream: Stream) -> Count
-        ensures { result ≡ readAllowance self stream }
+        ensures { result ≡ read_allowance self stream }
     {
         if self.agrees(true) & self.stands() {
             return Count::Is(self.allowance(stream));
@@ -309,9 +309,9 @@ impl Runner {
 
     // Bytes that were read from a stream, in order, of which it takes as many as the allowance lets it. While the stream is
     // discarded it takes all, and drops them.
-    #[tactic(auto, unfolding(crate::specs::Calls::output, crate::specs::Streams::outputTook, crate::specs::Streams::outputNext, crate::specs::Streams::outputTaken, crate::specs::Streams::outputStore, output::specs::Output::takenIn), using(crate::proofs::Guards::tested_stop))]
+    #[tactic(auto, unfolding(crate::specs::Calls::output, crate::specs::Streams::output_took, crate::specs::Streams::output_next, crate::specs::Streams::output_taken, crate::specs::Streams::output_store, output::specs::Output::taken_in), using(crate::proofs::Guards::tested_stop))]
     pub fn output(mut self, stream: Stream, store: &mut [u8], bytes: &[u8]) -> Taking
-        ensures { outputAfter result store.new ≡ output self stream bytes.now store.old }
+        ensures { output_after result store.new ≡ output self stream bytes.now store.old }
     {
         let limits = self.limits;
         let enough = bytes_do(limits, store.len());
@@ -352,9 +352,9 @@ impl Runner {
     }
 
     // Every writer of a stream closed it.
-    #[tactic(auto, unfolding(crate::specs::Calls::outputClosed), using(crate::proofs::Guards::tested_stop))]
+    #[tactic(auto, unfolding(crate::specs::Calls::output_closed), using(crate::proofs::Guards::tested_stop))]
     pub fn output_closed(self, stream: Stream) -> Noting
-        ensures { result ≡ outputClosed self stream }
+        ensures { result ≡ output_closed self stream }
     {
         if self.agrees(true) & self.stands() {
             let runner = self.close_output(stream);
@@ -367,9 +367,9 @@ impl Runner {
     }
 
     // Reading a stream failed, which ends and truncates it.
-    #[tactic(auto, unfolding(crate::specs::Calls::outputFailed), using(crate::proofs::Guards::tested_stop))]
+    #[tactic(auto, unfolding(crate::specs::Calls::output_failed), using(crate::proofs::Guards::tested_stop))]
     pub fn output_failed(self, stream: Stream) -> Noting
-        ensures { result ≡ outputFailed self stream }
+        ensures { result ≡ output_failed self stream }
     {
         if self.agrees(true) & self.stands() {
             let runner = self.fail_output(stream);
@@ -382,9 +382,9 @@ impl Runner {
     }
 
     // Every writer of a stream closed it, though it is not read to its end.
-    #[tactic(auto, unfolding(crate::specs::Calls::outputHungUp), using(crate::proofs::Guards::tested_stop))]
+    #[tactic(auto, unfolding(crate::specs::Calls::output_hung_up), using(crate::proofs::Guards::tested_stop))]
     pub fn output_hung_up(self, stream: Stream) -> Noting
-        ensures { result ≡ outputHungUp self stream }
+        ensures { result ≡ output_hung_up self stream }
     {
         if self.agrees(true) & self.stands() {
             let runner = self.hang_up_output(stream);
@@ -398,9 +398,9 @@ impl Runner {
 
     // The bytes of input that the adapter writes to the workload next: those that wait from the ring's head to the end of its
     // area, as a part of the byte store. The refusal's number is left in `refusal`, 0 where there is none.
-    #[tactic(auto, unfolding(crate::specs::Calls::pendingInput, crate::specs::Streams::pendingOf), using(crate::proofs::Guards::tested_stop))]
+    #[tactic(auto, unfolding(crate::specs::Calls::pending_input, crate::specs::Streams::pending_of), using(crate::proofs::Guards::tested_stop))]
     pub fn pending_input<'a>(self, store: &'a [u8], refusal: &mut u32) -> &'a [u8]
-        ensures { pendingAfter result.now refusal.new ≡ pendingInput self store.now }
+        ensures { pending_after result.now refusal.new ≡ pending_input self store.now }
     {
         let limits = self.limits;
         let enough = bytes_do(limits, store.len());
@@ -414,9 +414,9 @@ impl Runner {
     }
 
     // The workload took so many bytes of its input.
-    #[tactic(auto, unfolding(crate::specs::Calls::inputWritten, crate::specs::Streams::writtenNext, crate::specs::Streams::writtenLengths, crate::specs::RangeLaws::stopIf), using(crate::proofs::Guards::tested_stop))]
+    #[tactic(auto, unfolding(crate::specs::Calls::input_written, crate::specs::Streams::written_next, crate::specs::Streams::written_lengths, crate::specs::RangeLaws::stop_if), using(crate::proofs::Guards::tested_stop))]
     pub fn input_written(mut self, lengths: &mut [u32], bytes: usize) -> Noting
-        ensures { writtenAfter result lengths.new ≡ inputWritten self bytes lengths.old }
+        ensures { written_after result lengths.new ≡ input_written self bytes lengths.old }
     {
         let limits = self.limits;
         let enough = lengths_do(limits, lengths.len());
@@ -434,9 +434,9 @@ impl Runner {
     }
 
     // The workload's input closed, other than by the runner's request.
-    #[tactic(auto, unfolding(crate::specs::Calls::inputClosed), using(crate::proofs::Guards::tested_stop))]
+    #[tactic(auto, unfolding(crate::specs::Calls::input_closed), using(crate::proofs::Guards::tested_stop))]
     pub fn input_closed(self) -> Noting
-        ensures { result ≡ inputClosed self }
+        ensures { result ≡ input_closed self }
     {
         if self.agrees(true) & self.stands() {
             let runner = self.close_input();
@@ -525,7 +525,7 @@ impl Runner {
 
     // Fires the timers whose instants `now` has reached. They are handed a copy, and what they do not move is left in its place, so
     // that a tick with nothing due copies nothing.
-    #[tactic(auto, unfolding(crate::specs::Calls::tick, crate::specs::RangeLaws::stopIf), using(crate::proofs::Guards::tested_stop, crate::proofs::Quiet::ticked_is, crate::proofs::Quiet::in_fire))]
+    #[tactic(auto, unfolding(crate::specs::Calls::tick, crate::specs::RangeLaws::stop_if), using(crate::proofs::Guards::tested_stop, crate::proofs::Quiet::ticked_is, crate::proofs::Quiet::in_fire))]
     pub fn tick(mut self, now: u64) -> Noting
         ensures { result ≡ tick self now }
     {
@@ -565,9 +565,9 @@ impl Runner {
     }
 
     // The next request to apply to the workload, if one waits.
-    #[tactic(auto, unfolding(crate::specs::Calls::nextRequest, crate::specs::Message::wishEffect), using(crate::proofs::Guards::tested_stop))]
+    #[tactic(auto, unfolding(crate::specs::Calls::next_request, crate::specs::Message::wish_effect), using(crate::proofs::Guards::tested_stop))]
     pub fn next_request(self) -> Asking
-        ensures { result ≡ nextRequest self }
+        ensures { result ≡ next_request self }
     {
         if self.agrees(true) & self.stands() {
             let wanted = self.wish();
@@ -595,9 +595,9 @@ impl Runner {
     }
 
     // The next message to send the peer, if one waits. An output message stands at the start of `buffer`.
-    #[tactic(auto, unfolding(crate::specs::Calls::nextMessage, crate::specs::Message::say), using(crate::proofs::Guards::tested_stop))]
+    #[tactic(auto, unfolding(crate::specs::Calls::next_message, crate::specs::Message::say), using(crate::proofs::Guards::tested_stop))]
     pub fn next_message(self, store: &[u8], buffer: &mut [u8]) -> Saying
-        ensures { messageAfter result buffer.new ≡ nextMessage self store.now buffer.old }
+        ensures { message_after result buffer.new ≡ next_message self store.now buffer.old }
     {
         let limits = self.limits;
         let enough = bytes_do(limits, store.len());
@@ -609,9 +609,9 @@ impl Runner {
     }
 
     // Whether the terminal outcome was returned.
-    #[tactic(auto, unfolding(crate::specs::Calls::isFinished), using(crate::proofs::Guards::tested_stop))]
+    #[tactic(auto, unfolding(crate::specs::Calls::is_finished), using(crate::proofs::Guards::tested_stop))]
     pub fn is_finished(self) -> Truth
-        ensures { result ≡ isFinished self }
+        ensures { result ≡ is_finished self }
     {
         if self.agrees(true) & self.stands() {
             return Truth::Is(self.flags.finished);
@@ -620,9 +620,9 @@ impl Runner {
     }
 
     // Whether the runner is detached from the peer.
-    #[tactic(auto, unfolding(crate::specs::Calls::isDetached), using(crate::proofs::Guards::tested_stop))]
+    #[tactic(auto, unfolding(crate::specs::Calls::is_detached), using(crate::proofs::Guards::tested_stop))]
     pub fn is_detached(self) -> Truth
-        ensures { result ≡ isDetached self }
+        ensures { result ≡ is_detached self }
     {
         if self.agrees(true) & self.stands() {
             return Truth::Is(self.flags.detached);
@@ -631,9 +631,9 @@ impl Runner {
     }
 
     // Whether the result of the settlement is awaited.
-    #[tactic(auto, unfolding(crate::specs::Calls::awaitsSettlement), using(crate::proofs::Guards::tested_stop))]
+    #[tactic(auto, unfolding(crate::specs::Calls::awaits_settlement), using(crate::proofs::Guards::tested_stop))]
     pub fn awaits_settlement(self) -> Truth
-        ensures { result ≡ awaitsSettlement self }
+        ensures { result ≡ awaits_settlement self }
     {
         if self.agrees(true) & self.stands() {
             let life = self.life;
@@ -644,9 +644,9 @@ impl Runner {
     }
 
     // The most bytes that the runner holds at once.
-    #[tactic(auto, unfolding(crate::specs::Calls::memoryBound), using(crate::proofs::Guards::tested_stop))]
+    #[tactic(auto, unfolding(crate::specs::Calls::memory_bound), using(crate::proofs::Guards::tested_stop))]
     pub fn memory_bound(self) -> Count
-        ensures { result ≡ memoryBound self }
+        ensures { result ≡ memory_bound self }
     {
         if self.agrees(true) & self.stands() {
             let limits = self.limits;
@@ -667,9 +667,9 @@ impl Runner {
     }
 
     // The most bytes that the runner has held at once.
-    #[tactic(auto, unfolding(crate::specs::Calls::highWater), using(crate::proofs::Guards::tested_stop))]
+    #[tactic(auto, unfolding(crate::specs::Calls::high_water), using(crate::proofs::Guards::tested_stop))]
     pub fn high_water(self) -> Count
-        ensures { result ≡ highWater self }
+        ensures { result ≡ high_water self }
     {
         if self.agrees(true) & self.stands() {
             return Count::Is(self.high_water);

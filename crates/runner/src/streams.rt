@@ -1,25 +1,25 @@
 // The output streams, the credit and the input: what each call does once it is not refused by 12, 10 or 11.
 ghost use Rattle.std.specs.Prelude.{◌≡◌, cond, not, ◌&&◌, ◌≤◌, ◌<◌, ◌^◌, max, length};
 ghost use Rattle.exec.specs.Key.{admits};
-ghost use Rattle.inbox.specs.Need.{byteNeed};
-ghost use Rattle.input.specs.Input.{isApplied};
-ghost use Rattle.runner.specs.Calls.{credit, accountingOf};
+ghost use Rattle.inbox.specs.Need.{byte_need};
+ghost use Rattle.input.specs.Input.{is_applied};
+ghost use Rattle.runner.specs.Calls.{credit, accounting_of};
 ghost use Rattle.runner.specs.RangeLaws.{InRange};
 ghost use Rattle.runner.specs.State.{buffered};
 ghost use Rattle.runner.specs.Streams.{
-  keepsNone,
-  readAllowanceOf,
-  discardedNext,
-  closedNext,
-  failedNext,
-  hungUpNext,
-  creditIn,
-  creditAnswer,
-  creditNext,
-  receiptOf,
-  endAnswer,
-  endNext,
-  isTaken,
+  keeps_none,
+  read_allowance_of,
+  discarded_next,
+  closed_next,
+  failed_next,
+  hung_up_next,
+  credit_in,
+  credit_answer,
+  credit_next,
+  receipt_of,
+  end_answer,
+  end_next,
+  is_taken,
   met,
 };
 
@@ -65,7 +65,7 @@ impl Runner {
     // Whether a message of the peer's does something, given whether it meets none of refusals 12, 10 and 11: its key is the
     // execution's own, and the outcome was not returned.
     pub(crate) fn hears(self, good: bool, key: Key) -> bool
-        ensures { result ≡ (good && isTaken (admits self.key key) self) }
+        ensures { result ≡ (good && is_taken (admits self.key key) self) }
     {
         let own = self.key;
         let admission = own.admits(key);
@@ -94,17 +94,17 @@ impl Runner {
 
     // Whether a stream's bytes are not kept: it closed, or the runner gave up on it or discards it.
     pub(crate) fn keeps_none(self, stream: Stream) -> bool
-        ensures { result ≡ keepsNone stream self }
+        ensures { result ≡ keeps_none stream self }
     {
         let outputs = self.outputs;
         let output = output_in(stream, outputs);
         (output.closed | self.flags.gave_up) | output.discarding
     }
 
-    #[tactic(auto, unfolding(crate::specs::Streams::readAllowanceOf))]
+    #[tactic(auto, unfolding(crate::specs::Streams::read_allowance_of))]
     pub(crate) fn allowance(self, stream: Stream) -> usize
         requires { InRange self }
-        ensures { result ≡ readAllowanceOf self stream }
+        ensures { result ≡ read_allowance_of self stream }
     {
         let outputs = self.outputs;
         let output = output_in(stream, outputs);
@@ -114,9 +114,9 @@ impl Runner {
 
     // What the adapter reports of a stream.
 
-    #[tactic(auto, unfolding(crate::specs::Streams::discardedNext))]
+    #[tactic(auto, unfolding(crate::specs::Streams::discarded_next))]
     pub(crate) fn discard_output(mut self, stream: Stream, bytes: usize) -> Runner
-        ensures { result ≡ discardedNext self stream bytes }
+        ensures { result ≡ discarded_next self stream bytes }
     {
         let outputs = self.outputs;
         let output = output_in(stream, outputs);
@@ -125,9 +125,9 @@ impl Runner {
         self
     }
 
-    #[tactic(auto, unfolding(crate::specs::Streams::closedNext))]
+    #[tactic(auto, unfolding(crate::specs::Streams::closed_next))]
     pub(crate) fn close_output(mut self, stream: Stream) -> Runner
-        ensures { result ≡ closedNext self stream }
+        ensures { result ≡ closed_next self stream }
     {
         let outputs = self.outputs;
         let output = output_in(stream, outputs);
@@ -136,9 +136,9 @@ impl Runner {
         self
     }
 
-    #[tactic(auto, unfolding(crate::specs::Streams::failedNext))]
+    #[tactic(auto, unfolding(crate::specs::Streams::failed_next))]
     pub(crate) fn fail_output(mut self, stream: Stream) -> Runner
-        ensures { result ≡ failedNext self stream }
+        ensures { result ≡ failed_next self stream }
     {
         let outputs = self.outputs;
         let output = output_in(stream, outputs);
@@ -147,9 +147,9 @@ impl Runner {
         self
     }
 
-    #[tactic(auto, unfolding(crate::specs::Streams::hungUpNext))]
+    #[tactic(auto, unfolding(crate::specs::Streams::hung_up_next))]
     pub(crate) fn hang_up_output(mut self, stream: Stream) -> Runner
-        ensures { result ≡ hungUpNext self stream }
+        ensures { result ≡ hung_up_next self stream }
     {
         let outputs = self.outputs;
         let output = output_in(stream, outputs);
@@ -161,7 +161,7 @@ impl Runner {
     // The peer's credit: what becomes of the accounts.
     #[tactic(auto, unfolding(crate::specs::Calls::credit), using(crate::proofs::Guards::tested_stop))]
     pub(crate) fn account_for(self, key: Key, pool: Pool, units: u32) -> Accounting
-        ensures { result ≡ accountingOf (credit self key pool units) }
+        ensures { result ≡ accounting_of (credit self key pool units) }
     {
         if self.agrees(true) & self.stands() {
             let own = self.key;
@@ -176,9 +176,9 @@ impl Runner {
         }
     }
 
-    #[tactic(auto, unfolding(crate::specs::Streams::creditAnswer, crate::specs::Streams::creditNext))]
+    #[tactic(auto, unfolding(crate::specs::Streams::credit_answer, crate::specs::Streams::credit_next))]
     fn grant_as(self, admission: Admission, pool: PoolIndex, units: u32) -> Accounting
-        ensures { result ≡ record { credits = (creditNext admission pool self units).credits; received = creditAnswer admission pool self units } }
+        ensures { result ≡ record { credits = (credit_next admission pool self units).credits; received = credit_answer admission pool self units } }
     {
         let credits = self.credits;
         match admission {
@@ -194,9 +194,9 @@ impl Runner {
         }
     }
 
-    #[tactic(auto, unfolding(crate::specs::Streams::creditIn, crate::specs::Streams::creditNext))]
+    #[tactic(auto, unfolding(crate::specs::Streams::credit_in, crate::specs::Streams::credit_next))]
     fn grant_in(self, pool: PoolIndex, units: u32) -> Accounting
-        ensures { result ≡ record { credits = (creditNext Admission.Own pool self units).credits; received = creditIn pool self units } }
+        ensures { result ≡ record { credits = (credit_next Admission.Own pool self units).credits; received = credit_in pool self units } }
     {
         let credits = self.credits;
         match pool {
@@ -208,9 +208,9 @@ impl Runner {
         }
     }
 
-    #[tactic(auto, unfolding(crate::specs::Streams::creditIn, crate::specs::Streams::creditNext))]
+    #[tactic(auto, unfolding(crate::specs::Streams::credit_in, crate::specs::Streams::credit_next))]
     fn grant_at(self, index: usize, units: u32) -> Accounting
-        ensures { result ≡ record { credits = (creditNext Admission.Own (PoolIndex.At index) self units).credits; received = creditIn (PoolIndex.At index) self units } }
+        ensures { result ≡ record { credits = (credit_next Admission.Own (PoolIndex.At index) self units).credits; received = credit_in (PoolIndex.At index) self units } }
     {
         let credits = self.credits;
         if self.flags.finished {
@@ -232,9 +232,9 @@ impl Runner {
     }
 
     // The peer's end of the input.
-    #[tactic(auto, unfolding(crate::specs::Streams::endAnswer, crate::specs::Streams::endNext))]
+    #[tactic(auto, unfolding(crate::specs::Streams::end_answer, crate::specs::Streams::end_next))]
     pub(crate) fn end_as(self, admission: Admission) -> Hearing
-        ensures { result ≡ record { runner = endNext admission self; received = endAnswer admission self } }
+        ensures { result ≡ record { runner = end_next admission self; received = end_answer admission self } }
     {
         match admission {
             Admission::Refused(refusal) => Hearing {
@@ -249,9 +249,9 @@ impl Runner {
         }
     }
 
-    #[tactic(auto, unfolding(crate::specs::Streams::endAnswer, crate::specs::Streams::endNext))]
+    #[tactic(auto, unfolding(crate::specs::Streams::end_answer, crate::specs::Streams::end_next))]
     fn end(mut self) -> Hearing
-        ensures { result ≡ record { runner = endNext Admission.Own self; received = endAnswer Admission.Own self } }
+        ensures { result ≡ record { runner = end_next Admission.Own self; received = end_answer Admission.Own self } }
     {
         if self.flags.finished {
             return Hearing {
@@ -280,7 +280,7 @@ fn larger(a: usize, b: usize) -> usize
 
 // Whether a message's bytes are not kept, by its answer.
 pub(crate) fn is_dropped(received: Received) -> bool
-    ensures { result ≡ not (isApplied received) }
+    ensures { result ≡ not (is_applied received) }
 {
     match received {
         Received::Refused(_) => true,
@@ -294,7 +294,7 @@ pub(crate) fn is_dropped(received: Received) -> bool
 
 // A grant's reply as the answer to its message.
 fn receipt_of(reply: Reply) -> Received
-    ensures { result ≡ receiptOf reply }
+    ensures { result ≡ receipt_of reply }
 {
     match reply {
         Reply::Ok => Received::Receipt(Receipt::Applied),

@@ -1,25 +1,25 @@
 -- Small examples, computed from the definition, of commas (44).
 use Rattle.std.specs.Prelude.{◌≡◌, refl, [], ◌∷◌}
-use Rattle.search.specs.Search.{indexOf}
+use Rattle.search.specs.Search.{index_of}
 
 -- ---- none: the length
-empty : indexOf 44 [] ≡ 0
-unfolding indexOf
+empty : index_of 44 [] ≡ 0
+unfolding index_of
 empty = refl
 
-absent : indexOf 44 (43 ∷ 45 ∷ []) ≡ 2
-unfolding indexOf
+absent : index_of 44 (43 ∷ 45 ∷ []) ≡ 2
+unfolding index_of
 absent = refl
 
 -- ---- at both ends, and twice
-first : indexOf 44 (44 ∷ 97 ∷ []) ≡ 0
-unfolding indexOf
+first : index_of 44 (44 ∷ 97 ∷ []) ≡ 0
+unfolding index_of
 first = refl
 
-last : indexOf 44 (97 ∷ 98 ∷ 44 ∷ []) ≡ 2
-unfolding indexOf
+last : index_of 44 (97 ∷ 98 ∷ 44 ∷ []) ≡ 2
+unfolding index_of
 last = refl
 
-twice : indexOf 44 (97 ∷ 44 ∷ 98 ∷ 44 ∷ []) ≡ 1
-unfolding indexOf
+twice : index_of 44 (97 ∷ 44 ∷ 98 ∷ 44 ∷ []) ≡ 1
+unfolding index_of
 twice = refl

@@ -8,10 +8,10 @@ use Rattle.calls.specs.Call.{Call}
 use Rattle.account.specs.Step.{State, replied}
 use Rattle.standing.specs.declared.Standing.{Standing}
 use Rattle.syntax.specs.Lines.{zeros}
-use Rattle.grammar.specs.Feed.{first, later, answered, tooLong, answerOf}
-use Rattle.opening.specs.Meaning.{openingIs}
-use Rattle.answering.specs.Answering.{answerIs}
-use Rattle.making.specs.Making.{stateOf}
+use Rattle.grammar.specs.Feed.{first, later, answered, too_long, answer_of}
+use Rattle.opening.specs.Meaning.{opening_is}
+use Rattle.answering.specs.Answering.{answer_is}
+use Rattle.making.specs.Making.{state_of}
 use Rattle.answering.specs.declared.Answer.{Answer}
 use Rattle.calls.specs.Call as Account
 use Rattle.standing.specs.declared.Stage as Stages
@@ -33,17 +33,17 @@ pub record Place : Type 0 where
   pub stage : Stages.Stage
   pub state : State
 
-abbrev pub placeOf : Standing → Stores → Place
-placeOf s x = record { stage = s.stage; state = stateOf s.runner x.bytes x.lengths }
+abbrev pub place_of : Standing → Stores → Place
+place_of s x = record { stage = s.stage; state = state_of s.runner x.bytes x.lengths }
 
 -- the stage of the session
-abbrev pub stageIs : Stages.Stage → State → Feed.Stage
-stageIs Stage.First s = Feed.First
-stageIs Stage.Running s = Feed.Running s
-stageIs Stage.Over s = Feed.Over
+abbrev pub stage_is : Stages.Stage → State → Feed.Stage
+stage_is Stage.First s = Feed.First
+stage_is Stage.Running s = Feed.Running s
+stage_is Stage.Over s = Feed.Over
 
-abbrev pub stageAt : Place → Feed.Stage
-stageAt p = stageIs p.stage p.state
+abbrev pub stage_at : Place → Feed.Stage
+stage_at p = stage_is p.stage p.state
 
 -- the place after a session came to a stage: the runner and its stores are the stage's; while no runner is open they are as they
 -- were
@@ -58,60 +58,60 @@ abbrev pub place : Stages.Stage → State → Place
 place x s = record { stage = x; state = s }
 
 -- a place is that of its own stage
-pub placed-own : (p : Place) → p ≡ placed (stageAt p) p
+pub placed_own : (p : Place) → p ≡ placed (stage_at p) p
 unfolding placed
-placed-own p = by p.stage
+placed_own p = by p.stage
   where
-    by : (x : Stages.Stage) → place x p.state ≡ placed (stageIs x p.state) (place x p.state)
+    by : (x : Stages.Stage) → place x p.state ≡ placed (stage_is x p.state) (place x p.state)
     by Stage.First = refl
     by Stage.Running = refl
     by Stage.Over = refl
 
 -- and has the stage that it was made for
-stage-placed : (x : Feed.Stage) (p : Place) → stageAt (placed x p) ≡ x
+stage_placed : (x : Feed.Stage) (p : Place) → stage_at (placed x p) ≡ x
 unfolding placed
-stage-placed Feed.First p = refl
-stage-placed (Feed.Running s) p = refl
-stage-placed Feed.Over p = refl
+stage_placed Feed.First p = refl
+stage_placed (Feed.Running s) p = refl
+stage_placed Feed.Over p = refl
 
-pub placed-is : (q : Place) (x : Feed.Stage) (p : Place) → q ≡ placed x p → stageAt q ≡ x
-placed-is q x p h = ap stageAt h ∙ stage-placed x p
+pub placed_is : (q : Place) (x : Feed.Stage) (p : Place) → q ≡ placed x p → stage_at q ≡ x
+placed_is q x p h = ap stage_at h ∙ stage_placed x p
 
 -- ---- a line
 
 -- the place after a line, with both stores, and the line's answer, of which bytes may stand in `work`
 abbrev pub Told : Feed.Answered → (was : Place) → Standing → Answer → (after : Stores) → (work : List ℕ) → Type 0
-Told f was s a after work = (placeOf s after ≡ placed f.stage was) × (answerIs a work ≡ f.answer)
+Told f was s a after work = (place_of s after ≡ placed f.stage was) × (answer_is a work ≡ f.answer)
 
 -- A LINE IS ANSWERED AS f SAYS OF THE PLACE BEFORE IT
 abbrev pub Answers : (f : Place → Feed.Answered) → Standing → (before : Stores) → Standing → Answer → (after : Stores) → (work : List ℕ) → Type 0
-Answers f s before s' a after work = Told (f (placeOf s before)) (placeOf s before) s' a after work
+Answers f s before s' a after work = Told (f (place_of s before)) (place_of s before) s' a after work
 
 -- (a first line: by its own words alone, and whatever stands in `work`)
 abbrev pub AnswersFirst : Feed.Answered → Standing → (before : Stores) → Standing → Answer → (after : Stores) → Type 0
-AnswersFirst f s before s' a after = (work : List ℕ) → Told f (placeOf s before) s' a after work
+AnswersFirst f s before s' a after = (work : List ℕ) → Told f (place_of s before) s' a after work
 
 -- (whatever stands in the stores, which are not lent and stay, and in `work`)
 abbrev pub AnswersAny : (f : Place → Feed.Answered) → Standing → Standing → Answer → Type 0
 AnswersAny f s s' a = (x : Stores) (work : List ℕ) → Answers f s x s' a x work
 
 -- what open made, from its reply
-abbrev pub openedAs : Reply → Runner → Feed.Answered
-openedAs Reply.Ok r = record { stage = Feed.Running (stateOf r (zeros 65536) (zeros 1024)); answer = Account.Ok }
-openedAs (Reply.Refused x) r = record { stage = Feed.Over; answer = replied (Reply.Refused x) }
+abbrev pub opened_as : Reply → Runner → Feed.Answered
+opened_as Reply.Ok r = record { stage = Feed.Running (state_of r (zeros 65536) (zeros 1024)); answer = Account.Ok }
+opened_as (Reply.Refused x) r = record { stage = Feed.Over; answer = replied (Reply.Refused x) }
 
-abbrev pub firstOf : Openings.Opening → Feed.Answered
-firstOf o = first (openingIs (MaybeOpening.Some o))
+abbrev pub first_of : Openings.Opening → Feed.Answered
+first_of o = first (opening_is (MaybeOpening.Some o))
 
 -- a line, at a place
-abbrev pub laterAt : Option Call → Place → Feed.Answered
-laterAt c p = later c p.state
+abbrev pub later_at : Option Call → Place → Feed.Answered
+later_at c p = later c p.state
 
-abbrev pub answeredAt : (line : List ℕ) → Place → Feed.Answered
-answeredAt line p = answered (stageAt p) line
+abbrev pub answered_at : (line : List ℕ) → Place → Feed.Answered
+answered_at line p = answered (stage_at p) line
 
-abbrev pub tooLongAt : Place → Feed.Answered
-tooLongAt p = tooLong (stageAt p)
+abbrev pub too_long_at : Place → Feed.Answered
+too_long_at p = too_long (stage_at p)
 
-abbrev pub answerAt : (line : List ℕ) → Place → Feed.Answered
-answerAt line p = answerOf (stageAt p) line
+abbrev pub answer_at : (line : List ℕ) → Place → Feed.Answered
+answer_at line p = answer_of (stage_at p) line

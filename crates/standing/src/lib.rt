@@ -3,12 +3,12 @@
 
 ghost use Rattle.std.specs.Prelude.{◌≡◌, false, ◌+◌, ◌-◌, ◌≤◌, ◌<◌, length};
 ghost use Rattle.std.proofs.Math.Option.{some};
-ghost use Rattle.syntax.specs.Lines.{zeros, lineCall};
-ghost use Rattle.opening.specs.Open.{lineOpen};
+ghost use Rattle.syntax.specs.Lines.{zeros, line_call};
+ghost use Rattle.opening.specs.Open.{line_open};
 ghost use Rattle.grammar.specs.Feed.{first};
-ghost use Rattle.syntax.specs.Meaning.{callIs};
+ghost use Rattle.syntax.specs.Meaning.{call_is};
 ghost use Rattle.answering.specs.declared.Answer.TheVariants as Answer;
-ghost use Rattle.standing.specs.Standing.{stores, Answers, AnswersFirst, AnswersAny, openedAs, firstOf, laterAt, answeredAt, tooLongAt, answerAt};
+ghost use Rattle.standing.specs.Standing.{stores, Answers, AnswersFirst, AnswersAny, opened_as, first_of, later_at, answered_at, too_long_at, answer_at};
 
 use answering::Answer;
 use exec::Reply;
@@ -64,7 +64,7 @@ impl Standing {
         lengths: &mut [u32],
     ) -> Answer
         requires { (length store.old ≡ 65536) × (length lengths.old ≡ 1024) }
-        ensures { AnswersFirst (openedAs reply runner) self.old (stores store.old lengths.old)
+        ensures { AnswersFirst (opened_as reply runner) self.old (stores store.old lengths.old)
             self.new result (stores store.new lengths.new) }
     {
         match reply {
@@ -84,7 +84,7 @@ impl Standing {
 
     fn open(&mut self, opening: Opening, store: &mut [u8], lengths: &mut [u32]) -> Answer
         requires { (length store.old ≡ 65536) × (length lengths.old ≡ 1024) }
-        ensures { AnswersFirst (firstOf opening) self.old (stores store.old lengths.old)
+        ensures { AnswersFirst (first_of opening) self.old (stores store.old lengths.old)
             self.new result (stores store.new lengths.new) }
     {
         let key = opening.key;
@@ -98,7 +98,7 @@ impl Standing {
 
     fn first(&mut self, line: &[u8], store: &mut [u8], lengths: &mut [u32]) -> Answer
         requires { (length line.now ≤ 65535) × (length store.old ≡ 65536) × (length lengths.old ≡ 1024) }
-        ensures { AnswersFirst (first (lineOpen line.now)) self.old (stores store.old lengths.old)
+        ensures { AnswersFirst (first (line_open line.now)) self.old (stores store.old lengths.old)
             self.new result (stores store.new lengths.new) }
     {
         let MaybeOpening::Some(opening) = open_of(line) else {
@@ -112,7 +112,7 @@ impl Standing {
     #[tactic(auto, unfolding(grammar::specs::Feed::later, crate::specs::Standing::placed))]
     fn call(&mut self, call: Call, store: &mut [u8], lengths: &mut [u32], work: &mut [u8]) -> Answer
         requires { (length store.old ≡ 65536) × (length work.old ≡ 65536) }
-        ensures { Answers (laterAt (some (callIs call work.old))) self.old (stores store.old lengths.old)
+        ensures { Answers (later_at (some (call_is call work.old))) self.old (stores store.old lengths.old)
             self.new result (stores store.new lengths.new) work.new }
     {
         self.stage = Stage::Running;
@@ -127,7 +127,7 @@ impl Standing {
         work: &mut [u8],
     ) -> Answer
         requires { (length line.now ≤ 65535) × (length store.old ≡ 65536) × (length work.old ≡ 65536) }
-        ensures { Answers (laterAt (lineCall line.now)) self.old (stores store.old lengths.old)
+        ensures { Answers (later_at (line_call line.now)) self.old (stores store.old lengths.old)
             self.new result (stores store.new lengths.new) work.new }
     {
         let Line::Call(call) = call_of(line, work) else {
@@ -147,7 +147,7 @@ impl Standing {
         work: &mut [u8],
     ) -> Answer
         requires { (length line.now ≤ 65535) × (length store.old ≡ 65536) × (length lengths.old ≡ 1024) × (length work.old ≡ 65536) }
-        ensures { Answers (answeredAt line.now) self.old (stores store.old lengths.old)
+        ensures { Answers (answered_at line.now) self.old (stores store.old lengths.old)
             self.new result (stores store.new lengths.new) work.new }
     {
         let stage = self.stage;
@@ -160,7 +160,7 @@ impl Standing {
 
     // A line of more than 65,535 bytes is refused whole; it is the first line where it stands first.
     fn too_long(&mut self) -> Answer
-        ensures { AnswersAny tooLongAt self.old self.new result }
+        ensures { AnswersAny too_long_at self.old self.new result }
     {
         let stage = self.stage;
         match stage {
@@ -170,7 +170,7 @@ impl Standing {
         }
     }
 
-    #[tactic(auto, unfolding(grammar::specs::Feed::answerOf))]
+    #[tactic(auto, unfolding(grammar::specs::Feed::answer_of))]
     pub fn answer(
         &mut self,
         line: &[u8],
@@ -179,7 +179,7 @@ impl Standing {
         work: &mut [u8],
     ) -> Answer
         requires { (length store.old ≡ 65536) × (length lengths.old ≡ 1024) × (length work.old ≡ 65536) }
-        ensures { Answers (answerAt line.now) self.old (stores store.old lengths.old)
+        ensures { Answers (answer_at line.now) self.old (stores store.old lengths.old)
             self.new result (stores store.new lengths.new) work.new }
     {
         if line.len() <= 65535 {

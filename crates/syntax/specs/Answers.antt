@@ -7,11 +7,11 @@ use Rattle.exec.specs.declared.MaybeLaunchFailure.{MaybeLaunchFailure}
 use Rattle.exec.specs.declared.MaybeStatus.{MaybeStatus}
 use Rattle.exec.specs.declared.Outcome.{Outcome}
 use Rattle.exec.specs.declared.Status.TheVariants as Status
-use Rattle.decimal.specs.Decimal.{digitsOf, signedOf}
-use Rattle.hexadecimal.specs.Hexadecimal.{hexOf}
+use Rattle.decimal.specs.Decimal.{digits_of, signed_of}
+use Rattle.hexadecimal.specs.Hexadecimal.{hex_of}
 use Rattle.calls.specs.Call as Call
 use Rattle.calls.specs.Call.{Answer, Message, Request}
-use Rattle.syntax.specs.Words.{bytes, streamName, causeName}
+use Rattle.syntax.specs.Words.{bytes, stream_name, cause_name}
 
 -- ---- fields
 
@@ -22,18 +22,18 @@ abbrev pub flag : Bool → List ℕ
 flag true = bytes "1"
 flag false = bytes "0"
 
-abbrev pub statusText : MaybeStatus → List ℕ
-statusText MaybeStatus.None = dash
-statusText (MaybeStatus.Some (Status.Exited n)) = bytes "E" ++ signedOf n
-statusText (MaybeStatus.Some (Status.Signaled n)) = bytes "S" ++ signedOf n
+abbrev pub status_text : MaybeStatus → List ℕ
+status_text MaybeStatus.None = dash
+status_text (MaybeStatus.Some (Status.Exited n)) = bytes "E" ++ signed_of n
+status_text (MaybeStatus.Some (Status.Signaled n)) = bytes "S" ++ signed_of n
 
-abbrev pub causeText : MaybeCause → List ℕ
-causeText MaybeCause.None = dash
-causeText (MaybeCause.Some x) = causeName x
+abbrev pub cause_text : MaybeCause → List ℕ
+cause_text MaybeCause.None = dash
+cause_text (MaybeCause.Some x) = cause_name x
 
-abbrev pub failureText : MaybeLaunchFailure → List ℕ
-failureText MaybeLaunchFailure.None = dash
-failureText (MaybeLaunchFailure.Some x) = digitsOf x.stage ++ bytes "/" ++ signedOf x.error
+abbrev pub failure_text : MaybeLaunchFailure → List ℕ
+failure_text MaybeLaunchFailure.None = dash
+failure_text (MaybeLaunchFailure.Some x) = digits_of x.stage ++ bytes "/" ++ signed_of x.error
 
 -- ---- an answer behind its line number
 
@@ -45,53 +45,53 @@ abbrev pub word : List ℕ → List ℕ
 word w = three w dash dash
 
 abbrev pub counted : (word : List ℕ) → ℕ → List ℕ
-counted w n = three w (digitsOf n) dash
+counted w n = three w (digits_of n) dash
 
 abbrev pub filled : (word bs : List ℕ) → List ℕ
-filled w bs = three w (digitsOf (length bs)) (hexOf bs)
+filled w bs = three w (digits_of (length bs)) (hex_of bs)
 
 -- Terminal has five more: status, cause, launch failure, two truncation digits (stdout first), reusable digit
-abbrev pub outcomeText : Outcome → List ℕ
-outcomeText o =
-    word (bytes "Terminal") ++ bytes "," ++ statusText o.status ++ bytes "," ++ causeText o.cause ++ bytes ","
-    ++ failureText o.launch_failure ++ bytes "," ++ flag o.stdout_truncated ++ flag o.stderr_truncated ++ bytes "," ++ flag o.reusable
+abbrev pub outcome_text : Outcome → List ℕ
+outcome_text o =
+    word (bytes "Terminal") ++ bytes "," ++ status_text o.status ++ bytes "," ++ cause_text o.cause ++ bytes ","
+    ++ failure_text o.launch_failure ++ bytes "," ++ flag o.stdout_truncated ++ flag o.stderr_truncated ++ bytes "," ++ flag o.reusable
 
-abbrev pub messageText : Message → List ℕ
-messageText (Call.Credit n) = counted (bytes "Credit") n
-messageText Call.Started = word (bytes "Started")
-messageText (Call.Output x bs) = filled (streamName x) bs
-messageText (Call.End x) = three (bytes "End") (streamName x) dash
-messageText Call.InputClosed = word (bytes "InputClosed")
-messageText (Call.Terminal o) = outcomeText o
+abbrev pub message_text : Message → List ℕ
+message_text (Call.Credit n) = counted (bytes "Credit") n
+message_text Call.Started = word (bytes "Started")
+message_text (Call.Output x bs) = filled (stream_name x) bs
+message_text (Call.End x) = three (bytes "End") (stream_name x) dash
+message_text Call.InputClosed = word (bytes "InputClosed")
+message_text (Call.Terminal o) = outcome_text o
 
-abbrev pub requestText : Request → List ℕ
-requestText (Call.Terminate c) = three (bytes "Terminate") (causeName c) dash
-requestText (Call.Discard x) = three (bytes "Discard") (streamName x) dash
-requestText Call.CloseInput = word (bytes "CloseInput")
-requestText Call.Settle = word (bytes "Settle")
+abbrev pub request_text : Request → List ℕ
+request_text (Call.Terminate c) = three (bytes "Terminate") (cause_name c) dash
+request_text (Call.Discard x) = three (bytes "Discard") (stream_name x) dash
+request_text Call.CloseInput = word (bytes "CloseInput")
+request_text Call.Settle = word (bytes "Settle")
 
-abbrev pub timeText : Deadline → List ℕ
-timeText Never = word (bytes "none")
-timeText (At t) = counted (bytes "value") t
+abbrev pub time_text : Deadline → List ℕ
+time_text Never = word (bytes "none")
+time_text (At t) = counted (bytes "value") t
 
 -- (key and limits are not on the card)
-unfoldable pub answerText : Answer → List ℕ
-answerText Call.Ok = word (bytes "ok")
-answerText Call.Applied = word (bytes "Applied")
-answerText Call.Stale = word (bytes "Stale")
-answerText Call.Late = word (bytes "Late")
-answerText (Call.Refused n) = counted (bytes "refused") n
-answerText (Call.Taken n) = counted (bytes "taken") n
-answerText (Call.Pending bs) = filled (bytes "pending") bs
-answerText (Call.Value n) = counted (bytes "value") n
-answerText (Call.Time d) = timeText d
-answerText (Call.Truth b) = three (bytes "value") (flag b) dash
-answerText (Call.Asks q) = requestText q
-answerText (Call.Says m) = messageText m
-answerText (Call.IsKey k) = []
-answerText (Call.AreLimits l) = []
-answerText Call.Nothing = word (bytes "none")
+unfoldable pub answer_text : Answer → List ℕ
+answer_text Call.Ok = word (bytes "ok")
+answer_text Call.Applied = word (bytes "Applied")
+answer_text Call.Stale = word (bytes "Stale")
+answer_text Call.Late = word (bytes "Late")
+answer_text (Call.Refused n) = counted (bytes "refused") n
+answer_text (Call.Taken n) = counted (bytes "taken") n
+answer_text (Call.Pending bs) = filled (bytes "pending") bs
+answer_text (Call.Value n) = counted (bytes "value") n
+answer_text (Call.Time d) = time_text d
+answer_text (Call.Truth b) = three (bytes "value") (flag b) dash
+answer_text (Call.Asks q) = request_text q
+answer_text (Call.Says m) = message_text m
+answer_text (Call.IsKey k) = []
+answer_text (Call.AreLimits l) = []
+answer_text Call.Nothing = word (bytes "none")
 
 -- the whole line, with its end (10)
-unfoldable pub lineText : (line : ℕ) → Answer → List ℕ
-lineText n a = digitsOf n ++ bytes "," ++ answerText a ++ (10 ∷ [])
+unfoldable pub line_text : (line : ℕ) → Answer → List ℕ
+line_text n a = digits_of n ++ bytes "," ++ answer_text a ++ (10 ∷ [])

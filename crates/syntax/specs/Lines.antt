@@ -5,7 +5,7 @@ use Rattle.exec.specs.declared.Key.{Key}
 use Rattle.exec.specs.declared.LaunchResult.{LaunchResult}
 use Rattle.exec.specs.declared.MaybeStatus.{MaybeStatus}
 use Rattle.exec.specs.declared.Status.TheVariants as Status
-use Rattle.exec.specs.Key.{newKey}
+use Rattle.exec.specs.Key.{new_key}
 use Rattle.decimal.specs.Decimal.{number, signed}
 use Rattle.hexadecimal.specs.Hexadecimal.{unhex}
 use Rattle.calls.specs.Call.{Call}
@@ -19,14 +19,14 @@ on (some x) f = f x
 -- ---- fields
 
 -- a byte in front of the first field
-abbrev pub inFirst : ℕ → List (List ℕ) → List (List ℕ)
-inFirst b [] = (b ∷ []) ∷ []
-inFirst b (f ∷ fs) = (b ∷ f) ∷ fs
+abbrev pub in_first : ℕ → List (List ℕ) → List (List ℕ)
+in_first b [] = (b ∷ []) ∷ []
+in_first b (f ∷ fs) = (b ∷ f) ∷ fs
 
 -- cut at every comma (44): one field more than there are commas
 unfoldable pub fields : (line : List ℕ) → List (List ℕ)
 fields [] = [] ∷ []
-fields (b ∷ s) = cond (eqb b 44) ([] ∷ fields s) (inFirst b (fields s))
+fields (b ∷ s) = cond (eqb b 44) ([] ∷ fields s) (in_first b (fields s))
 
 -- ---- values: numbers within their types, bytes in hexadecimal, `-` for what is missing
 
@@ -44,12 +44,12 @@ unfoldable pub digit : List ℕ → Option Bool
 digit field = cond (same field (bytes "0")) (some false) (cond (same field (bytes "1")) (some true) none)
 
 -- the length of a message's buffer
-abbrev pub messageLength : List ℕ → Option ℕ
-messageLength field = number 16384 field
+abbrev pub message_length : List ℕ → Option ℕ
+message_length field = number 16384 field
 
 -- a key is two fields
-abbrev pub keyOf : (id generation : List ℕ) → Option Key
-keyOf id generation = on (u64 id) λ i. on (u64 generation) λ g. some (newKey i g)
+abbrev pub key_of : (id generation : List ℕ) → Option Key
+key_of id generation = on (u64 id) λ i. on (u64 generation) λ g. some (new_key i g)
 
 -- Status is E or S with a number, or missing
 unfoldable pub status : List ℕ → Option MaybeStatus
@@ -61,8 +61,8 @@ status (b ∷ rest) =
     none))
 
 -- a launch result: OK 0 with nothing else, or 1 with stage and error
-unfoldable pub launchResult : (ok stage error : List ℕ) → Option LaunchResult
-launchResult ok stage error =
+unfoldable pub launch_result : (ok stage error : List ℕ) → Option LaunchResult
+launch_result ok stage error =
     on (digit ok) λ failed.
     cond failed
     (on (u32 stage) λ n. on (signed error) λ e. some (LaunchResult.Failed (record { stage = n; error = e })))
@@ -83,18 +83,18 @@ find field [] = none
 find field (e ∷ es) = cond (same field e.name) (some e.call) (find field es)
 
 -- with no argument
-abbrev pub plainCalls : List (Entry Call)
-plainCalls =
-    entry (bytes "pending_input") Call.pendingInput
-    ∷ entry (bytes "input_closed") Call.inputClosed
+abbrev pub plain_calls : List (Entry Call)
+plain_calls =
+    entry (bytes "pending_input") Call.pending_input
+    ∷ entry (bytes "input_closed") Call.input_closed
     ∷ entry (bytes "deadline") Call.deadline
-    ∷ entry (bytes "request") Call.nextRequest
-    ∷ entry (bytes "is_finished") Call.isFinished
-    ∷ entry (bytes "is_detached") Call.isDetached
-    ∷ entry (bytes "awaits_settlement") Call.awaitsSettlement
-    ∷ entry (bytes "memory_bound") Call.memoryBound
+    ∷ entry (bytes "request") Call.next_request
+    ∷ entry (bytes "is_finished") Call.is_finished
+    ∷ entry (bytes "is_detached") Call.is_detached
+    ∷ entry (bytes "awaits_settlement") Call.awaits_settlement
+    ∷ entry (bytes "memory_bound") Call.memory_bound
     ∷ entry (bytes "buffered") Call.buffered
-    ∷ entry (bytes "high_water") Call.highWater
+    ∷ entry (bytes "high_water") Call.high_water
     ∷ []
 
 -- a buffer of so many bytes
@@ -103,110 +103,110 @@ zeros zero = []
 zeros (suc n) = 0 ∷ zeros n
 
 -- with one
-abbrev pub readAllowanceOf : List ℕ → Option Call
-readAllowanceOf a = map Call.readAllowance (stream a)
+abbrev pub read_allowance_of : List ℕ → Option Call
+read_allowance_of a = map Call.read_allowance (stream a)
 
-abbrev pub outputClosedOf : List ℕ → Option Call
-outputClosedOf a = map Call.outputClosed (stream a)
+abbrev pub output_closed_of : List ℕ → Option Call
+output_closed_of a = map Call.output_closed (stream a)
 
-abbrev pub outputFailedOf : List ℕ → Option Call
-outputFailedOf a = map Call.outputFailed (stream a)
+abbrev pub output_failed_of : List ℕ → Option Call
+output_failed_of a = map Call.output_failed (stream a)
 
-abbrev pub outputHungUpOf : List ℕ → Option Call
-outputHungUpOf a = map Call.outputHungUp (stream a)
+abbrev pub output_hung_up_of : List ℕ → Option Call
+output_hung_up_of a = map Call.output_hung_up (stream a)
 
-abbrev pub inputWrittenOf : List ℕ → Option Call
-inputWrittenOf a = map Call.inputWritten (u64 a)
+abbrev pub input_written_of : List ℕ → Option Call
+input_written_of a = map Call.input_written (u64 a)
 
-abbrev pub settledOf : List ℕ → Option Call
-settledOf a = map Call.settled (settlement a)
+abbrev pub settled_of : List ℕ → Option Call
+settled_of a = map Call.settled (settlement a)
 
-abbrev pub droppedOf : List ℕ → Option Call
-droppedOf a = map Call.dropped (u64 a)
+abbrev pub dropped_of : List ℕ → Option Call
+dropped_of a = map Call.dropped (u64 a)
 
-abbrev pub resetOf : List ℕ → Option Call
-resetOf a = map Call.reset (u64 a)
+abbrev pub reset_of : List ℕ → Option Call
+reset_of a = map Call.reset (u64 a)
 
-abbrev pub disconnectOf : List ℕ → Option Call
-disconnectOf a = map Call.disconnect (u64 a)
+abbrev pub disconnect_of : List ℕ → Option Call
+disconnect_of a = map Call.disconnect (u64 a)
 
-abbrev pub tickOf : List ℕ → Option Call
-tickOf a = map Call.tick (u64 a)
+abbrev pub tick_of : List ℕ → Option Call
+tick_of a = map Call.tick (u64 a)
 
-abbrev pub messageOf : List ℕ → Option Call
-messageOf a = map (λ n. Call.nextMessage (zeros n)) (messageLength a)
+abbrev pub message_of : List ℕ → Option Call
+message_of a = map (λ n. Call.next_message (zeros n)) (message_length a)
 
 abbrev pub calls1 : List (Entry (List ℕ → Option Call))
 calls1 =
-    entry (bytes "read_allowance") readAllowanceOf
-    ∷ entry (bytes "output_closed") outputClosedOf
-    ∷ entry (bytes "output_failed") outputFailedOf
-    ∷ entry (bytes "output_hung_up") outputHungUpOf
-    ∷ entry (bytes "input_written") inputWrittenOf
-    ∷ entry (bytes "settled") settledOf
-    ∷ entry (bytes "dropped") droppedOf
-    ∷ entry (bytes "reset") resetOf
-    ∷ entry (bytes "disconnect") disconnectOf
-    ∷ entry (bytes "tick") tickOf
-    ∷ entry (bytes "message") messageOf
+    entry (bytes "read_allowance") read_allowance_of
+    ∷ entry (bytes "output_closed") output_closed_of
+    ∷ entry (bytes "output_failed") output_failed_of
+    ∷ entry (bytes "output_hung_up") output_hung_up_of
+    ∷ entry (bytes "input_written") input_written_of
+    ∷ entry (bytes "settled") settled_of
+    ∷ entry (bytes "dropped") dropped_of
+    ∷ entry (bytes "reset") reset_of
+    ∷ entry (bytes "disconnect") disconnect_of
+    ∷ entry (bytes "tick") tick_of
+    ∷ entry (bytes "message") message_of
     ∷ []
 
 -- with two
-abbrev pub endInputOf : List ℕ → List ℕ → Option Call
-endInputOf a b = map Call.endInput (keyOf a b)
+abbrev pub end_input_of : List ℕ → List ℕ → Option Call
+end_input_of a b = map Call.end_input (key_of a b)
 
-abbrev pub outputOf : List ℕ → List ℕ → Option Call
-outputOf a b = on (stream a) λ x. on (unhex b) λ bs. some (Call.output x bs)
+abbrev pub output_of : List ℕ → List ℕ → Option Call
+output_of a b = on (stream a) λ x. on (unhex b) λ bs. some (Call.output x bs)
 
-abbrev pub discardedOf : List ℕ → List ℕ → Option Call
-discardedOf a b = on (stream a) λ x. on (u64 b) λ n. some (Call.discarded x n)
+abbrev pub discarded_of : List ℕ → List ℕ → Option Call
+discarded_of a b = on (stream a) λ x. on (u64 b) λ n. some (Call.discarded x n)
 
-abbrev pub exitedOf : List ℕ → List ℕ → Option Call
-exitedOf a b = on (u64 a) λ now. on (status b) λ x. some (Call.exited now x)
+abbrev pub exited_of : List ℕ → List ℕ → Option Call
+exited_of a b = on (u64 a) λ now. on (status b) λ x. some (Call.exited now x)
 
 abbrev pub calls2 : List (Entry (List ℕ → List ℕ → Option Call))
 calls2 =
-    entry (bytes "end_input") endInputOf
-    ∷ entry (bytes "output") outputOf
-    ∷ entry (bytes "discarded") discardedOf
-    ∷ entry (bytes "exited") exitedOf
+    entry (bytes "end_input") end_input_of
+    ∷ entry (bytes "output") output_of
+    ∷ entry (bytes "discarded") discarded_of
+    ∷ entry (bytes "exited") exited_of
     ∷ []
 
 -- with three
-abbrev pub launchedOf : List ℕ → List ℕ → List ℕ → Option Call
-launchedOf a b c = map Call.launched (launchResult a b c)
+abbrev pub launched_of : List ℕ → List ℕ → List ℕ → Option Call
+launched_of a b c = map Call.launched (launch_result a b c)
 
-abbrev pub inputOf : List ℕ → List ℕ → List ℕ → Option Call
-inputOf a b c = on (keyOf a b) λ key. on (unhex c) λ bs. some (Call.input key bs)
+abbrev pub input_of : List ℕ → List ℕ → List ℕ → Option Call
+input_of a b c = on (key_of a b) λ key. on (unhex c) λ bs. some (Call.input key bs)
 
 abbrev pub calls3 : List (Entry (List ℕ → List ℕ → List ℕ → Option Call))
 calls3 =
-    entry (bytes "launched") launchedOf
-    ∷ entry (bytes "input") inputOf
+    entry (bytes "launched") launched_of
+    ∷ entry (bytes "input") input_of
     ∷ []
 
 -- with four
-abbrev pub creditOf : List ℕ → List ℕ → List ℕ → List ℕ → Option Call
-creditOf a b c d = on (keyOf a b) λ key. on (pool c) λ p. on (u32 d) λ n. some (Call.credit key p n)
+abbrev pub credit_of : List ℕ → List ℕ → List ℕ → List ℕ → Option Call
+credit_of a b c d = on (key_of a b) λ key. on (pool c) λ p. on (u32 d) λ n. some (Call.credit key p n)
 
-abbrev pub cancelOf : List ℕ → List ℕ → List ℕ → List ℕ → Option Call
-cancelOf a b c d = on (u64 a) λ now. on (keyOf b c) λ key. on (cause d) λ x. some (Call.cancel now key x)
+abbrev pub cancel_of : List ℕ → List ℕ → List ℕ → List ℕ → Option Call
+cancel_of a b c d = on (u64 a) λ now. on (key_of b c) λ key. on (cause d) λ x. some (Call.cancel now key x)
 
 abbrev pub calls4 : List (Entry (List ℕ → List ℕ → List ℕ → List ℕ → Option Call))
 calls4 =
-    entry (bytes "credit") creditOf
-    ∷ entry (bytes "cancel") cancelOf
+    entry (bytes "credit") credit_of
+    ∷ entry (bytes "cancel") cancel_of
     ∷ []
 
-unfoldable pub callOf : List (List ℕ) → Option Call
-callOf [] = none
-callOf (name ∷ []) = find name plainCalls
-callOf (name ∷ a ∷ []) = on (find name calls1) λ f. f a
-callOf (name ∷ a ∷ b ∷ []) = on (find name calls2) λ f. f a b
-callOf (name ∷ a ∷ b ∷ c ∷ []) = on (find name calls3) λ f. f a b c
-callOf (name ∷ a ∷ b ∷ c ∷ d ∷ []) = on (find name calls4) λ f. f a b c d
-callOf (name ∷ a ∷ b ∷ c ∷ d ∷ e ∷ rest) = none
+unfoldable pub call_of : List (List ℕ) → Option Call
+call_of [] = none
+call_of (name ∷ []) = find name plain_calls
+call_of (name ∷ a ∷ []) = on (find name calls1) λ f. f a
+call_of (name ∷ a ∷ b ∷ []) = on (find name calls2) λ f. f a b
+call_of (name ∷ a ∷ b ∷ c ∷ []) = on (find name calls3) λ f. f a b c
+call_of (name ∷ a ∷ b ∷ c ∷ d ∷ []) = on (find name calls4) λ f. f a b c d
+call_of (name ∷ a ∷ b ∷ c ∷ d ∷ e ∷ rest) = none
 
 -- the call of a line
-abbrev pub lineCall : (line : List ℕ) → Option Call
-lineCall line = callOf (fields line)
+abbrev pub line_call : (line : List ℕ) → Option Call
+line_call line = call_of (fields line)

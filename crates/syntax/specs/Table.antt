@@ -11,34 +11,34 @@ use Rattle.exec.specs.declared.MaybeStatus.TheVariants as MaybeStatus
 use Rattle.exec.specs.declared.Pool.TheVariants as Pool
 use Rattle.exec.specs.declared.Status.TheVariants as Status
 use Rattle.exec.specs.declared.Stream.TheVariants.{Stdout, Stderr}
-use Rattle.exec.specs.Key.{newKey}
-use Rattle.decimal.specs.Decimal.{number, numberFrom, areDigits, valueFrom, signed, digitsOf, digitsBefore}
-use Rattle.hexadecimal.specs.Hexadecimal.{unhex, arePairs, areHex, pairs, hexValue, hexOf, hexDigit}
+use Rattle.exec.specs.Key.{new_key}
+use Rattle.decimal.specs.Decimal.{number, number_from, are_digits, value_from, signed, digits_of, digits_before}
+use Rattle.hexadecimal.specs.Hexadecimal.{unhex, are_pairs, are_hex, pairs, hex_value, hex_of, hex_digit}
 use Rattle.calls.specs.Call as Call
 use Rattle.calls.specs.Call.{Call, Answer}
 use Rattle.syntax.specs.Words.{bytes, same, named}
-use Rattle.syntax.specs.Lines.{fields, digit, status, launchResult, find, callOf, lineCall, zeros}
-use Rattle.syntax.specs.Answers.{answerText, lineText}
+use Rattle.syntax.specs.Lines.{fields, digit, status, launch_result, find, call_of, line_call, zeros}
+use Rattle.syntax.specs.Answers.{answer_text, line_text}
 
 unfoldable pub calls : String → Option Call
-unfolding bytes fields same callOf find named number numberFrom areDigits valueFrom signed unhex arePairs areHex pairs hexValue digit status launchResult
-calls line = lineCall (bytes line)
+unfolding bytes fields same call_of find named number number_from are_digits value_from signed unhex are_pairs are_hex pairs hex_value digit status launch_result
+calls line = line_call (bytes line)
 
 prints : ℕ → Answer → List ℕ
-unfolding lineText answerText digitsOf digitsBefore hexOf hexDigit bytes
-prints n a = lineText n a
+unfolding line_text answer_text digits_of digits_before hex_of hex_digit bytes
+prints n a = line_text n a
 
-table-calls : (calls "launched,0,-,-" ≡ some (Call.launched LaunchResult.Started))
-    × (calls "credit,7,2,Stdout,3" ≡ some (Call.credit (newKey 7 2) Pool.Stdout 3))
+table_calls : (calls "launched,0,-,-" ≡ some (Call.launched LaunchResult.Started))
+    × (calls "credit,7,2,Stdout,3" ≡ some (Call.credit (new_key 7 2) Pool.Stdout 3))
     × (calls "output,Stdout,6162636465" ≡ some (Call.output Stdout (97 ∷ 98 ∷ 99 ∷ 100 ∷ 101 ∷ [])))
-    × (calls "message,16" ≡ some (Call.nextMessage (zeros 16)))
-    × (calls "cancel,20,7,2,Cancelled" ≡ some (Call.cancel 20 (newKey 7 2) Cause.Cancelled))
+    × (calls "message,16" ≡ some (Call.next_message (zeros 16)))
+    × (calls "cancel,20,7,2,Cancelled" ≡ some (Call.cancel 20 (new_key 7 2) Cause.Cancelled))
     × (calls "tick,35" ≡ some (Call.tick 35))
 unfolding calls
-table-calls = (refl, refl, refl, refl, refl, refl)
+table_calls = (refl, refl, refl, refl, refl, refl)
 
 -- what the answers print
-table-prints : (prints 1 Call.Ok ≡ bytes "1,ok,-,-\n")
+table_prints : (prints 1 Call.Ok ≡ bytes "1,ok,-,-\n")
     × (prints 3 Call.Applied ≡ bytes "3,Applied,-,-\n")
     × (prints 4 (Call.Taken 4) ≡ bytes "4,taken,4,-\n")
     × (prints 5 (Call.Says (Call.Credit 8)) ≡ bytes "5,Credit,8,-\n")
@@ -57,10 +57,10 @@ table-prints : (prints 1 Call.Ok ≡ bytes "1,ok,-,-\n")
     }))) ≡ bytes "13,Terminal,-,-,-,Cancelled,-,11,0\n")
     × (prints 14 Call.Nothing ≡ bytes "14,none,-,-\n")
 unfolding prints
-table-prints = (refl, refl, refl, refl, refl, refl, refl, refl, refl, refl, refl)
+table_prints = (refl, refl, refl, refl, refl, refl, refl, refl, refl, refl, refl)
 
 -- and the answers that the table has not
-other-prints : (prints 2 Call.Stale ≡ bytes "2,Stale,-,-\n")
+other_prints : (prints 2 Call.Stale ≡ bytes "2,Stale,-,-\n")
     × (prints 3 Call.Late ≡ bytes "3,Late,-,-\n")
     × (prints 4 (Call.Refused 30) ≡ bytes "4,refused,30,-\n")
     × (prints 5 (Call.Pending (97 ∷ 98 ∷ [])) ≡ bytes "5,pending,2,6162\n")
@@ -74,28 +74,28 @@ other-prints : (prints 2 Call.Stale ≡ bytes "2,Stale,-,-\n")
     × (prints 13 (Call.Asks Call.CloseInput) ≡ bytes "13,CloseInput,-,-\n")
     × (prints 14 (Call.Asks Call.Settle) ≡ bytes "14,Settle,-,-\n")
 unfolding prints
-other-prints = (refl, refl, refl, refl, refl, refl, refl, refl, refl, refl, refl, refl, refl)
+other_prints = (refl, refl, refl, refl, refl, refl, refl, refl, refl, refl, refl, refl, refl)
 
 -- no lines of the card: a leading blank, a plus, a trailing comma, an uppercase or odd hexadecimal, a missing or empty number, one
 -- past its type, a name in other letters, a message too long, the names that the card does not have
-bad-lines : (calls " tick,35" ≡ none) × (calls "tick, 35" ≡ none) × (calls "tick,+35" ≡ none) × (calls "tick,35," ≡ none)
+bad_lines : (calls " tick,35" ≡ none) × (calls "tick, 35" ≡ none) × (calls "tick,+35" ≡ none) × (calls "tick,35," ≡ none)
     × (calls "output,Stdout,6A" ≡ none) × (calls "output,Stdout,616" ≡ none) × (calls "output,Stdout,-" ≡ none)
     × (calls "tick,-" ≡ none) × (calls "tick," ≡ none) × (calls "tick,18446744073709551616" ≡ none)
     × (calls "credit,7,2,stdout,3" ≡ none) × (calls "message,16385" ≡ none) × (calls "next_message,16" ≡ none) × (calls "key" ≡ none)
     × (calls "" ≡ none)
 unfolding calls
-bad-lines = (refl, refl, refl, refl, refl, refl, refl, refl, refl, refl, refl, refl, refl, refl, refl)
+bad_lines = (refl, refl, refl, refl, refl, refl, refl, refl, refl, refl, refl, refl, refl, refl, refl)
 
 -- and good ones at their edges: leading zeros, -0, the largest time, empty bytes, pool Input, the longest message
-good-lines : (calls "tick,0035" ≡ some (Call.tick 35))
+good_lines : (calls "tick,0035" ≡ some (Call.tick 35))
     × (calls "tick,18446744073709551615" ≡ some (Call.tick 18446744073709551615))
     × (calls "exited,5,E-0" ≡ some (Call.exited 5 (MaybeStatus.Some (Status.Exited (pos 0)))))
     × (calls "exited,5,-" ≡ some (Call.exited 5 MaybeStatus.None))
     × (calls "launched,1,3,-2" ≡ some (Call.launched (LaunchResult.Failed (record { stage = 3; error = negsuc 1 }))))
     × (calls "output,Stderr," ≡ some (Call.output Stderr []))
-    × (calls "credit,7,2,Input,0" ≡ some (Call.credit (newKey 7 2) Pool.Input 0))
+    × (calls "credit,7,2,Input,0" ≡ some (Call.credit (new_key 7 2) Pool.Input 0))
 unfolding calls
-good-lines = (refl, refl, refl, refl, refl, refl, refl)
+good_lines = (refl, refl, refl, refl, refl, refl, refl)
 
 -- of the two digits of truncation stdout's is the first
 truncated : prints 1 (Call.Says (Call.Terminal (record { status = MaybeStatus.None; cause = MaybeCause.None; launch_failure = MaybeLaunchFailure.None; stdout_truncated = true; stderr_truncated = false; reusable = false })))

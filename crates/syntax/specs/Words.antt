@@ -11,46 +11,46 @@ unfoldable pub use Rattle.octets.specs.Text.{bytes, same}
 
 -- ---- names, and what is named: the first of a list whose name a field is
 
-abbrev pub streamName : Stream → List ℕ
-streamName Stream.Stdout = bytes "Stdout"
-streamName Stream.Stderr = bytes "Stderr"
+abbrev pub stream_name : Stream → List ℕ
+stream_name Stream.Stdout = bytes "Stdout"
+stream_name Stream.Stderr = bytes "Stderr"
 
-abbrev pub poolName : Pool → List ℕ
-poolName Pool.Input = bytes "Input"
-poolName Pool.Stdout = bytes "Stdout"
-poolName Pool.Stderr = bytes "Stderr"
-poolName Pool.Output = bytes "Output"
+abbrev pub pool_name : Pool → List ℕ
+pool_name Pool.Input = bytes "Input"
+pool_name Pool.Stdout = bytes "Stdout"
+pool_name Pool.Stderr = bytes "Stderr"
+pool_name Pool.Output = bytes "Output"
 
-abbrev pub causeName : Cause → List ℕ
-causeName Cause.Cancelled = bytes "Cancelled"
-causeName Cause.Dropped = bytes "Dropped"
-causeName Cause.TimedOut = bytes "TimedOut"
-causeName Cause.Reset = bytes "Reset"
-causeName Cause.Disconnected = bytes "Disconnected"
+abbrev pub cause_name : Cause → List ℕ
+cause_name Cause.Cancelled = bytes "Cancelled"
+cause_name Cause.Dropped = bytes "Dropped"
+cause_name Cause.TimedOut = bytes "TimedOut"
+cause_name Cause.Reset = bytes "Reset"
+cause_name Cause.Disconnected = bytes "Disconnected"
 
-abbrev pub settlementName : Settlement → List ℕ
-settlementName Settlement.Settled = bytes "Settled"
-settlementName Settlement.Failed = bytes "Failed"
+abbrev pub settlement_name : Settlement → List ℕ
+settlement_name Settlement.Settled = bytes "Settled"
+settlement_name Settlement.Failed = bytes "Failed"
 
-abbrev pub unitName : Units.Unit → List ℕ
-unitName Unit.Bytes = bytes "B"
-unitName Unit.Frames = bytes "F"
+abbrev pub unit_name : Units.Unit → List ℕ
+unit_name Unit.Bytes = bytes "B"
+unit_name Unit.Frames = bytes "F"
 
 unfoldable pub named : {A : Type 0} → (A → List ℕ) → List A → (field : List ℕ) → Option A
 named name [] field = none
 named name (x ∷ xs) field = cond (same field (name x)) (some x) (named name xs field)
 
 abbrev pub stream : List ℕ → Option Stream
-stream field = named streamName (Stream.Stdout ∷ Stream.Stderr ∷ []) field
+stream field = named stream_name (Stream.Stdout ∷ Stream.Stderr ∷ []) field
 
 abbrev pub pool : List ℕ → Option Pool
-pool field = named poolName (Pool.Input ∷ Pool.Stdout ∷ Pool.Stderr ∷ Pool.Output ∷ []) field
+pool field = named pool_name (Pool.Input ∷ Pool.Stdout ∷ Pool.Stderr ∷ Pool.Output ∷ []) field
 
 abbrev pub cause : List ℕ → Option Cause
-cause field = named causeName (Cause.Cancelled ∷ Cause.Dropped ∷ Cause.TimedOut ∷ Cause.Reset ∷ Cause.Disconnected ∷ []) field
+cause field = named cause_name (Cause.Cancelled ∷ Cause.Dropped ∷ Cause.TimedOut ∷ Cause.Reset ∷ Cause.Disconnected ∷ []) field
 
 abbrev pub settlement : List ℕ → Option Settlement
-settlement field = named settlementName (Settlement.Settled ∷ Settlement.Failed ∷ []) field
+settlement field = named settlement_name (Settlement.Settled ∷ Settlement.Failed ∷ []) field
 
 abbrev pub unit : List ℕ → Option Units.Unit
-unit field = named unitName (Unit.Bytes ∷ Unit.Frames ∷ []) field
+unit field = named unit_name (Unit.Bytes ∷ Unit.Frames ∷ []) field

@@ -8,112 +8,112 @@ use Rattle.exec.specs.declared.Stream.{Stream}
 use Rattle.exec.specs.Each.{one}
 use Rattle.runner.specs.declared.runner.Runner.{Runner}
 use Rattle.runner.specs.Range.{fresh}
-use Rattle.runner.specs.State.{outOf}
+use Rattle.runner.specs.State.{out_of}
 use Rattle.calls.specs.Call.{Conf, Call, Answer, Message}
 use Rattle.account.specs.Step as Step
 use Rattle.account.specs.Step.{State}
-use Rattle.account.specs.Claim.{Opens, isTerminal, terminalMessage}
-use Rattle.account.specs.Records.{Entry, nextEntry, answerEntry, afterEntries, made}
+use Rattle.account.specs.Claim.{Opens, is_terminal, terminal_message}
+use Rattle.account.specs.Records.{Entry, next_entry, answer_entry, after_entries, made}
 use Rattle.account.proofs.Plain.{next, answer}
-use Rattle.account.proofs.Demand.{Fine, next-same, answer-same, open-same}
+use Rattle.account.proofs.Demand.{Fine, next_same, answer_same, open_same}
 use Rattle.account.proofs.Finish as Finish
-use Rattle.account.proofs.Finish.{fin-stays, no_more, ends-fin}
+use Rattle.account.proofs.Finish.{fin_stays, no_more, ends_fin}
 use Rattle.account.proofs.EachRecord.{Does}
-use Rattle.account.proofs.Records.{Good, does, good-entry, good-open, good-at}
-use Rattle.account.proofs.Sides.{out-alike}
-use Rattle.output.specs.Output.{newOutput}
-use Rattle.wire.specs.Messages.{saidIn, saidFrom, isEnd, any, noEnds, Ordered}
+use Rattle.account.proofs.Records.{Good, does, good_entry, good_open, good_at}
+use Rattle.account.proofs.Sides.{out_alike}
+use Rattle.output.specs.Output.{new_output}
+use Rattle.wire.specs.Messages.{said_in, said_from, is_end, any, no_ends, Ordered}
 use Rattle.wire.proofs.Ends as Ends
-use Rattle.wire.proofs.Ends.{Muted, ends, at, endsAll, Tells, Speech, speech, unsaid, call-tells, ends_so, any_append, tells-on}
+use Rattle.wire.proofs.Ends.{Muted, ends, at, ends_all, Tells, Speech, speech, unsaid, call_tells, ends_so, any_append, tells_on}
 
 -- ---- Terminal is the last message
 
 -- it comes only where nothing is behind it
 abbrev pub Final : List Message → Type 0
 Final [] = Unit
-Final (m ∷ ms) = (terminalMessage m ≡ true → ms ≡ []) × Final ms
+Final (m ∷ ms) = (terminal_message m ≡ true → ms ≡ []) × Final ms
 
 -- from one runner to another, with these messages told between
 pub record Finishes (r t : Runner) (ms : List Message) : Type 0 where
   pub over : r.flags.finished ≡ true → (ms ≡ []) × (t.flags.finished ≡ true)
-  pub ended : any terminalMessage ms ≡ true → t.flags.finished ≡ true
+  pub ended : any terminal_message ms ≡ true → t.flags.finished ≡ true
   pub final : Final ms
 
-or-none : (a : Bool) → (a || false) ≡ true → a ≡ true
-or-none true e = refl
-or-none false e = e
+or_none : (a : Bool) → (a || false) ≡ true → a ≡ true
+or_none true e = refl
+or_none false e = e
 
-said-terminal : (a : Answer) → any terminalMessage (saidIn a) ≡ true → isTerminal a ≡ true
-said-terminal a h = by a (speech a) h
+said_terminal : (a : Answer) → any terminal_message (said_in a) ≡ true → is_terminal a ≡ true
+said_terminal a h = by a (speech a) h
   where
-    by : (a : Answer) → Speech a → any terminalMessage (saidIn a) ≡ true → isTerminal a ≡ true
-    by a (Ends.none e n) h = absurd (false≢true (sym (ap (any terminalMessage) e) ∙ h))
-    by a (Ends.some m) h = or-none (terminalMessage m) h
+    by : (a : Answer) → Speech a → any terminal_message (said_in a) ≡ true → is_terminal a ≡ true
+    by a (Ends.none e n) h = absurd (false≢true (sym (ap (any terminal_message) e) ∙ h))
+    by a (Ends.some m) h = or_none (terminal_message m) h
 
-one-final : (a : Answer) → Final (saidIn a)
-one-final a = by a (speech a)
+one_final : (a : Answer) → Final (said_in a)
+one_final a = by a (speech a)
   where
-    by : (a : Answer) → Speech a → Final (saidIn a)
+    by : (a : Answer) → Speech a → Final (said_in a)
     by a (Ends.none e n) = subst⁻¹ Final e tt
     by a (Ends.some m) = (λ e. refl, tt)
 
-call-finishes : (c : Call) (s : State) → Finishes s.runner (next s c).runner (saidIn (answer s c))
-call-finishes c s = record {
-  over = λ f. (unsaid (answer s c) (no_more c s f), fin-stays c s f);
-  ended = λ e. ends-fin s c (Finish.ends c s (said-terminal (answer s c) e));
-  final = one-final (answer s c);
+call_finishes : (c : Call) (s : State) → Finishes s.runner (next s c).runner (said_in (answer s c))
+call_finishes c s = record {
+  over = λ f. (unsaid (answer s c) (no_more c s f), fin_stays c s f);
+  ended = λ e. ends_fin s c (Finish.ends c s (said_terminal (answer s c) e));
+  final = one_final (answer s c);
 }
 
-final-append : (ms ns : List Message) → Final ms → (any terminalMessage ms ≡ true → ns ≡ []) → Final ns → Final (ms ++ ns)
-final-append [] ns p q h = h
-final-append (m ∷ ms) ns p q h = (by (terminalMessage m) refl, final-append ms ns p.1 (λ e. q (or_right (terminalMessage m) e)) h)
+final_append : (ms ns : List Message) → Final ms → (any terminal_message ms ≡ true → ns ≡ []) → Final ns → Final (ms ++ ns)
+final_append [] ns p q h = h
+final_append (m ∷ ms) ns p q h = (by (terminal_message m) refl, final_append ms ns p.1 (λ e. q (or_right (terminal_message m) e)) h)
   where
-    or_right : (a : Bool) → any terminalMessage ms ≡ true → (a || any terminalMessage ms) ≡ true
+    or_right : (a : Bool) → any terminal_message ms ≡ true → (a || any terminal_message ms) ≡ true
     or_right true e = refl
     or_right false e = e
 
-    by : (b : Bool) → terminalMessage m ≡ b → terminalMessage m ≡ true → ms ++ ns ≡ []
-    by true e d = rw (p.0 e, q (ap (λ (a : Bool). a || any terminalMessage ms) e)) refl
+    by : (b : Bool) → terminal_message m ≡ b → terminal_message m ≡ true → ms ++ ns ≡ []
+    by true e d = rw (p.0 e, q (ap (λ (a : Bool). a || any terminal_message ms) e)) refl
     by false e d = absurd (true≢false (sym d ∙ e))
 
-finishes-on : {r s t : Runner} {ms ns : List Message} → Finishes r s ms → Finishes s t ns → Finishes r t (ms ++ ns)
-finishes-on {r} {s} {t} {ms} {ns} a b = record {
+finishes_on : {r s t : Runner} {ms ns : List Message} → Finishes r s ms → Finishes s t ns → Finishes r t (ms ++ ns)
+finishes_on {r} {s} {t} {ms} {ns} a b = record {
   over = λ f. (let p = a.over f in let q = b.over p.1 in (rw (p.0, q.0) refl, q.1));
-  ended = λ e. by (any terminalMessage ms) refl (sym (any_append terminalMessage ms ns) ∙ e);
-  final = final-append ms ns a.final (λ e. (b.over (a.ended e)).0) b.final;
+  ended = λ e. by (any terminal_message ms) refl (sym (any_append terminal_message ms ns) ∙ e);
+  final = final_append ms ns a.final (λ e. (b.over (a.ended e)).0) b.final;
 }
   where
-    by : (x : Bool) → any terminalMessage ms ≡ x → (any terminalMessage ms || any terminalMessage ns) ≡ true → t.flags.finished ≡ true
+    by : (x : Bool) → any terminal_message ms ≡ x → (any terminal_message ms || any terminal_message ns) ≡ true → t.flags.finished ≡ true
     by true e h = (b.over (a.ended e)).1
-    by false e h = b.ended (sym (ap (λ (x : Bool). x || any terminalMessage ns) e) ∙ h)
+    by false e h = b.ended (sym (ap (λ (x : Bool). x || any terminal_message ns) e) ∙ h)
 
 -- ---- an entry
 
-entry-by : (e : Entry) (m : Option Call) (s after : State) (a : Answer) → Fine s → Muted s.runner → Does e m s after a
-    → Tells s.runner after.runner (saidIn a) × Finishes s.runner after.runner (saidIn a)
+entry_by : (e : Entry) (m : Option Call) (s after : State) (a : Answer) → Fine s → Muted s.runner → Does e m s after a
+    → Tells s.runner after.runner (said_in a) × Finishes s.runner after.runner (said_in a)
 unfolding Does
-entry-by e none s after a f h d = rw (d.kept, d.answered) (
+entry_by e none s after a f h d = rw (d.kept, d.answered) (
   record { told = refl; once = tt; muted = h; silent = λ x t. refl },
   record { over = λ g. (refl, g); ended = λ t. absurd (false≢true t); final = tt },
 )
-entry-by e (some c) s after a f h d = rw (d.0, next-same s c f, d.1, answer-same s c f) (call-tells c s h, call-finishes c s)
+entry_by e (some c) s after a f h d = rw (d.0, next_same s c f, d.1, answer_same s c f) (call_tells c s h, call_finishes c s)
 
 module _ (conf : Conf) where
-  pub entry-tells : (e : Entry) (s : State) → Good conf s → Muted s.runner
-      → Tells s.runner (nextEntry s e).runner (saidIn (answerEntry s e)) × Finishes s.runner (nextEntry s e).runner (saidIn (answerEntry s e))
-  entry-tells e s g h = entry-by e (made conf e (answerEntry s e)) s (nextEntry s e) (answerEntry s e) g.fine h (does conf e s g)
+  pub entry_tells : (e : Entry) (s : State) → Good conf s → Muted s.runner
+      → Tells s.runner (next_entry s e).runner (said_in (answer_entry s e)) × Finishes s.runner (next_entry s e).runner (said_in (answer_entry s e))
+  entry_tells e s g h = entry_by e (made conf e (answer_entry s e)) s (next_entry s e) (answer_entry s e) g.fine h (does conf e s g)
 
   -- ---- a list
 
   pub list_tells : (es : List Entry) (s : State) → Good conf s → Muted s.runner
-      → Tells s.runner (afterEntries s es).runner (saidFrom s es) × Finishes s.runner (afterEntries s es).runner (saidFrom s es)
+      → Tells s.runner (after_entries s es).runner (said_from s es) × Finishes s.runner (after_entries s es).runner (said_from s es)
   list_tells [] s g h = (
     record { told = refl; once = tt; muted = h; silent = λ x t. refl },
     record { over = λ f. (refl, f); ended = λ t. absurd (false≢true t); final = tt },
   )
   list_tells (e ∷ es) s g h =
-      let k = entry-tells e s g h in
-      let l = list_tells es (nextEntry s e) (good-entry conf e s g) k.0.muted in (tells-on k.0 l.0, finishes-on k.1 l.1)
+      let k = entry_tells e s g h in
+      let l = list_tells es (next_entry s e) (good_entry conf e s g) k.0.muted in (tells_on k.0 l.0, finishes_on k.1 l.1)
 
 -- ---- from open
 
@@ -121,32 +121,32 @@ module _ (conf : Conf) (now : ℕ) (bytes lengths : List ℕ) (op : Opens conf n
   abbrev pub opened : State
   opened = Step.opened conf now bytes lengths
 
-  pub fresh-ends : ends opened.runner ≡ noEnds
+  pub fresh_ends : ends opened.runner ≡ no_ends
   unfolding fresh
-  fresh-ends = ap (λ (s : State). ends s.runner) (open-same conf now bytes lengths op)
+  fresh_ends = ap (λ (s : State). ends s.runner) (open_same conf now bytes lengths op)
 
-  pub fresh-muted : Muted opened.runner
+  pub fresh_muted : Muted opened.runner
   unfolding fresh
-  fresh-muted = subst⁻¹ (λ (s : State). Muted s.runner) (open-same conf now bytes lengths op) (λ x. rw (out-alike newOutput x) (λ e. absurd (false≢true e)))
+  fresh_muted = subst⁻¹ (λ (s : State). Muted s.runner) (open_same conf now bytes lengths op) (λ x. rw (out_alike new_output x) (λ e. absurd (false≢true e)))
 
-  pub from-open : (es : List Entry) → Tells opened.runner (afterEntries opened es).runner (saidFrom opened es) × Finishes opened.runner (afterEntries opened es).runner (saidFrom opened es)
-  from-open es = list_tells conf es opened (good-open conf now bytes lengths op) fresh-muted
+  pub from_open : (es : List Entry) → Tells opened.runner (after_entries opened es).runner (said_from opened es) × Finishes opened.runner (after_entries opened es).runner (said_from opened es)
+  from_open es = list_tells conf es opened (good_open conf now bytes lengths op) fresh_muted
 
-  behind : (es ds : List Entry) → Tells (afterEntries opened es).runner (afterEntries (afterEntries opened es) ds).runner (saidFrom (afterEntries opened es) ds) × Finishes (afterEntries opened es).runner (afterEntries (afterEntries opened es) ds).runner (saidFrom (afterEntries opened es) ds)
-  behind es ds = list_tells conf ds (afterEntries opened es) (good-at conf now bytes lengths op es) (from-open es).0.muted
+  behind : (es ds : List Entry) → Tells (after_entries opened es).runner (after_entries (after_entries opened es) ds).runner (said_from (after_entries opened es) ds) × Finishes (after_entries opened es).runner (after_entries (after_entries opened es) ds).runner (said_from (after_entries opened es) ds)
+  behind es ds = list_tells conf ds (after_entries opened es) (good_at conf now bytes lengths op es) (from_open es).0.muted
 
-  pub ended_at : (es : List Entry) (x : Stream) → (outOf x (afterEntries opened es).runner).ended ≡ (one x noEnds || any (isEnd x) (saidFrom opened es))
+  pub ended_at : (es : List Entry) (x : Stream) → (out_of x (after_entries opened es).runner).ended ≡ (one x no_ends || any (is_end x) (said_from opened es))
   ended_at es x =
-      let ms : List Message = saidFrom opened es in
-      sym (at x (afterEntries opened es).runner) ∙ ap (one x) ((from-open es).0.told ∙ ap (endsAll ms) fresh-ends) ∙ ends_so ms noEnds x
+      let ms : List Message = said_from opened es in
+      sym (at x (after_entries opened es).runner) ∙ ap (one x) ((from_open es).0.told ∙ ap (ends_all ms) fresh_ends) ∙ ends_so ms no_ends x
 
   -- THE ORDER
   pub ordered : Ordered conf now bytes lengths
   ordered = record {
-    ended = λ es ds x e. (behind es ds).0.silent x (ended_at es x ∙ rw e (or-true (one x noEnds)));
-    over = λ es ds e. ((behind es ds).1.over ((from-open es).1.ended e)).0;
+    ended = λ es ds x e. (behind es ds).0.silent x (ended_at es x ∙ rw e (or_true (one x no_ends)));
+    over = λ es ds e. ((behind es ds).1.over ((from_open es).1.ended e)).0;
   }
     where
-      or-true : (a : Bool) → (a || true) ≡ true
-      or-true true = refl
-      or-true false = refl
+      or_true : (a : Bool) → (a || true) ≡ true
+      or_true true = refl
+      or_true false = refl

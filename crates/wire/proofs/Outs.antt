@@ -13,170 +13,170 @@ use Rattle.exec.specs.declared.MaybeStatus.{MaybeStatus}
 use Rattle.exec.specs.declared.Stream.{Stream}
 use Rattle.exec.specs.Key.{admits}
 use Rattle.exec.specs.Time.{due}
-use Rattle.lifecycle.specs.Life.{isFenced}
+use Rattle.lifecycle.specs.Life.{is_fenced}
 use Rattle.choice.specs.declared.Choice.{Choice}
 use Rattle.output.specs.declared.Output.{Output}
-use Rattle.output.specs.Output.{graceEnded, givenUp, abandoned, askedOut, closedOut, failedOut, hungUp, lostOut, intake}
+use Rattle.output.specs.Output.{grace_ended, given_up, abandoned, asked_out, closed_out, failed_out, hung_up, lost_out, intake}
 use Rattle.runner.specs.declared.answer.Request.TheVariants as Request
 use Rattle.runner.specs.declared.message.Wish.{Wish}
 use Rattle.runner.specs.declared.runner.Runner.{Runner}
-use Rattle.runner.specs.Life.{awaitsLaunch, isCleanedUp, isLate, isOver, timeoutCleared, closeRunnerInput, endGrace, giveUp, abandonLaunch, abandonOpenStreams, beginTermination, passGrace, terminate, passTimeout, passSettlement, giveUpUnlessClean, passGiveUp, dropLaunch, dropStreams, passAbandonment, fire, ticked, cancelNext, noteStarted, noteLaunch, launchedNext, noteExit, noteExitOnce, exitedNext, settledNext, silenced, giveUpSoon, cutOff, cutOffOnce, detachNext}
-use Rattle.runner.specs.Message.{choose, effect, wish, wishEffect}
-use Rattle.runner.specs.State.{outOf, at}
-use Rattle.runner.specs.Streams.{isShut, room, outputNext, discardedNext, closedNext, failedNext, hungUpNext, creditNext, inputNext, endNext, writtenNext}
+use Rattle.runner.specs.Life.{awaits_launch, is_cleaned_up, is_late, is_over, timeout_cleared, close_runner_input, end_grace, give_up, abandon_launch, abandon_open_streams, begin_termination, pass_grace, terminate, pass_timeout, pass_settlement, give_up_unless_clean, pass_give_up, drop_launch, drop_streams, pass_abandonment, fire, ticked, cancel_next, note_started, note_launch, launched_next, note_exit, note_exit_once, exited_next, settled_next, silenced, give_up_soon, cut_off, cut_off_once, detach_next}
+use Rattle.runner.specs.Message.{choose, effect, wish, wish_effect}
+use Rattle.runner.specs.State.{out_of, at}
+use Rattle.runner.specs.Streams.{is_shut, room, output_next, discarded_next, closed_next, failed_next, hung_up_next, credit_next, input_next, end_next, written_next}
 use Rattle.calls.specs.Call.{Call}
 use Rattle.account.specs.Step.{State}
-use Rattle.account.specs.Claim.{isMessage}
+use Rattle.account.specs.Claim.{is_message}
 use Rattle.account.proofs.Plain.{said, next, answer}
-use Rattle.account.proofs.Sides.{out-each, on_out}
+use Rattle.account.proofs.Sides.{out_each, on_out}
 use Rattle.account.proofs.Flags.{either}
 
 abbrev pub All : (Stream → Output → Type 0) → Runner → Type 0
-All P r = (x : Stream) → P x (outOf x r)
+All P r = (x : Stream) → P x (out_of x r)
 
 pub record Stands (P : Stream → Output → Type 0) : Type 0 where
-  pub grace : (x : Stream) (o : Output) → P x o → P x (graceEnded o)
-  pub given : (x : Stream) (o : Output) → P x o → P x (givenUp o)
+  pub grace : (x : Stream) (o : Output) → P x o → P x (grace_ended o)
+  pub given : (x : Stream) (o : Output) → P x o → P x (given_up o)
   pub abandons : (x : Stream) (o : Output) → P x o → P x (abandoned o)
-  pub asked : (x : Stream) (o : Output) → P x o → P x (askedOut o)
-  pub closes : (x : Stream) (o : Output) → P x o → P x (closedOut o)
-  pub fails : (x : Stream) (o : Output) → P x o → P x (failedOut o)
-  pub hangs : (x : Stream) (o : Output) → P x o → P x (hungUp o)
-  pub loses : (x : Stream) (b : Bool) (o : Output) → P x o → P x (lostOut b o)
-  pub takes : (x : Stream) (gaveUp d : Bool) (k n : ℕ) (o : Output) → P x o → P x (intake (o.closed || gaveUp) d k n o)
+  pub asked : (x : Stream) (o : Output) → P x o → P x (asked_out o)
+  pub closes : (x : Stream) (o : Output) → P x o → P x (closed_out o)
+  pub fails : (x : Stream) (o : Output) → P x o → P x (failed_out o)
+  pub hangs : (x : Stream) (o : Output) → P x o → P x (hung_up o)
+  pub loses : (x : Stream) (b : Bool) (o : Output) → P x o → P x (lost_out b o)
+  pub takes : (x : Stream) (gave_up d : Bool) (k n : ℕ) (o : Output) → P x o → P x (intake (o.closed || gave_up) d k n o)
 
 -- where next_message says nothing, nothing was chosen
-unsaid-still : (m : Choice) (r : Runner) (store : List ℕ) → isMessage (said m r store) ≡ false → effect m r ≡ r
+unsaid_still : (m : Choice) (r : Runner) (store : List ℕ) → is_message (said m r store) ≡ false → effect m r ≡ r
 unfolding said effect
-unsaid-still Choice.None r store e = refl
-unsaid-still Choice.Credit r store e = absurd (true≢false e)
-unsaid-still Choice.Started r store e = absurd (true≢false e)
-unsaid-still Choice.InputClosed r store e = absurd (true≢false e)
-unsaid-still (Choice.End x) r store e = absurd (true≢false e)
-unsaid-still (Choice.Output x n) r store e = absurd (true≢false e)
-unsaid-still Choice.Terminal r store e = absurd (true≢false e)
+unsaid_still Choice.None r store e = refl
+unsaid_still Choice.Credit r store e = absurd (true≢false e)
+unsaid_still Choice.Started r store e = absurd (true≢false e)
+unsaid_still Choice.InputClosed r store e = absurd (true≢false e)
+unsaid_still (Choice.End x) r store e = absurd (true≢false e)
+unsaid_still (Choice.Output x n) r store e = absurd (true≢false e)
+unsaid_still Choice.Terminal r store e = absurd (true≢false e)
 
 module _ (P : Stream → Output → Type 0) (h : Stands P) where
   -- one stream's output changed
-  on : (x : Stream) (f : Output → Output) (r : Runner) → (P x (outOf x r) → P x (f (outOf x r))) → All P r → All P (at x f r)
-  on x f r k p = on_out P x (f (outOf x r)) r.outputs (k (p x)) (λ y d. p y)
+  on : (x : Stream) (f : Output → Output) (r : Runner) → (P x (out_of x r) → P x (f (out_of x r))) → All P r → All P (at x f r)
+  on x f r k p = on_out P x (f (out_of x r)) r.outputs (k (p x)) (λ y d. p y)
 
   -- ---- the timers
 
-  grace-keeps : (r : Runner) → All P r → All P (endGrace r)
-  unfolding endGrace
-  grace-keeps r p = λ x. rw (out-each graceEnded r.outputs x) (h.grace x (outOf x r) (p x))
+  grace_keeps : (r : Runner) → All P r → All P (end_grace r)
+  unfolding end_grace
+  grace_keeps r p = λ x. rw (out_each grace_ended r.outputs x) (h.grace x (out_of x r) (p x))
 
-  pass-grace : (now : ℕ) (r : Runner) → All P r → All P (passGrace r now)
-  unfolding passGrace
-  pass-grace now r p = either (All P) (due r.clocks.grace_until now) (endGrace r) r (grace-keeps r p) p
+  pass_grace_lem : (now : ℕ) (r : Runner) → All P r → All P (pass_grace r now)
+  unfolding pass_grace
+  pass_grace_lem now r p = either (All P) (due r.clocks.grace_until now) (end_grace r) r (grace_keeps r p) p
 
-  terminate-keeps : (now : ℕ) (c : Cause) (r : Runner) → All P r → All P (terminate r now c)
-  unfolding terminate beginTermination
-  terminate-keeps now c r p = either (All P) r.clocks.terminated r _ p (pass-grace now (beginTermination r now c) p)
+  terminate_keeps : (now : ℕ) (c : Cause) (r : Runner) → All P r → All P (terminate r now c)
+  unfolding terminate begin_termination
+  terminate_keeps now c r p = either (All P) r.clocks.terminated r _ p (pass_grace_lem now (begin_termination r now c) p)
 
-  timeout-keeps : (now : ℕ) (r : Runner) → All P r → All P (passTimeout r now)
-  unfolding passTimeout
-  timeout-keeps now r p = either (All P) (due r.clocks.timeout_at now) _ r (terminate-keeps now Cause.TimedOut (timeoutCleared r) p) p
+  timeout_keeps : (now : ℕ) (r : Runner) → All P r → All P (pass_timeout r now)
+  unfolding pass_timeout
+  timeout_keeps now r p = either (All P) (due r.clocks.timeout_at now) _ r (terminate_keeps now Cause.TimedOut (timeout_cleared r) p) p
 
-  given-keeps : (r : Runner) → All P r → All P (giveUp r)
-  unfolding giveUp
-  given-keeps r p = λ x. rw (out-each givenUp r.outputs x) (h.given x (outOf x r) (p x))
+  given_keeps : (r : Runner) → All P r → All P (give_up r)
+  unfolding give_up
+  given_keeps r p = λ x. rw (out_each given_up r.outputs x) (h.given x (out_of x r) (p x))
 
-  give-up-keeps : (now : ℕ) (r : Runner) → All P r → All P (passGiveUp r now)
-  unfolding passGiveUp giveUpUnlessClean
-  give-up-keeps now r p = either (All P) (due r.clocks.give_up_at now) _ r (either (All P) (isCleanedUp r) _ (giveUp r) p (given-keeps r p)) p
+  give_up_keeps : (now : ℕ) (r : Runner) → All P r → All P (pass_give_up r now)
+  unfolding pass_give_up give_up_unless_clean
+  give_up_keeps now r p = either (All P) (due r.clocks.give_up_at now) _ r (either (All P) (is_cleaned_up r) _ (give_up r) p (given_keeps r p)) p
 
-  launch-keeps : (r : Runner) → All P r → All P (dropLaunch r)
-  unfolding dropLaunch abandonLaunch
-  launch-keeps r p = either (All P) (awaitsLaunch r) (abandonLaunch r) r p p
+  launch_keeps : (r : Runner) → All P r → All P (drop_launch r)
+  unfolding drop_launch abandon_launch
+  launch_keeps r p = either (All P) (awaits_launch r) (abandon_launch r) r p p
 
-  streams-keeps : (r : Runner) → All P r → All P (dropStreams r)
-  unfolding dropStreams abandonOpenStreams
-  streams-keeps r p =
-      either (All P) (isFenced r.life.settling) (abandonOpenStreams r) r (λ x. rw (out-each abandoned r.outputs x) (h.abandons x (outOf x r) (p x))) p
+  streams_keeps : (r : Runner) → All P r → All P (drop_streams r)
+  unfolding drop_streams abandon_open_streams
+  streams_keeps r p =
+      either (All P) (is_fenced r.life.settling) (abandon_open_streams r) r (λ x. rw (out_each abandoned r.outputs x) (h.abandons x (out_of x r) (p x))) p
 
-  abandon-keeps : (now : ℕ) (r : Runner) → All P r → All P (passAbandonment r now)
-  unfolding passAbandonment
-  abandon-keeps now r p = either (All P) (due r.clocks.abandon_at now) _ r (streams-keeps (dropLaunch r) (launch-keeps r p)) p
+  abandon_keeps : (now : ℕ) (r : Runner) → All P r → All P (pass_abandonment r now)
+  unfolding pass_abandonment
+  abandon_keeps now r p = either (All P) (due r.clocks.abandon_at now) _ r (streams_keeps (drop_launch r) (launch_keeps r p)) p
 
-  tick-keeps : (now : ℕ) (r : Runner) → All P r → All P (ticked r now)
-  unfolding ticked fire passSettlement
-  tick-keeps now r p =
-      let r1 : Runner = passTimeout r now in let r2 : Runner = passGrace r1 now in let r3 : Runner = passSettlement r2 now in
+  tick_keeps : (now : ℕ) (r : Runner) → All P r → All P (ticked r now)
+  unfolding ticked fire pass_settlement
+  tick_keeps now r p =
+      let r1 : Runner = pass_timeout r now in let r2 : Runner = pass_grace r1 now in let r3 : Runner = pass_settlement r2 now in
       either (All P) r.flags.finished r (fire r now) p
-      (abandon-keeps now (passGiveUp r3 now) (give-up-keeps now r3 (pass-grace now r1 (timeout-keeps now r p))))
+      (abandon_keeps now (pass_give_up r3 now) (give_up_keeps now r3 (pass_grace_lem now r1 (timeout_keeps now r p))))
 
   -- ---- the calls that tick
 
-  cancel-keeps : (k : Admission) (now : ℕ) (c : Cause) (r : Runner) → All P r → All P (cancelNext k r now c)
-  unfolding cancelNext
-  cancel-keeps (Admission.Refused x) now c r p = p
-  cancel-keeps Admission.Stale now c r p = p
-  cancel-keeps Admission.Own now c r p =
+  cancel_keeps : (k : Admission) (now : ℕ) (c : Cause) (r : Runner) → All P r → All P (cancel_next k r now c)
+  unfolding cancel_next
+  cancel_keeps (Admission.Refused x) now c r p = p
+  cancel_keeps Admission.Stale now c r p = p
+  cancel_keeps Admission.Own now c r p =
       let t : Runner = ticked r now in
-      let q : All P t = tick-keeps now r p in either (All P) (isLate t) t (terminate t now c) q (terminate-keeps now c t q)
+      let q : All P t = tick_keeps now r p in either (All P) (is_late t) t (terminate t now c) q (terminate_keeps now c t q)
 
-  detach-keeps : (now : ℕ) (c : Cause) (r : Runner) → All P r → All P (detachNext r now c)
-  unfolding detachNext cutOffOnce cutOff giveUpSoon silenced
-  detach-keeps now c r p =
+  detach_keeps : (now : ℕ) (c : Cause) (r : Runner) → All P r → All P (detach_next r now c)
+  unfolding detach_next cut_off_once cut_off give_up_soon silenced
+  detach_keeps now c r p =
       let t : Runner = ticked r now in
-      let q : All P t = tick-keeps now r p in
-      either (All P) (t.flags.finished || t.flags.detached) t (cutOff t now c) q (grace-keeps (silenced (terminate t now c)) (terminate-keeps now c t q))
+      let q : All P t = tick_keeps now r p in
+      either (All P) (t.flags.finished || t.flags.detached) t (cut_off t now c) q (grace_keeps (silenced (terminate t now c)) (terminate_keeps now c t q))
 
-  exited-keeps : (now : ℕ) (x : MaybeStatus) (r : Runner) → All P r → All P (exitedNext r now x)
-  unfolding exitedNext noteExitOnce noteExit closeRunnerInput
-  exited-keeps now x r p =
-      let t : Runner = ticked (timeoutCleared r) now in
-      let q : All P t = tick-keeps now (timeoutCleared r) p in either (All P) (isOver t) t (noteExit t now x) q q
+  exited_keeps : (now : ℕ) (x : MaybeStatus) (r : Runner) → All P r → All P (exited_next r now x)
+  unfolding exited_next note_exit_once note_exit close_runner_input
+  exited_keeps now x r p =
+      let t : Runner = ticked (timeout_cleared r) now in
+      let q : All P t = tick_keeps now (timeout_cleared r) p in either (All P) (is_over t) t (note_exit t now x) q q
 
   -- ---- the others
 
-  launched-keeps : (x : LaunchResult) (r : Runner) → All P r → All P (launchedNext r x)
-  unfolding launchedNext noteLaunch noteStarted closeRunnerInput
-  launched-keeps LaunchResult.Started r p = either (All P) (awaitsLaunch r) _ r p p
-  launched-keeps (LaunchResult.Failed f) r p = either (All P) (awaitsLaunch r) _ r p p
+  launched_keeps : (x : LaunchResult) (r : Runner) → All P r → All P (launched_next r x)
+  unfolding launched_next note_launch note_started close_runner_input
+  launched_keeps LaunchResult.Started r p = either (All P) (awaits_launch r) _ r p p
+  launched_keeps (LaunchResult.Failed f) r p = either (All P) (awaits_launch r) _ r p p
 
-  wished-keeps : (w : Wish) (r : Runner) → All P r → All P (wishEffect w r)
-  unfolding wishEffect
-  wished-keeps Wish.None r p = p
-  wished-keeps (Wish.Request (Request.Terminate c)) r p = p
-  wished-keeps (Wish.Request (Request.Discard x)) r p = on x askedOut r (h.asked x (outOf x r)) p
-  wished-keeps (Wish.Request Request.CloseInput) r p = p
-  wished-keeps (Wish.Request Request.Settle) r p = p
+  wished_keeps : (w : Wish) (r : Runner) → All P r → All P (wish_effect w r)
+  unfolding wish_effect
+  wished_keeps Wish.None r p = p
+  wished_keeps (Wish.Request (Request.Terminate c)) r p = p
+  wished_keeps (Wish.Request (Request.Discard x)) r p = on x asked_out r (h.asked x (out_of x r)) p
+  wished_keeps (Wish.Request Request.CloseInput) r p = p
+  wished_keeps (Wish.Request Request.Settle) r p = p
 
-  pub quiet_keeps : (c : Call) (s : State) → isMessage (answer s c) ≡ false → All P s.runner → All P (next s c).runner
-  unfolding next answer creditNext inputNext endNext outputNext discardedNext closedNext failedNext hungUpNext writtenNext closeRunnerInput settledNext
-  quiet_keeps (Call.nextMessage b) s e p = subst⁻¹ (All P) (unsaid-still (choose s.runner (length b)) s.runner s.bytes e) p
-  quiet_keeps (Call.cancel now k c) s e p = cancel-keeps (admits s.runner.key k) now c s.runner p
-  quiet_keeps (Call.launched x) s e p = launched-keeps x s.runner p
-  quiet_keeps (Call.exited now x) s e p = exited-keeps now x s.runner p
-  quiet_keeps (Call.dropped now) s e p = detach-keeps now Cause.Dropped s.runner p
-  quiet_keeps (Call.reset now) s e p = detach-keeps now Cause.Reset s.runner p
-  quiet_keeps (Call.disconnect now) s e p = detach-keeps now Cause.Disconnected s.runner p
-  quiet_keeps (Call.tick now) s e p = tick-keeps now s.runner p
-  quiet_keeps Call.nextRequest s e p = wished-keeps (wish s.runner) s.runner p
+  pub quiet_keeps : (c : Call) (s : State) → is_message (answer s c) ≡ false → All P s.runner → All P (next s c).runner
+  unfolding next answer credit_next input_next end_next output_next discarded_next closed_next failed_next hung_up_next written_next close_runner_input settled_next
+  quiet_keeps (Call.next_message b) s e p = subst⁻¹ (All P) (unsaid_still (choose s.runner (length b)) s.runner s.bytes e) p
+  quiet_keeps (Call.cancel now k c) s e p = cancel_keeps (admits s.runner.key k) now c s.runner p
+  quiet_keeps (Call.launched x) s e p = launched_keeps x s.runner p
+  quiet_keeps (Call.exited now x) s e p = exited_keeps now x s.runner p
+  quiet_keeps (Call.dropped now) s e p = detach_keeps now Cause.Dropped s.runner p
+  quiet_keeps (Call.reset now) s e p = detach_keeps now Cause.Reset s.runner p
+  quiet_keeps (Call.disconnect now) s e p = detach_keeps now Cause.Disconnected s.runner p
+  quiet_keeps (Call.tick now) s e p = tick_keeps now s.runner p
+  quiet_keeps Call.next_request s e p = wished_keeps (wish s.runner) s.runner p
   quiet_keeps (Call.output x b) s e p =
       let r : Runner = s.runner in
-      on x (intake (isShut x r) (outOf x r).discarding (room x r) (length b)) r (h.takes x r.flags.gave_up (outOf x r).discarding (room x r) (length b) (outOf x r)) p
-  quiet_keeps (Call.discarded x n) s e p = on x (lostOut (ltb 0 n)) s.runner (h.loses x (ltb 0 n) (outOf x s.runner)) p
-  quiet_keeps (Call.outputClosed x) s e p = on x closedOut s.runner (h.closes x (outOf x s.runner)) p
-  quiet_keeps (Call.outputFailed x) s e p = on x failedOut s.runner (h.fails x (outOf x s.runner)) p
-  quiet_keeps (Call.outputHungUp x) s e p = on x hungUp s.runner (h.hangs x (outOf x s.runner)) p
+      on x (intake (is_shut x r) (out_of x r).discarding (room x r) (length b)) r (h.takes x r.flags.gave_up (out_of x r).discarding (room x r) (length b) (out_of x r)) p
+  quiet_keeps (Call.discarded x n) s e p = on x (lost_out (ltb 0 n)) s.runner (h.loses x (ltb 0 n) (out_of x s.runner)) p
+  quiet_keeps (Call.output_closed x) s e p = on x closed_out s.runner (h.closes x (out_of x s.runner)) p
+  quiet_keeps (Call.output_failed x) s e p = on x failed_out s.runner (h.fails x (out_of x s.runner)) p
+  quiet_keeps (Call.output_hung_up x) s e p = on x hung_up s.runner (h.hangs x (out_of x s.runner)) p
   quiet_keeps (Call.credit k y u) s e p = p
   quiet_keeps (Call.input k b) s e p = p
-  quiet_keeps (Call.endInput k) s e p = p
-  quiet_keeps (Call.inputWritten n) s e p = p
+  quiet_keeps (Call.end_input k) s e p = p
+  quiet_keeps (Call.input_written n) s e p = p
   quiet_keeps (Call.settled x) s e p = p
-  quiet_keeps (Call.readAllowance x) s e p = p
-  quiet_keeps Call.inputClosed s e p = p
-  quiet_keeps Call.pendingInput s e p = p
+  quiet_keeps (Call.read_allowance x) s e p = p
+  quiet_keeps Call.input_closed s e p = p
+  quiet_keeps Call.pending_input s e p = p
   quiet_keeps Call.deadline s e p = p
-  quiet_keeps Call.isFinished s e p = p
-  quiet_keeps Call.isDetached s e p = p
-  quiet_keeps Call.awaitsSettlement s e p = p
+  quiet_keeps Call.is_finished s e p = p
+  quiet_keeps Call.is_detached s e p = p
+  quiet_keeps Call.awaits_settlement s e p = p
   quiet_keeps Call.buffered s e p = p
-  quiet_keeps Call.highWater s e p = p
-  quiet_keeps Call.memoryBound s e p = p
+  quiet_keeps Call.high_water s e p = p
+  quiet_keeps Call.memory_bound s e p = p
   quiet_keeps Call.key s e p = p
   quiet_keeps Call.limits s e p = p

@@ -13,13 +13,13 @@ use Rattle.exec.specs.declared.Outcome.{Outcome}
 use Rattle.exec.specs.declared.Status.TheVariants as Status
 use Rattle.exec.specs.declared.Stream.TheVariants.{Stdout, Stderr}
 use Rattle.exec.specs.Key.{admits}
-use Rattle.exec.specs.Limits.{cost, bytesWith}
-use Rattle.ring.specs.Ring.{wrap, ringRead, ringFrom, ringWrite}
+use Rattle.exec.specs.Limits.{cost, bytes_with}
+use Rattle.ring.specs.Ring.{wrap, ring_read, ring_from, ring_write}
 use Rattle.ring.specs.Runs.{copied}
-use Rattle.octets.specs.Bytes.{numberAt, be32At}
+use Rattle.octets.specs.Bytes.{number_at, be32_at}
 use Rattle.octets.specs.Text as Text
-use Rattle.choice.specs.Order.{ifElse, order}
-use Rattle.output.specs.Output.{outputFits}
+use Rattle.choice.specs.Order.{if_else, order}
+use Rattle.output.specs.Output.{output_fits}
 use Rattle.codec.specs.Codec as Codec
 use Rattle.exits.specs.Exit as Exits
 use Rattle.runner.specs.Calls as Calls
@@ -30,16 +30,16 @@ use Rattle.runner.specs.Streams as Streams
 use Rattle.channel.specs.Calls as Channel
 use Rattle.calls.specs.Call as Call
 use Rattle.account.specs.Step as Step
-use Rattle.account.specs.Records.{Entry, call, nextEntry, answerEntry, afterEntries}
-use Rattle.account.proofs.TurnSession.{channel, zeros, written, records, zero-status, zero-closes, complete, channel-opens, channel-terminal, channel-taken}
-use Rattle.wire.specs.Heard.{Window, Bytes, Eof, Exit, Close, AllOf, bytesIn, joined, wire}
-use Rattle.wire.specs.Channel.{onWire, heard}
-use Rattle.wire.specs.Claim.{OfChannel, Lone, heardOf}
+use Rattle.account.specs.Records.{Entry, call, next_entry, answer_entry, after_entries}
+use Rattle.account.proofs.TurnSession.{channel, zeros, written, records, zero_status, zero_closes, complete, channel_opens, channel_terminal, channel_taken}
+use Rattle.wire.specs.Heard.{Window, Bytes, Eof, Exit, Close, AllOf, bytes_in, joined, wire}
+use Rattle.wire.specs.Channel.{on_wire, heard}
+use Rattle.wire.specs.Claim.{OfChannel, Lone, heard_of}
 use Rattle.wire.proofs.Wire.{wired}
 
 -- its entries, with the record of Terminal behind them
 abbrev pub entries : List Entry
-entries = records zero-status ++ (written ∷ [])
+entries = records zero_status ++ (written ∷ [])
 
 -- Credit of 8; Started writes nothing; "abc" of stdout, "xy" of stderr, "de" of stdout; InputClosed and the first End write nothing; the
 -- second; the status 0; CLOSE
@@ -55,11 +55,11 @@ packets = (93 ∷ 0 ∷ 0 ∷ 0 ∷ 1 ∷ 0 ∷ 0 ∷ 0 ∷ 8 ∷ [])
 
 -- the same, where the program reported a byte of stdout discarded
 abbrev pub lossy : List Entry
-lossy = call (Call.discarded Stdout 1) ∷ records zero-status
+lossy = call (Call.discarded Stdout 1) ∷ records zero_status
 
 abbrev pub cut : Outcome
 cut = record {
-  status = zero-status;
+  status = zero_status;
   cause = MaybeCause.None;
   launch_failure = MaybeLaunchFailure.None;
   stdout_truncated = true;
@@ -67,38 +67,38 @@ cut = record {
   reusable = true;
 }
 
-computed : (wire onWire (Step.opened channel 0 (zeros 16) []) entries ≡ packets)
-    × (wire onWire (Step.opened channel 0 (zeros 16) []) (lossy ++ (written ∷ [])) ≡ packets)
-    × (answerEntry (afterEntries (Step.opened channel 0 (zeros 16) []) lossy) written ≡ Call.Says (Call.Terminal cut))
-unfolding nextEntry onWire Step.next Calls.«open» Calls.launched Calls.output Calls.outputClosed Calls.exited Calls.settled Calls.nextMessage Calls.credit Range.fresh Range.stop Range.inRange outputFits bytesWith admits cost wrap ringRead ringFrom ringWrite copied ifElse order Life.closeRunnerInput Life.passGrace Life.passTimeout Life.passSettlement Life.passGiveUp Life.passAbandonment Life.fire Life.ticked Life.noteStarted Life.noteLaunch Life.launchedNext Life.noteExit Life.noteExitOnce Life.exitedNext Life.settledNext Life.isReady Life.outcomeOf Message.sendableOf Message.choose Message.outputPaid Message.outputSent Message.effect Message.payload Message.bufferAfter Message.saidFor Streams.outputTaken Streams.outputNext Streams.outputStore Streams.outputTook Streams.closedNext Streams.creditIn Streams.creditAnswer Streams.creditNext numberAt be32At Channel.admitted Channel.made Channel.parsedRead Channel.admittedRead Channel.readRecord Channel.sentAs Channel.sentBuffer Channel.wrote Channel.wroteBuffer Channel.told Channel.asked Channel.isLeft Channel.sent Channel.roomyWrite Channel.admittedWrite Channel.writeRecord Codec.header Codec.bytesOf Codec.laidRecord Codec.kinded Codec.fitting Codec.checked Codec.read Exits.ending Exits.request Exits.isUntold Exits.isTold Text.bytes answerEntry Calls.discarded Streams.discardedNext
+computed : (wire on_wire (Step.opened channel 0 (zeros 16) []) entries ≡ packets)
+    × (wire on_wire (Step.opened channel 0 (zeros 16) []) (lossy ++ (written ∷ [])) ≡ packets)
+    × (answer_entry (after_entries (Step.opened channel 0 (zeros 16) []) lossy) written ≡ Call.Says (Call.Terminal cut))
+unfolding next_entry on_wire Step.next Calls.«open» Calls.launched Calls.output Calls.output_closed Calls.exited Calls.settled Calls.next_message Calls.credit Range.fresh Range.stop Range.in_range output_fits bytes_with admits cost wrap ring_read ring_from ring_write copied if_else order Life.close_runner_input Life.pass_grace Life.pass_timeout Life.pass_settlement Life.pass_give_up Life.pass_abandonment Life.fire Life.ticked Life.note_started Life.note_launch Life.launched_next Life.note_exit Life.note_exit_once Life.exited_next Life.settled_next Life.is_ready Life.outcome_of Message.sendable_of Message.choose Message.output_paid Message.output_sent Message.effect Message.payload Message.buffer_after Message.said_for Streams.output_taken Streams.output_next Streams.output_store Streams.output_took Streams.closed_next Streams.credit_in Streams.credit_answer Streams.credit_next number_at be32_at Channel.admitted Channel.made Channel.parsed_read Channel.admitted_read Channel.read_record Channel.sent_as Channel.sent_buffer Channel.wrote Channel.wrote_buffer Channel.told Channel.asked Channel.is_left Channel.sent Channel.roomy_write Channel.admitted_write Channel.write_record Codec.header Codec.bytes_of Codec.laid_record Codec.kinded Codec.fitting Codec.checked Codec.read Exits.ending Exits.request Exits.is_untold Exits.is_told Text.bytes answer_entry Calls.discarded Streams.discarded_next
 computed = (refl, refl, refl)
 
-pub session : wire onWire (Step.opened channel 0 (zeros 16) []) entries ≡ packets
+pub session : wire on_wire (Step.opened channel 0 (zeros 16) []) entries ≡ packets
 session = computed.0
 
 -- THE WIRE DOES NOT TELL TRUNCATION: these bytes too, and a stream that is truncated
-pub blind : (wire onWire (Step.opened channel 0 (zeros 16) []) (lossy ++ (written ∷ [])) ≡ packets)
-    × (answerEntry (afterEntries (Step.opened channel 0 (zeros 16) []) lossy) written ≡ Call.Says (Call.Terminal cut))
+pub blind : (wire on_wire (Step.opened channel 0 (zeros 16) []) (lossy ++ (written ∷ [])) ≡ packets)
+    × (answer_entry (after_entries (Step.opened channel 0 (zeros 16) []) lossy) written ≡ Call.Says (Call.Terminal cut))
 blind = (computed.1, computed.2)
 
 -- what its peer hears
-pub session-heard : heard 1 packets ≡ Window 8 ∷ Bytes Stdout (97 ∷ 98 ∷ 99 ∷ []) ∷ Bytes Stderr (120 ∷ 121 ∷ []) ∷ Bytes Stdout (100 ∷ 101 ∷ []) ∷ Eof ∷ Exit (Status.Exited (pos 0)) ∷ Close ∷ []
-unfolding Codec.kinded Codec.fitting Codec.checked Codec.read Exits.read Exits.matching Exits.guess Exits.request Exits.isTold Text.bytes Text.same numberAt be32At
-session-heard = refl
+pub session_heard : heard 1 packets ≡ Window 8 ∷ Bytes Stdout (97 ∷ 98 ∷ 99 ∷ []) ∷ Bytes Stderr (120 ∷ 121 ∷ []) ∷ Bytes Stdout (100 ∷ 101 ∷ []) ∷ Eof ∷ Exit (Status.Exited (pos 0)) ∷ Close ∷ []
+unfolding Codec.kinded Codec.fitting Codec.checked Codec.read Exits.read Exits.matching Exits.guess Exits.request Exits.is_told Text.bytes Text.same number_at be32_at
+session_heard = refl
 
 -- and what the claim says of it: with stores of any content the peer has all that the program handed over
-lone : AllOf (Lone 1) (records zero-status)
+lone : AllOf (Lone 1) (records zero_status)
 lone = (refl, (tt, (refl, (refl, (refl, (refl, (refl, (refl, (refl, (refl, (refl, (refl, (refl, (refl, (refl, (refl, (refl, tt)))))))))))))))))
 
-of-channel : OfChannel channel 1
-of-channel = record { limits = refl; chunk = omega arith; input = omega arith; number = omega arith }
+of_channel : OfChannel channel 1
+of_channel = record { limits = refl; chunk = omega arith; input = omega arith; number = omega arith }
 
-pub session-whole : (bytes lengths : List ℕ) → 16 ≤ length bytes
-    → (joined (bytesIn Stdout) (heardOf channel 0 bytes lengths 1 (records zero-status)) ≡ 97 ∷ 98 ∷ 99 ∷ 100 ∷ 101 ∷ [])
-    × (joined (bytesIn Stderr) (heardOf channel 0 bytes lengths 1 (records zero-status)) ≡ 120 ∷ 121 ∷ [])
-session-whole bytes lengths h =
-    let told = zero-closes.2 in
-    let w = (wired channel 0 bytes lengths 1 (channel-opens zero-status bytes lengths h) of-channel).whole (records zero-status) written complete in
-    let e = channel-terminal zero-status bytes lengths h told in
-    let t = channel-taken zero-status bytes lengths h told in
+pub session_whole : (bytes lengths : List ℕ) → 16 ≤ length bytes
+    → (joined (bytes_in Stdout) (heard_of channel 0 bytes lengths 1 (records zero_status)) ≡ 97 ∷ 98 ∷ 99 ∷ 100 ∷ 101 ∷ [])
+    × (joined (bytes_in Stderr) (heard_of channel 0 bytes lengths 1 (records zero_status)) ≡ 120 ∷ 121 ∷ [])
+session_whole bytes lengths h =
+    let told = zero_closes.2 in
+    let w = (wired channel 0 bytes lengths 1 (channel_opens zero_status bytes lengths h) of_channel).whole (records zero_status) written complete in
+    let e = channel_terminal zero_status bytes lengths h told in
+    let t = channel_taken zero_status bytes lengths h told in
     (w Stdout lone e refl ∙ t.0, w Stderr lone e refl ∙ t.1)

@@ -6,7 +6,7 @@ use Rattle.exec.specs.declared.Stream.TheVariants.{Stdout, Stderr}
 use Rattle.exec.specs.Each.{Each, every}
 use Rattle.runner.specs.declared.answer.Message as Messages
 use Rattle.runner.specs.declared.answer.Message.TheVariants as Message
-use Rattle.octets.specs.Bytes.{numberAt}
+use Rattle.octets.specs.Bytes.{number_at}
 use Rattle.codec.specs.declared.Parsed.{Parsed}
 use Rattle.codec.specs.Codec as Codec
 use Rattle.exits.specs.declared.Told.{Told}
@@ -15,8 +15,8 @@ use Rattle.channel.specs.declared.calls.Wrote.{Wrote}
 use Rattle.channel.specs.Calls as Channel
 use Rattle.calls.specs.Call as Call
 use Rattle.account.specs.Step.{State}
-use Rattle.account.specs.Records.{Entry, call, readRecord, writeRecord}
-use Rattle.wire.specs.Messages.{endsBy}
+use Rattle.account.specs.Records.{Entry, call, read_record, write_record}
+use Rattle.wire.specs.Messages.{ends_by}
 use Rattle.wire.specs.Heard.{Heard, Window, Bytes, Eof, Exit, Close, Unread}
 
 -- ---- what stands on it
@@ -40,48 +40,48 @@ written (Wrote.Message m n) buffer = packets m n buffer
 written (Wrote.Refused x) buffer = []
 
 -- the records that an entry writes
-unfoldable pub onWire : State → Entry → List (List ℕ)
-onWire s (call c) = []
-onWire s (readRecord now channel b) = []
-onWire s (writeRecord channel buffer) =
-    written (Channel.writeRecord s.runner channel s.bytes buffer).writing.wrote (Channel.writeRecord s.runner channel s.bytes buffer).buffer
+unfoldable pub on_wire : State → Entry → List (List ℕ)
+on_wire s (call c) = []
+on_wire s (read_record now channel b) = []
+on_wire s (write_record channel buffer) =
+    written (Channel.write_record s.runner channel s.bytes buffer).writing.wrote (Channel.write_record s.runner channel s.bytes buffer).buffer
 
 -- ---- what its peer hears
 
-abbrev pub readIf : Bool → Heard → Heard
-readIf b h = cond b h Unread
+abbrev pub read_if : Bool → Heard → Heard
+read_if b h = cond b h Unread
 
 -- a record that the codec's reader accepts, by its first byte and by RFC 4254's places: the channel stands at 1; of a 93 the units at
 -- 5; of a 94 the payload's length at 5 and the payload at 9; of a 95 the type, 1, at 5, the length at 9 and the payload at 13
-abbrev pub byKind : (channel kind : ℕ) → List ℕ → Heard
-byKind channel kind b =
-    readIf (eqb (numberAt b 1) channel)
-    (cond (eqb kind 93) (Window (numberAt b 5))
-    (cond (eqb kind 94) (readIf (eqb (numberAt b 5) (length b - 9)) (Bytes Stdout (drop 9 b)))
-    (cond (eqb kind 95) (readIf (eqb (numberAt b 5) 1 && eqb (numberAt b 9) (length b - 13)) (Bytes Stderr (drop 13 b)))
+abbrev pub by_kind : (channel kind : ℕ) → List ℕ → Heard
+by_kind channel kind b =
+    read_if (eqb (number_at b 1) channel)
+    (cond (eqb kind 93) (Window (number_at b 5))
+    (cond (eqb kind 94) (read_if (eqb (number_at b 5) (length b - 9)) (Bytes Stdout (drop 9 b)))
+    (cond (eqb kind 95) (read_if (eqb (number_at b 5) 1 && eqb (number_at b 9) (length b - 13)) (Bytes Stderr (drop 13 b)))
     (cond (eqb kind 96) Eof
     (cond (eqb kind 97) Close Unread)))))
 
-abbrev pub asRecord : (channel : ℕ) → Parsed → List ℕ → Heard
-asRecord channel (Parsed.Read rec) b = byKind channel (get_or b 0 0) b
-asRecord channel (Parsed.Refused x) b = Unread
+abbrev pub as_record : (channel : ℕ) → Parsed → List ℕ → Heard
+as_record channel (Parsed.Read rec) b = by_kind channel (get_or b 0 0) b
+as_record channel (Parsed.Refused x) b = Unread
 
 -- 98, by the reader of the exit requests
-abbrev pub asRequest : Told → Heard
-asRequest (Told.Status s) = Exit s
-asRequest (Told.Refused x) = Unread
+abbrev pub as_request : Told → Heard
+as_request (Told.Status s) = Exit s
+as_request (Told.Refused x) = Unread
 
 abbrev pub hear : (channel : ℕ) → List ℕ → Heard
-hear channel b = cond (eqb (get_or b 0 0) 98) (asRequest (Exits.read channel b)) (asRecord channel (Codec.read channel b) b)
+hear channel b = cond (eqb (get_or b 0 0) 98) (as_request (Exits.read channel b)) (as_record channel (Codec.read channel b) b)
 
 abbrev pub heard : (channel : ℕ) → List (List ℕ) → List Heard
 heard channel bs = map (hear channel) bs
 
 -- ---- what is to be heard of a message
 
-abbrev pub exitOf : MaybeStatus → List Heard
-exitOf MaybeStatus.None = []
-exitOf (MaybeStatus.Some s) = Exit s ∷ []
+abbrev pub exit_of : MaybeStatus → List Heard
+exit_of MaybeStatus.None = []
+exit_of (MaybeStatus.Some s) = Exit s ∷ []
 
 -- Credit its units, Output its bytes, the End with which every stream has ended an EOF, Terminal the status, if there is one, and
 -- then CLOSE; Started, InputClosed and any other End nothing
@@ -89,6 +89,6 @@ abbrev pub speaks : Each Bool → Call.Message → List Heard
 speaks e (Call.Credit n) = Window n ∷ []
 speaks e Call.Started = []
 speaks e (Call.Output x b) = Bytes x b ∷ []
-speaks e (Call.End x) = cond (every (endsBy (Call.End x) e)) (Eof ∷ []) []
+speaks e (Call.End x) = cond (every (ends_by (Call.End x) e)) (Eof ∷ []) []
 speaks e Call.InputClosed = []
-speaks e (Call.Terminal o) = exitOf o.status ++ (Close ∷ [])
+speaks e (Call.Terminal o) = exit_of o.status ++ (Close ∷ [])

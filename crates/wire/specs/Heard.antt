@@ -4,11 +4,11 @@ use Rattle.std.specs.Prelude.{Bool, true, false, cond, List, [], ◌∷◌, ◌+
 use Rattle.exec.specs.declared.Status.{Status}
 use Rattle.exec.specs.declared.Stream.{Stream}
 use Rattle.exec.specs.Each.{Each}
-use Rattle.exec.specs.Stream.{sameStream}
+use Rattle.exec.specs.Stream.{same_stream}
 use Rattle.calls.specs.Call.{Message}
 use Rattle.account.specs.Step.{State}
-use Rattle.account.specs.Records.{Entry, nextEntry}
-use Rattle.wire.specs.Messages.{endsBy}
+use Rattle.account.specs.Records.{Entry, next_entry}
+use Rattle.wire.specs.Messages.{ends_by}
 
 -- what a record is heard as
 pub data Heard : Type 0 where
@@ -21,45 +21,45 @@ pub data Heard : Type 0 where
 
 -- ---- what the peer has
 
-abbrev pub bytesIn : Stream → Heard → List ℕ
-bytesIn x (Window n) = []
-bytesIn x (Bytes y b) = cond (sameStream y x) b []
-bytesIn x Eof = []
-bytesIn x (Exit s) = []
-bytesIn x Close = []
-bytesIn x Unread = []
+abbrev pub bytes_in : Stream → Heard → List ℕ
+bytes_in x (Window n) = []
+bytes_in x (Bytes y b) = cond (same_stream y x) b []
+bytes_in x Eof = []
+bytes_in x (Exit s) = []
+bytes_in x Close = []
+bytes_in x Unread = []
 
-abbrev pub unitsIn : Heard → List ℕ
-unitsIn (Window n) = n ∷ []
-unitsIn (Bytes x b) = []
-unitsIn Eof = []
-unitsIn (Exit s) = []
-unitsIn Close = []
-unitsIn Unread = []
+abbrev pub units_in : Heard → List ℕ
+units_in (Window n) = n ∷ []
+units_in (Bytes x b) = []
+units_in Eof = []
+units_in (Exit s) = []
+units_in Close = []
+units_in Unread = []
 
-abbrev pub isEof : Heard → Bool
-isEof (Window n) = false
-isEof (Bytes x b) = false
-isEof Eof = true
-isEof (Exit s) = false
-isEof Close = false
-isEof Unread = false
+abbrev pub is_eof : Heard → Bool
+is_eof (Window n) = false
+is_eof (Bytes x b) = false
+is_eof Eof = true
+is_eof (Exit s) = false
+is_eof Close = false
+is_eof Unread = false
 
-abbrev pub isClose : Heard → Bool
-isClose (Window n) = false
-isClose (Bytes x b) = false
-isClose Eof = false
-isClose (Exit s) = false
-isClose Close = true
-isClose Unread = false
+abbrev pub is_close : Heard → Bool
+is_close (Window n) = false
+is_close (Bytes x b) = false
+is_close Eof = false
+is_close (Exit s) = false
+is_close Close = true
+is_close Unread = false
 
-abbrev pub isUnread : Heard → Bool
-isUnread (Window n) = false
-isUnread (Bytes x b) = false
-isUnread Eof = false
-isUnread (Exit s) = false
-isUnread Close = false
-isUnread Unread = true
+abbrev pub is_unread : Heard → Bool
+is_unread (Window n) = false
+is_unread (Bytes x b) = false
+is_unread Eof = false
+is_unread (Exit s) = false
+is_unread Close = false
+is_unread Unread = true
 
 -- what each gives, joined
 abbrev pub joined : {A B : Type 0} → (A → List B) → List A → List B
@@ -78,12 +78,12 @@ abbrev pub AllOf : (Entry → Type 0) → List Entry → Type 0
 AllOf P [] = Unit
 AllOf P (e ∷ es) = P e × AllOf P es
 
--- the records of a list, where onWire has those of an entry
+-- the records of a list, where on_wire has those of an entry
 abbrev pub wire : (State → Entry → List (List ℕ)) → State → List Entry → List (List ℕ)
-wire onWire s [] = []
-wire onWire s (e ∷ es) = onWire s e ++ wire onWire (nextEntry s e) es
+wire on_wire s [] = []
+wire on_wire s (e ∷ es) = on_wire s e ++ wire on_wire (next_entry s e) es
 
 -- what is to be heard of messages, where speaks says it of one, by the streams whose End was told before
-abbrev pub toldBy : (speaks : Each Bool → Message → List Heard) → Each Bool → List Message → List Heard
-toldBy speaks e [] = []
-toldBy speaks e (m ∷ ms) = speaks e m ++ toldBy speaks (endsBy m e) ms
+abbrev pub told_by : (speaks : Each Bool → Message → List Heard) → Each Bool → List Message → List Heard
+told_by speaks e [] = []
+told_by speaks e (m ∷ ms) = speaks e m ++ told_by speaks (ends_by m e) ms

@@ -1,6 +1,6 @@
 -- A store is a copy of one byte.
-use Rattle.ring.specs.Runs.{copied-one}
+use Rattle.ring.specs.Runs.{copied_one}
 use Rattle.decimal.proofs.put_minus.Goals as goal
 
 pub returns : goal.returns
-returns c = copied-one _ _ _ c.requires
+returns c = copied_one _ _ _ c.requires

@@ -1,7 +1,7 @@
 -- The name's length and the name behind the head.
 use Rattle.std.proofs.Common.{◌∙◌}
 use Rattle.octets.specs.Text.{bytes}
-use Rattle.exits.proofs.Laying.{name-laid}
+use Rattle.exits.proofs.Laying.{name_laid}
 use Rattle.exits.proofs.put_name.Goals as goal
 
 pub returns : goal.returns
@@ -9,4 +9,4 @@ unfolding bytes
 returns c =
     let a = c.args in
     c.copy_in.ensures
-    ∙ name-laid a.buffer.now a.channel a.signal _ _ c.requires.0 c.requires.1 c.put_head.ensures c.put_be32.ensures
+    ∙ name_laid a.buffer.now a.channel a.signal _ _ c.requires.0 c.requires.1 c.put_head.ensures c.put_be32.ensures

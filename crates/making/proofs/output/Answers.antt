@@ -3,16 +3,16 @@ use Rattle.std.proofs.Common.{◌-◌, ◌∙◌, List, ℕ, arith, ap, sym}
 use Rattle.account.specs.Step.{took}
 use Rattle.runner.specs.Calls as Runs
 use Rattle.runner.specs.Streams.{OutputAfter}
-use Rattle.printing.specs.Lengths.{take-fewer}
-use Rattle.making.proofs.Kept.{outputMoved, output_kept}
+use Rattle.printing.specs.Lengths.{take_fewer}
+use Rattle.making.proofs.Kept.{output_moved, output_kept}
 use Rattle.making.proofs.output.Goals as goal
 
 pub returns : goal.returns
 returns c =
     let a = c.args in
-    let t = take-fewer (c.smaller-k.result - 0) a.n a.work.now (omega (arith, c.smaller-k.ensures)) in
+    let t = take_fewer (c.smaller-k.result - 0) a.n a.work.now (omega (arith, c.smaller-k.ensures)) in
     let e = c.output-taking.ensures ∙ ap (λ (b : List ℕ). Runs.output a.runner.now a.stream b a.store.now) t in (
-      ap (λ (x : OutputAfter). outputMoved a.runner.now x.taking.runner) e ∙ sym (output_kept a.runner.now a.stream _ a.store.now),
+      ap (λ (x : OutputAfter). output_moved a.runner.now x.taking.runner) e ∙ sym (output_kept a.runner.now a.stream _ a.store.now),
       ap (λ (x : OutputAfter). x.bytes) e,
       λ w. c.took.ensures w ∙ ap (λ (x : OutputAfter). took x.taking.taken) e,
     )

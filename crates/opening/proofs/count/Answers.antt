@@ -1,7 +1,7 @@
 -- A turn counts one byte.
 use Rattle.std.proofs.Common.{◌≡◌, refl, arith, length, drop}
 use Rattle.syntax.specs.Lines.{fields}
-use Rattle.opening.specs.PlaceLaws.{count_turn, count-end}
+use Rattle.opening.specs.PlaceLaws.{count_turn, count_end}
 use Rattle.opening.proofs.count.Goals as goal
 
 pub loop-i-preserved : goal.loop-i-preserved
@@ -17,5 +17,5 @@ returns c =
     let l = c.loop-i in
     let s = c.args.line.now in
     let i : l.i ≡ length s = omega arith in
-    let one : length (fields (drop l.i s)) ≡ 1 = rw i (count-end s) in
+    let one : length (fields (drop l.i s)) ≡ 1 = rw i (count_end s) in
     omega (arith, l.invariant.3)

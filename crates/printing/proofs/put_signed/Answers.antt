@@ -2,9 +2,9 @@
 use Rattle.std.proofs.Common.{arith}
 use mir.Syntax.{w32}
 use mir.ValLaws.{to_z-of_z}
-use Rattle.printing.specs.Lengths.{wrote-signed}
+use Rattle.printing.specs.Lengths.{wrote_signed}
 use Rattle.printing.proofs.put_signed.Goals as goal
 
 pub returns : goal.returns
 returns c =
-    wrote-signed _ c.args.n (to_z-of_z w32 c.args.n c.ranges.n) c.ranges.n c.write_signed.ensures.out_after c.write_signed.ensures.value (omega arith)
+    wrote_signed _ c.args.n (to_z-of_z w32 c.args.n c.ranges.n) c.ranges.n c.write_signed.ensures.out_after c.write_signed.ensures.value (omega arith)

@@ -1,11 +1,11 @@
 -- A block goes on from where the copy has come (`copied_on`).
 use Rattle.std.proofs.Common.{refl, arith}
-use Rattle.ring.specs.Runs.{copied-zero}
+use Rattle.ring.specs.Runs.{copied_zero}
 use Rattle.ring.specs.Lent.{copied_on}
 use Rattle.ring.proofs.copy_blocks.Goals as goal
 
 pub loop-done-init : goal.loop-done-init
-loop-done-init c = (omega arith, copied-zero _ _ _ _, refl)
+loop-done-init c = (omega arith, copied_zero _ _ _ _, refl)
 
 pub loop-done-preserved : goal.loop-done-preserved
 loop-done-preserved c = (

@@ -1,7 +1,7 @@
 -- A line by its stage; a later one is found.
 use Rattle.std.proofs.Common.{refl}
 use Rattle.grammar.specs.Feed.{answered}
-use Rattle.standing.proofs.Lines.{refused-made}
+use Rattle.standing.proofs.Lines.{refused_made}
 use Rattle.standing.proofs.Standing.answered.Goals as goal
 
 pub returns-in-First : goal.returns-in-First
@@ -10,4 +10,4 @@ returns-in-First c = let e = c.in-First.is in rw e (rw e at (c.first.ensures c.a
 
 pub returns-in-Over : goal.returns-in-Over
 unfolding answered
-returns-in-Over c = rw c.in-Over.is (refused-made _ c.bad.result _ _ _ _ c.bad.ensures refl)
+returns-in-Over c = rw c.in-Over.is (refused_made _ c.bad.result _ _ _ _ c.bad.ensures refl)

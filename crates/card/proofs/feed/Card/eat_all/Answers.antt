@@ -1,10 +1,10 @@
 -- Nothing is eaten at first; a turn eats more.
 use Rattle.std.proofs.Common.{◌≡◌, ◌∙◌, rules, length}
-use Rattle.card.proofs.Turns.{so-first, so-next}
+use Rattle.card.proofs.Turns.{so_first, so_next}
 use Rattle.card.proofs.feed.Card.eat_all.Goals as goal
 
 pub loop-t-init : goal.loop-t-init
-loop-t-init c = (c.requires.0, so-first _ _ _ c.requires.1 c.requires.0.0)
+loop-t-init c = (c.requires.0, so_first _ _ _ c.requires.1 c.requires.0.0)
 
 pub loop-t-preserved : goal.loop-t-preserved
 loop-t-preserved c =
@@ -16,5 +16,5 @@ loop-t-preserved c =
     let lengths : length g.new.lengths ≡ length l.lengths = search rules in
     let work : length g.new.work ≡ length l.work = search rules in (
       (line ∙ a.0, store ∙ a.1, lengths ∙ a.2, work ∙ a.3),
-      so-next _ _ _ l.t _ _ _ l.invariant.1 c.loop-t-test.true g.ensures,
+      so_next _ _ _ l.t _ _ _ l.invariant.1 c.loop-t-test.true g.ensures,
     )
