@@ -32,7 +32,8 @@ use Rattle.channel.specs.Calls as Channel
 use Rattle.channel.specs.Calls.{ReadAfter, WriteAfter, is_channel, admitted, heard_as, noted_as, parsed_read, admitted_read, room, asked, is_left, sent, told, wrote, wrote_buffer, sent_as, sent_buffer, part_back, has_ended}
 use Rattle.codec.specs.Codec.{start, size, kinded, is_typed, fitting, checked, read, laid_record}
 use Rattle.codec.specs.RoundTrip.{payload_back, laid_front}
-use Rattle.channel.specs.Ended.{Writes, elsewhere, short, left, taken, tells, choice_left}
+use Rattle.channel.specs.Ended.{Writes, elsewhere, short, left, taken, tells}
+use Rattle.channel.proofs.Ended.{choice_left}
 use Rattle.exits.specs.Exit.{is_untold}
 use Rattle.calls.specs.Call as Call
 use Rattle.calls.specs.Call.{Conf, Call, Answer, Done}

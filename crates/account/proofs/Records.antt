@@ -20,7 +20,7 @@ use Rattle.runner.specs.Message.{said_for}
 use Rattle.runner.specs.Range.{stop, bytes_do, fresh}
 use Rattle.channel.specs.Calls as Channel
 use Rattle.channel.specs.Calls.{ReadAfter, WriteAfter, is_channel, admitted, heard_as, noted_as, parsed_read, admitted_read, room, asked, is_left, sent, told, wrote, wrote_buffer, sent_as, sent_buffer, part_back, has_ended}
-use Rattle.channel.specs.Ended.{writes, write_left}
+use Rattle.channel.proofs.Ended.{writes, write_left}
 use Rattle.exits.specs.Exit.{is_untold}
 use Rattle.calls.specs.Call as Call
 use Rattle.calls.specs.Call.{Conf, Call, Answer, Done}

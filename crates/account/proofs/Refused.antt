@@ -56,7 +56,8 @@ use Rattle.account.proofs.Plain as Plain
 use Rattle.account.proofs.Plain.{said}
 use Rattle.account.proofs.Flags.{either, or_right}
 use Rattle.account.proofs.Guarded.{next_is, answer_is}
-use Rattle.channel.specs.Ended.{Writes, elsewhere, short, left, taken, tells, writes}
+use Rattle.channel.specs.Ended.{Writes, elsewhere, short, left, taken, tells}
+use Rattle.channel.proofs.Ended.{writes}
 use Rattle.account.proofs.EachRecord.{RefusedBy, reads_by, Among, Does, told_as, answers}
 use Rattle.account.proofs.Records.{read_does, write_does}
 use Rattle.account.proofs.Safe.{IfRefused, Kept, Safe, admits_by, credit_safe, late_safe}

@@ -57,7 +57,8 @@ use Rattle.account.proofs.Plain.{said, next, answer, begun, after_all, run}
 use Rattle.account.proofs.Finish.{Ends, ends, ends_answer}
 use Rattle.account.proofs.Lists.{plain_of}
 use Rattle.account.proofs.Demand.{goes, answer_same, same_run, same_answer, same_account as plain_account}
-use Rattle.channel.specs.Ended.{Writes, elsewhere, short, left, taken, writes}
+use Rattle.channel.specs.Ended.{Writes, elsewhere, short, left, taken}
+use Rattle.channel.proofs.Ended.{writes}
 use Rattle.account.proofs.EachRecord.{Does, answers}
 use Rattle.account.proofs.Records.{Good, does, made_so, good_open, good_entry, good_at, same_account}
 use Rattle.account.proofs.Session.{conf, message, answers_of, open_ok, named_four}

@@ -1,8 +1,11 @@
 -- What an answer of the code stands for.
-use Rattle.std.specs.Prelude.{List, ◌≡◌, ℕ, take}
+use Rattle.std.specs.Prelude.{List, ◌≡◌, ℕ, take, false, refl}
 use Rattle.calls.specs.Call as Call
 use Rattle.account.specs.Step.{message_of, request_of}
 use Rattle.answering.specs.declared.Answer.{Answer}
+use Rattle.calls.specs.Call.{is_refused}
+use Rattle.runner.specs.declared.answer.Message.{Message}
+use Rattle.runner.specs.declared.answer.Request.{Request}
 
 -- the bytes of a pending and of an Output are the first of `work`
 abbrev pub answer_is : Answer → (work : List ℕ) → Call.Answer
@@ -23,3 +26,18 @@ answer_is Answer.Nothing work = Call.Nothing
 -- whatever stands in `work`
 abbrev pub AnswerIs : Answer → ((work : List ℕ) → Call.Answer) → Type 0
 AnswerIs a f = (work : List ℕ) → answer_is a work ≡ f work
+
+-- neither a request nor a message is a refusal
+pub request_stands : (q : Request) → false ≡ is_refused (request_of q)
+request_stands (Request.Terminate c) = refl
+request_stands (Request.Discard x) = refl
+request_stands Request.CloseInput = refl
+request_stands Request.Settle = refl
+
+pub message_stands : (m : Message) (work : List ℕ) → false ≡ is_refused (message_of m work)
+message_stands (Message.Credit n) work = refl
+message_stands Message.Started work = refl
+message_stands (Message.Output x n) work = refl
+message_stands (Message.End x) work = refl
+message_stands Message.InputClosed work = refl
+message_stands (Message.Terminal o) work = refl

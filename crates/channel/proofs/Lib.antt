@@ -1,2 +1,4 @@
--- What the proofs of several functions share.
+-- What the proofs of several functions share, and what holds of every write.
 pub mod Steps
+pub mod Ended
+pub mod Kept

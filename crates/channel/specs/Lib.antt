@@ -2,5 +2,4 @@
 pub mod Calls
 pub mod CallLaws
 pub mod Ended
-pub mod Kept
 pub mod Edges

@@ -1,2 +1,3 @@
--- What the proofs of several functions share.
+-- What the proofs of several functions share, and what was read, written again.
 pub mod Laying
+pub mod RoundTrip

@@ -1,13 +1,12 @@
--- Each side undoes the other: what is written reads back as the record, and what the reader accepts is written back byte for byte.
-use Rattle.std.specs.Prelude.{◌≡◌, List, ◌++◌, ℕ, ◌+◌, ◌^◌, ◌≤◌, ◌<◌, length, drop, get_or}
+-- What is written reads back as the record. (`proofs/RoundTrip`: what the reader accepts is written back byte for byte.)
+use Rattle.std.specs.Prelude.{◌≡◌, List, ◌++◌, ℕ, ◌+◌, ◌^◌, ◌≤◌, ◌<◌, length, drop}
 use Rattle.std.proofs.Common.{ap, ◌∙◌, arith, length-append, length-drop, length-take-le, drop_at}
 use Rattle.std.proofs.Math.ListN.{take}
 use Rattle.std.proofs.Math.Seq.{take_at}
 use Rattle.codec.specs.declared.Parsed.TheVariants as Parsed
 use Rattle.codec.specs.declared.Record.{Record}
-use Rattle.octets.specs.BytesLaws.{number_fits}
 use Rattle.codec.specs.Codec.{header, start, size, Fits, bytes_of, read, laid_record}
-use Rattle.codec.specs.CodecLaws.{header_length, holds_written, read_of, read_is, written_again, held_fits}
+use Rattle.codec.specs.CodecLaws.{header_length, holds_written, read_of}
 
 -- WRITTEN, THEN READ
 pub back : (channel : ℕ) (rec : Record) (payload : List ℕ) → channel < 2 ^ 32 → Fits rec → length payload ≡ size rec
@@ -17,20 +16,6 @@ back channel rec payload known fits e = read_of channel _ rec (holds_written cha
 pub payload_back : (channel : ℕ) (rec : Record) (payload : List ℕ) → drop (start rec) (bytes_of channel rec payload) ≡ payload
 unfolding bytes_of
 payload_back channel rec payload = drop_at (header channel rec) payload (start rec) (header_length channel rec)
-
--- READ, THEN WRITTEN; and what was read meets what `back` asks
-module _ (channel : ℕ) (s : List ℕ) (rec : Record) (bytes : (i : ℕ) → get_or s i 0 < 256) (accepted : read channel s ≡ Parsed.Read rec) where
-  pub forth : bytes_of channel rec (drop (start rec) s) ≡ s
-  forth = written_again channel s bytes rec (read_is channel s rec accepted)
-
-  pub forth_channel : channel < 2 ^ 32
-  forth_channel = omega (arith, number_fits s bytes 1, (read_is channel s rec accepted).mine)
-
-  pub forth_fits : Fits rec
-  forth_fits = held_fits channel s bytes rec (read_is channel s rec accepted)
-
-  pub forth_size : length (drop (start rec) s) ≡ size rec
-  forth_size = simp length-drop (omega (arith, (read_is channel s rec accepted).whole))
 
 -- ---- a record that was laid
 

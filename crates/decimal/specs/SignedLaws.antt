@@ -1,5 +1,5 @@
 -- Laws of numbers with a minus or none: each way of reading and of writing one.
-use Rattle.std.specs.Prelude.{◌≡◌, refl, Bool, true, false, cond, ◌&&◌, List, [], ◌∷◌, ℕ, suc, ◌+◌, ◌-◌, ◌≤◌, ◌<◌, leb, ℤ, pos, negsuc, neg_ℤ, nat_abs, length, take, drop}
+use Rattle.std.specs.Prelude.{◌≡◌, refl, Bool, true, false, cond, ◌&&◌, List, [], ◌∷◌, ℕ, suc, ◌+◌, ◌-◌, ◌≤◌, ◌<◌, leb, ℤ, pos, negsuc, neg_ℤ, nat_abs, length, take, drop, eqb, get_or}
 use Rattle.std.proofs.Common.{sym, ap, ◌∙◌, arith, leb-true, length-drop, take_all}
 use Rattle.std.proofs.Math.Option.{Option, none, some, map}
 use Rattle.ring.specs.Runs.{copied}
@@ -8,8 +8,21 @@ use Rattle.decimal.specs.Decimal.{are_digits, value_from, number_from, number, s
 use Rattle.ring.specs.Flags.{and_r}
 use Rattle.decimal.specs.DecimalLaws.{count_most}
 use Rattle.decimal.specs.Answers.{maybe_number, maybe_signed, AtMost, positive, negative}
+use Rattle.std.proofs.lemmas.Bool.{false≢true}
 
 -- ---- read
+
+pub starts_empty : (s : List ℕ) → length s ≡ 0 → starts_minus s ≡ false
+starts_empty [] h = refl
+starts_empty (b ∷ s) h = absurd (omega arith)
+
+pub starts_first : (s : List ℕ) → 0 < length s → starts_minus s ≡ eqb (get_or s 0 0) 45
+starts_first [] h = absurd (omega arith)
+starts_first (b ∷ s) h = refl
+
+pub starts_some : (s : List ℕ) → starts_minus s ≡ true → 1 ≤ length s
+starts_some [] h = absurd (false≢true h)
+starts_some (b ∷ s) h = omega arith
 
 if_most : (t : Bool) (v most : ℕ) → (t ≡ true → v ≤ most) → AtMost most (maybe_number (cond t (some v) none))
 if_most true v most h = h refl

@@ -2,3 +2,4 @@
 pub mod Laying
 pub mod Telling
 pub mod Closing
+pub mod Ended

@@ -1,6 +1,6 @@
 -- Laws of the requests for those who write them: where an ending is written, and how long it is.
-use Rattle.std.specs.Prelude.{[], ◌≡◌, ℕ, ◌+◌, ◌≤◌, pos, negsuc, length}
-use Rattle.std.proofs.Common.{sym, arith, length-append, length-take-le}
+use Rattle.std.specs.Prelude.{[], ◌≡◌, ℕ, ◌+◌, ◌≤◌, pos, negsuc, length, false, List}
+use Rattle.std.proofs.Common.{sym, arith, length-append, length-take-le, le-leb}
 use Rattle.exec.specs.declared.MaybeStatus.{MaybeStatus}
 use Rattle.exec.specs.declared.Status.{Status}
 use Rattle.exec.specs.declared.Status.TheVariants.{Exited, Signaled}
@@ -9,7 +9,7 @@ use Rattle.codec.specs.declared.Record.TheVariants.{Close}
 use Rattle.codec.specs.Codec.{bytes_of, header}
 use Rattle.exits.specs.Signals.{signal_for}
 use Rattle.exits.specs.SignalLaws.{signal_fit}
-use Rattle.exits.specs.Exit.{request, request_of, ending}
+use Rattle.exits.specs.Exit.{request, request_of, ending, is_untold, closed, close}
 
 -- an ending has 5 bytes more than its request
 pub ending_length : (channel : ℕ) (status : MaybeStatus) → length (request_of channel status) + 5 ≡ length (ending channel status)
@@ -28,3 +28,9 @@ request_bound channel (Signaled n) =
 pub ending_bound : (channel : ℕ) (status : MaybeStatus) → length (ending channel status) ≤ 43
 ending_bound channel MaybeStatus.None = omega (arith, ending_length channel MaybeStatus.None)
 ending_bound channel (MaybeStatus.Some status) = omega (arith, ending_length channel (MaybeStatus.Some status), request_bound channel status)
+
+-- a status that is told is written where there is room
+pub close_roomy : (channel : ℕ) (status : MaybeStatus) (b : List ℕ) → 43 ≤ length b → is_untold status ≡ false
+    → close channel status b ≡ closed channel status b
+unfolding close
+close_roomy channel status b room told = simp (le-leb 43 (length b) room, told)

@@ -189,3 +189,12 @@ hex_write d b at j x y h room high low =
     ∙ ap (λ (z : ℕ). set (copied d at p 0 (k + 1)) z y) i
     ∙ copied_on d at p (k + 1) y (omega arith) (omega arith) (low ∙ sym (hex_last b j h))
     ∙ ap (copied d at p 0) n
+
+-- what the code computes with
+pub hex_low : (c : ℕ) → is_hex c ≡ true → 48 ≤ c
+hex_low c h =
+    elim (way c) [
+      | decimal l m t e ↦ l
+      | letter l m t e ↦ omega arith
+      | other e ↦ absurd (true≢false cc)
+    ]

@@ -22,12 +22,16 @@ use Rattle.exec.specs.Limits.{pool_of}
 use Rattle.runner.specs.State.{out_of, credit_at}
 use Rattle.runner.specs.MessageLaws.{chosen, least}
 use Rattle.calls.specs.Call as Account
-use Rattle.calls.specs.Call.{Call}
-use Rattle.account.specs.Step.{State, next, answer, says, took, received_as}
+use Rattle.calls.specs.Call.{Call, time_of}
+use Rattle.account.specs.Step.{State, next, answer, says, took, received_as, waits}
 use Rattle.ring.specs.Runs.{copied}
 use Rattle.ring.specs.Lent.{copied_back}
 use Rattle.answering.specs.Answering.{answer_is, AnswerIs}
 use Rattle.answering.specs.declared.Answer.{Answer}
+use Rattle.std.proofs.Math.Option.{none, some}
+use Rattle.syntax.specs.declared.Question.{Question}
+use Rattle.syntax.specs.declared.Timed.{Timed}
+use Rattle.syntax.specs.Meaning.{timed_is, question_is}
 
 abbrev pub state_of : Runner → (bytes lengths : List ℕ) → State
 state_of r bytes lengths = record { runner = r; bytes = bytes; lengths = lengths }
@@ -53,6 +57,39 @@ InputMade r a bytes lengths x = (r ≡ x.hearing.runner) × (bytes ≡ x.bytes) 
 
 abbrev pub MessageMade : Runner → Answer → (work : List ℕ) → MessageAfter → Type 0
 MessageMade r a work x = (r ≡ x.saying.runner) × (answer_is a work ≡ says x.saying.said x.buffer)
+
+-- each of the timed calls has its time, and no question has one
+pub timed_time : (now : ℕ) (t : Timed) → time_of (timed_is now t) ≡ some now
+timed_time now (Timed.Cancel k x) = refl
+timed_time now (Timed.Exited x) = refl
+timed_time now Timed.Dropped = refl
+timed_time now Timed.Reset = refl
+timed_time now Timed.Disconnect = refl
+timed_time now Timed.Tick = refl
+
+pub question_time : (q : Question) → time_of (question_is q) ≡ none
+question_time (Question.ReadAllowance x) = refl
+question_time Question.PendingInput = refl
+question_time Question.Deadline = refl
+question_time Question.IsFinished = refl
+question_time Question.IsDetached = refl
+question_time Question.AwaitsSettlement = refl
+question_time Question.MemoryBound = refl
+question_time Question.Buffered = refl
+question_time Question.HighWater = refl
+
+-- a question leaves all as it is
+pub question_leaves : (q : Question) (s : State) → next s (question_is q) ≡ s
+unfolding next
+question_leaves (Question.ReadAllowance x) s = refl
+question_leaves Question.PendingInput s = refl
+question_leaves Question.Deadline s = refl
+question_leaves Question.IsFinished s = refl
+question_leaves Question.IsDetached s = refl
+question_leaves Question.AwaitsSettlement s = refl
+question_leaves Question.MemoryBound s = refl
+question_leaves Question.Buffered s = refl
+question_leaves Question.HighWater s = refl
 
 -- ---- a message stands at the start of its buffer
 
@@ -141,3 +178,7 @@ pending_most r store = by (stop r (bytes_do r.limits store))
     by : (x : Reply) → length (pending_by x r store).pending ≤ length store
     by Reply.Ok = open_most r.input.closed
     by (Reply.Refused x) = omega arith
+
+pub waits_some : (n : ℕ) (b : List ℕ) → (n ≡ 0 → ⊥) → Account.Refused n ≡ waits n b
+waits_some zero b h = absurd (h refl)
+waits_some (suc n) b h = refl

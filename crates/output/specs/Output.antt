@@ -95,6 +95,17 @@ keeps true d room n = 0
 keeps false true room n = 0
 keeps false false room n = min n room
 
+-- as many are kept as the allowance lets in, and all are taken where they are dropped
+pub keeps_allowed : (shut d : Bool) (room n : ℕ) → min n (cond (shut || d) 0 room) ≡ keeps shut d room n
+keeps_allowed true d room n = omega arith
+keeps_allowed false true room n = omega arith
+keeps_allowed false false room n = refl
+
+pub takes_dropped : (shut d : Bool) (room n : ℕ) → cond (not shut && d) n (keeps shut d room n) ≡ takes shut d room n
+takes_dropped true d room n = refl
+takes_dropped false true room n = refl
+takes_dropped false false room n = refl
+
 -- none are kept for which there is no room
 pub keeps_fit : (shut d : Bool) (room n : ℕ) → keeps shut d room n ≤ room
 keeps_fit true d room n = omega arith

@@ -10,7 +10,7 @@ use Rattle.exec.specs.declared.Stream.TheVariants.{Stdout, Stderr}
 use Rattle.exec.specs.declared.Unit as Units
 use Rattle.exec.specs.declared.Unit.TheVariants.{Bytes, Frames}
 use Rattle.exec.specs.Limits.{cost, pool_of}
-use Rattle.exec.specs.Stream.{stream_at, following}
+use Rattle.exec.specs.Stream.{stream_at, following, pick, picked}
 use Rattle.ring.specs.RingLaws.{read_length}
 use Rattle.inbox.specs.Need.{byte_need}
 use Rattle.inbox.specs.RangeLaws.{both}
@@ -102,6 +102,11 @@ chosen r buffer x n e =
     rw (← e) at all
 
 -- ---- what a stream can send
+
+-- picked from what each can send
+pub picked_by : (r : Runner) (buffer : ℕ) (x : Stream) (stdout stderr n : ℕ) → stdout ≡ sendable_of r buffer Stdout → stderr ≡ sendable_of r buffer Stderr
+    → n ≡ pick x stdout stderr → n ≡ sendable_of r buffer x
+picked_by r buffer x stdout stderr n h0 h1 hn = rw (hn, h0, h1) (picked (sendable_of r buffer) x)
 
 -- no more than is asked of it
 pub least : (u : Units.Unit) (available m : ℕ) → sendable u available m ≤ m

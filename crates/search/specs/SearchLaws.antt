@@ -1,6 +1,7 @@
 -- Laws of a search: how far it goes, and what tells its answer.
-use Rattle.std.specs.Prelude.{Bool, true, false, cond, ◌≡◌, refl, List, [], ◌∷◌, ℕ, zero, suc, ◌≤◌, ◌<◌, eqb, length, get_or}
-use Rattle.std.proofs.Common.{ap, arith}
+use Rattle.std.specs.Prelude.{Bool, true, false, cond, ◌≡◌, refl, List, [], ◌∷◌, ℕ, zero, suc, ◌≤◌, ◌<◌, ◌+◌, eqb, length, drop, get_or}
+use Rattle.std.proofs.Common.{ap, arith, add-one, drop-cons}
+use Rattle.std.proofs.Math.Seq.{drop-length}
 use Rattle.search.specs.Search.{index_of}
 
 -- at most the length
@@ -30,3 +31,13 @@ index_is byte (b ∷ s) (suc n) h here before =
     by : (e : Bool) → (¬ e ≡ true) → index_of byte s ≡ n → cond e 0 (suc (index_of byte s)) ≡ suc n
     by true off i = absurd (off refl)
     by false off i = ap suc i
+
+-- a search from byte i on, and from behind the last
+pub index_turn : (byte : ℕ) (s : List ℕ) (i : ℕ) → i < length s
+    → index_of byte (drop i s) ≡ cond (eqb (get_or s i 0) byte) 0 (suc (index_of byte (drop (i + 1) s)))
+unfolding index_of
+index_turn byte s i h = rw (drop-cons s i 0 h, add-one) refl
+
+pub index_end : (byte : ℕ) (s : List ℕ) → index_of byte (drop (length s) s) ≡ 0
+unfolding index_of
+index_end byte s = rw (drop-length s) refl

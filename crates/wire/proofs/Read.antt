@@ -40,9 +40,11 @@ use Rattle.codec.specs.RoundTrip.{payload_back, laid_front, laid_reads}
 use Rattle.exits.specs.declared.Told.TheVariants as Told
 use Rattle.exits.specs.Exit as Exits
 use Rattle.exits.specs.Exit.{request, is_told, is_untold, ending}
-use Rattle.exits.specs.RoundTrip.{Tells, forth, ended_reads}
+use Rattle.exits.specs.RoundTrip.{Tells, forth}
+use Rattle.exits.proofs.Ended.{ended_reads}
 use Rattle.channel.specs.Calls.{WriteAfter, wrote, wrote_buffer, sent_as, sent_buffer, part_back, has_ended, asked, told, is_left}
-use Rattle.channel.specs.Ended.{Writes, elsewhere, short, left, taken, tells, writes}
+use Rattle.channel.specs.Ended.{Writes, elsewhere, short, left, taken, tells}
+use Rattle.channel.proofs.Ended.{writes}
 use Rattle.calls.specs.Call as Call
 use Rattle.calls.specs.Call.{Answer}
 use Rattle.account.specs.Step.{State}

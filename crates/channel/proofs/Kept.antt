@@ -28,7 +28,8 @@ use Rattle.exits.specs.Exit.{ending}
 use Rattle.exits.specs.ExitLaws.{ending_bound}
 use Rattle.channel.specs.declared.calls.Sending.TheVariants as Sending
 use Rattle.channel.specs.Calls.{WriteAfter, output_record, sent_as, sent_buffer, wrote_buffer, has_ended, part_back, told, asked, room, write_record}
-use Rattle.channel.specs.Ended.{Writes, elsewhere, short, left, taken, writes, stopped}
+use Rattle.channel.specs.Ended.{Writes, elsewhere, short, left, taken}
+use Rattle.channel.proofs.Ended.{writes, stopped}
 
 -- what is laid over the first m bytes leaves those from k on
 beyond : (p b : List ℕ) (m k : ℕ) → length p ≡ m → m ≤ k → drop k (p ++ drop m b) ≡ drop k b

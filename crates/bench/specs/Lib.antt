@@ -1,0 +1,2 @@
+-- What the loops' proofs share; nothing here is cited by a contract.
+pub mod Turns

@@ -1,0 +1,43 @@
+-- An ending is read as what was written: the request, then CLOSE.
+use Rattle.std.specs.Prelude.{false, List, [], ◌++◌, ◌≡◌, refl, ℕ, ◌-◌, ◌^◌, ◌<◌, length, take, drop}
+use Rattle.std.proofs.lemmas.Bool.{not-false}
+use Rattle.std.proofs.Common.{append_assoc, arith, take_at, drop_at}
+use Rattle.std.proofs.Math.Path.{subst⁻¹}
+use Rattle.exec.specs.declared.MaybeStatus.{MaybeStatus}
+use Rattle.codec.specs.declared.Parsed.TheVariants as Parsed
+use Rattle.codec.specs.declared.Record.TheVariants.{Close}
+use Rattle.codec.specs.Codec as Codec
+use Rattle.codec.specs.Codec.{bytes_of, header}
+use Rattle.codec.specs.RoundTrip as Records
+use Rattle.exits.specs.ExitLaws.{ending_length}
+use Rattle.exits.specs.Exit.{is_told, is_untold, request_of, ending}
+use Rattle.exits.specs.RoundTrip.{Tells, back}
+
+tells : (channel : ℕ) (status : MaybeStatus) → channel < 2 ^ 32 → is_untold status ≡ false → Tells channel status (request_of channel status)
+unfolding is_untold
+tells channel MaybeStatus.None h t = refl
+tells channel (MaybeStatus.Some status) h t = back channel status h (not-false (is_told status) t)
+
+close_reads : (channel : ℕ) → channel < 2 ^ 32 → Codec.read channel (bytes_of channel Close []) ≡ Parsed.Read Close
+close_reads channel h = Records.back channel Close [] h (omega arith) refl
+
+five : (channel : ℕ) (rest : List ℕ) → take 5 (bytes_of channel Close [] ++ rest) ≡ bytes_of channel Close []
+unfolding bytes_of header
+five channel rest = refl
+
+joined : (channel : ℕ) (status : MaybeStatus) (rest : List ℕ) → ending channel status ++ rest ≡ request_of channel status ++ (bytes_of channel Close [] ++ rest)
+unfolding ending
+joined channel status rest = append_assoc (request_of channel status) (bytes_of channel Close []) rest
+
+-- AN ENDING IS READ AS WHAT WAS WRITTEN, whatever stands behind it in the buffer
+pub ended_reads : (channel : ℕ) (status : MaybeStatus) (rest : List ℕ) → channel < 2 ^ 32 → is_untold status ≡ false
+    → Tells channel status (take (length (ending channel status) - 5) (ending channel status ++ rest))
+    × (Codec.read channel (take 5 (drop (length (ending channel status) - 5) (ending channel status ++ rest))) ≡ Parsed.Read Close)
+ended_reads channel status rest h t =
+    let q : List ℕ = request_of channel status in
+    let c : List ℕ = bytes_of channel Close [] in
+    let cut : length (ending channel status) - 5 ≡ length q = omega (arith, ending_length channel status) in
+    let all : ending channel status ++ rest ≡ q ++ (c ++ rest) = joined channel status rest in (
+      subst⁻¹ (Tells channel status) (rw (cut, all) (take_at q (c ++ rest) (length q) refl)) (tells channel status h t),
+      rw (cut, all, drop_at q (c ++ rest) (length q) refl, five channel rest) (close_reads channel h),
+    )
