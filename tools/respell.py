@@ -16,7 +16,7 @@ import sys
 LEMMAS = (
     "admitted-by admitted_by bytes-is credit-in credits-in drop-launch drop-streams end-grace every-stream give-up given-up "
     "heard-as if-due in-first in-range is-fit is-good is_digit made_at noted-as number-from number_is on_one open_by "
-    "opened-by pass-abandonment pass-give-up pass-grace pass-settlement pass-timeout received-if sent-by signed_is stores-do "
+    "opened-by pass-abandonment pass-give-up pass-grace pass-settlement pass-timeout received-if sent-by signed_is "
     "taken-by "
 ).split()
 

@@ -25,7 +25,7 @@ use Rattle.codec.specs.declared.Record.TheVariants.{Adjust, Data, Extended, Eof}
 use Rattle.codec.specs.Codec.{start, size, header, bytes_of, laid_record}
 use Rattle.codec.specs.CodecLaws.{header_length, start_most}
 use Rattle.exits.specs.Exit.{ending}
-use Rattle.exits.specs.ExitLaws.{ending_bound}
+use Rattle.exits.proofs.Ended.{ending_bound}
 use Rattle.channel.specs.declared.calls.Sending.TheVariants as Sending
 use Rattle.channel.specs.Calls.{WriteAfter, output_record, sent_as, sent_buffer, wrote_buffer, has_ended, part_back, told, asked, room, write_record}
 use Rattle.channel.specs.Ended.{Writes, elsewhere, short, left, taken}

@@ -24,7 +24,7 @@ use Rattle.codec.specs.declared.Record.{Record}
 use Rattle.codec.specs.declared.Record.TheVariants.{Data}
 use Rattle.codec.specs.declared.Written.{Written}
 use Rattle.codec.specs.Codec.{start, size, read}
-use Rattle.codec.specs.CodecLaws.{read_is}
+use Rattle.codec.proofs.RoundTrip.{read_is}
 use Rattle.exits.specs.Exit.{is_untold}
 
 -- admission by what the runner tells of its limits

@@ -1,7 +1,7 @@
--- An ending is read as what was written: the request, then CLOSE.
-use Rattle.std.specs.Prelude.{false, List, [], ◌++◌, ◌≡◌, refl, ℕ, ◌-◌, ◌^◌, ◌<◌, length, take, drop}
+-- An ending is at most 43 bytes, and is read as what was written: the request, then CLOSE.
+use Rattle.std.specs.Prelude.{false, List, [], ◌++◌, ◌≡◌, refl, ℕ, ◌-◌, ◌^◌, ◌<◌, length, take, drop, ◌≤◌, pos, negsuc}
 use Rattle.std.proofs.lemmas.Bool.{not-false}
-use Rattle.std.proofs.Common.{append_assoc, arith, take_at, drop_at}
+use Rattle.std.proofs.Common.{append_assoc, arith, take_at, drop_at, length-append, length-take-le}
 use Rattle.std.proofs.Math.Path.{subst⁻¹}
 use Rattle.exec.specs.declared.MaybeStatus.{MaybeStatus}
 use Rattle.codec.specs.declared.Parsed.TheVariants as Parsed
@@ -10,8 +10,26 @@ use Rattle.codec.specs.Codec as Codec
 use Rattle.codec.specs.Codec.{bytes_of, header}
 use Rattle.codec.specs.RoundTrip as Records
 use Rattle.exits.specs.ExitLaws.{ending_length}
-use Rattle.exits.specs.Exit.{is_told, is_untold, request_of, ending}
+use Rattle.exits.specs.Exit.{is_told, is_untold, request_of, ending, request}
 use Rattle.exits.specs.RoundTrip.{Tells, back}
+use Rattle.exec.specs.declared.Status.{Status}
+use Rattle.exec.specs.declared.Status.TheVariants.{Exited, Signaled}
+use Rattle.octets.specs.Text.{bytes}
+use Rattle.exits.specs.Signals.{signal_for}
+use Rattle.exits.specs.SignalLaws.{signal_fit}
+
+-- a request has at most 38 bytes, an ending 43
+request_bound : (channel : ℕ) (status : Status) → length (request channel status) ≤ 38
+unfolding request bytes
+request_bound channel (Exited (pos code)) = omega arith
+request_bound channel (Exited (negsuc n)) = omega arith
+request_bound channel (Signaled n) =
+    let fit = signal_fit n in
+    simp length-append (omega (arith, length-take-le (signal_for n).length (signal_for n).name (omega (arith, fit.0, fit.1)), fit.0))
+
+pub ending_bound : (channel : ℕ) (status : MaybeStatus) → length (ending channel status) ≤ 43
+ending_bound channel MaybeStatus.None = omega (arith, ending_length channel MaybeStatus.None)
+ending_bound channel (MaybeStatus.Some status) = omega (arith, ending_length channel (MaybeStatus.Some status), request_bound channel status)
 
 tells : (channel : ℕ) (status : MaybeStatus) → channel < 2 ^ 32 → is_untold status ≡ false → Tells channel status (request_of channel status)
 unfolding is_untold

@@ -24,18 +24,18 @@ module _ (r : Runner) {found s a : Bool} (hs : s ≡ stands r) (ha : a ≡ agree
   pub bytes_good : (store : List ℕ) → found ≡ bytes_do r.limits store → InRange r × (byte_need r.limits ≤ length store)
   bytes_good store hf =
       let g = passed (bytes_do r.limits store) hf in
-      (g.range, leb-true (byte_need r.limits) (length store) g.stores_do_lem)
+      (g.range, leb-true (byte_need r.limits) (length store) g.stores_do)
 
   pub lengths_good : (lengths : List ℕ) → found ≡ lengths_do r.limits lengths → InRange r × (length_need r.limits ≤ length lengths)
   lengths_good lengths hf =
       let g = passed (lengths_do r.limits lengths) hf in
-      (g.range, leb-true (length_need r.limits) (length lengths) g.stores_do_lem)
+      (g.range, leb-true (length_need r.limits) (length lengths) g.stores_do)
 
   pub stores_good : (store lengths : List ℕ) (b n : Bool) → found ≡ (b && n) → b ≡ bytes_do r.limits store → n ≡ lengths_do r.limits lengths
       → InRange r × (byte_need r.limits ≤ length store) × (length_need r.limits ≤ length lengths)
   stores_good store lengths b n hf hb hn =
       let g = passed (b && n) hf in
-      let p = both b n g.stores_do_lem in
+      let p = both b n g.stores_do in
       (g.range, leb-true (byte_need r.limits) (length store) (sym hb ∙ p.0), leb-true (length_need r.limits) (length lengths) (sym hn ∙ p.1))
 
 pub is_in_range : (r : Runner) {s a : Bool} → s ≡ stands r → a ≡ agrees r true → (a && s) ≡ true → InRange r

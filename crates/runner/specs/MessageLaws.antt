@@ -157,6 +157,6 @@ pub payload_length : (r : Runner) (store buffer : List â„•) (x : Stream) (n : â„
 unfolding payload
 payload_length r store buffer x n g e =
     let good : Good r (bytes_do r.limits store) = is_good_lem r (bytes_do r.limits store) g in
-    let b : Sendable r x n store buffer = is_sendable r x n store buffer good.range (leb-true (byte_need r.limits) (length store) good.stores_do_lem) e in
+    let b : Sendable r x n store buffer = is_sendable r x n store buffer good.range (leb-true (byte_need r.limits) (length store) good.stores_do) e in
     let most = b.queued in let within = b.queue.most in
     read_length (base x r.limits.chunk) r.limits.chunk (out_of x r).start n store b.area b.queue.begins (omega arith)

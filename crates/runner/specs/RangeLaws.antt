@@ -92,14 +92,14 @@ module _ (r : Runner) (stores : Bool) where
 pub record Good (r : Runner) (stores : Bool) : Type 0 where
   pub range : InRange r
   pub valid : is_valid r.limits ≡ true
-  pub stores_do_lem : stores ≡ true
+  pub stores_do : stores ≡ true
 
 pub is_good_lem : (r : Runner) (stores : Bool) → stop r stores ≡ Reply.Ok → Good r stores
 unfolding stop_if
 is_good_lem r stores h =
     let p = Inbox.both (in_range r && is_valid r.limits) stores (by (is_good r stores) refl) in
     let q = Inbox.both (in_range r) (is_valid r.limits) p.0 in
-    record { range = in_range_lem r q.0; valid = q.1; stores_do_lem = p.1 }
+    record { range = in_range_lem r q.0; valid = q.1; stores_do = p.1 }
   where
     by : (b : Bool) → is_good r stores ≡ b → is_good r stores ≡ true
     by true e = e

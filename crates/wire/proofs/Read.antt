@@ -35,7 +35,8 @@ use Rattle.codec.specs.declared.Parsed.TheVariants as Parsed
 use Rattle.codec.specs.declared.Record.{Record}
 use Rattle.codec.specs.Codec as Codec
 use Rattle.codec.specs.Codec.{start, size, Fits, laid_record}
-use Rattle.codec.specs.CodecLaws.{Holds, read_is, start_least}
+use Rattle.codec.specs.CodecLaws.{Holds, start_least}
+use Rattle.codec.proofs.RoundTrip.{read_is}
 use Rattle.codec.specs.RoundTrip.{payload_back, laid_front, laid_reads}
 use Rattle.exits.specs.declared.Told.TheVariants as Told
 use Rattle.exits.specs.Exit as Exits
@@ -192,7 +193,7 @@ module _ (s : State) (f : Fine s) (v : Muted s.runner) (channel : ℕ) (o : OfCh
   fitting : (x : Stream) (n : ℕ) → Choice.Output x n ≡ choose s.runner (length part) → (length (payload s.runner x n s.bytes) ≡ n) × (n < 2 ^ 32)
   fitting x n e =
       let g : RangeLaws.Good s.runner (bytes_do s.runner.limits s.bytes) = is_good_lem s.runner (bytes_do s.runner.limits s.bytes) good in
-      let b : Sendable s.runner x n s.bytes part = is_sendable s.runner x n s.bytes part g.range (leb-true (byte_need s.runner.limits) (length s.bytes) g.stores_do_lem) e in
+      let b : Sendable s.runner x n s.bytes part = is_sendable s.runner x n s.bytes part g.range (leb-true (byte_need s.runner.limits) (length s.bytes) g.stores_do) e in
       let most = b.queued in let within = b.queue.most in let k = o.chunk in
       (payload_length s.runner s.bytes part x n good e, omega arith)
 
