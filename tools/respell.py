@@ -1,7 +1,8 @@
 #!/usr/bin/env python3
 """Spells the names that this repository's definitions and lemmas declare as today's Rattle does: in snake case, a type's or a fact's capital kept.
 
-usage: python3 tools/respell.py [TOP]      once, at the top of a repository that port.py has turned; TOP is the folder, here if it is missing
+usage: python3 tools/respell.py [--look] [TOP]      once, at the top of a repository that port.py has turned; TOP is the folder, here if it is missing.
+--look writes nothing, and lists the names that would fall together in a file.
 
 What turns: names declared in specs/ and in the lemma files of proofs/, wherever a text of crates/ (.antt, clauses of .rt, .edit) has them, and in the
 pages' and comments' code spans. What stays: Rust's own names, strings, goals and labels that Rattle makes, and names that a file has from a library.
@@ -151,7 +152,7 @@ def turned(path, text, table, own):
     return "\n".join(re.sub(WORD, lambda w: shown.get(w[0], w[0]), l) if l.startswith("    ") else in_spans(l, table) for l in text.split("\n"))
 
 
-def clashes(path, text, new, table):
+def clashes(path, text, table):
     """Names that would fall together in a file: two that get one spelling, or one whose spelling stood there already."""
     code = QUIET.sub(" ", text) if path.endswith(".antt") else re.sub(r'//[^\n]*|"(?:\\.|[^"\\])*"', " ", text)
     words = set(re.findall(WORD, code))
@@ -172,7 +173,7 @@ def main(argv):
     for path, text in files:
         new = turned(path, text, table, own)
         if look:
-            for it, olds in clashes(path, text, new, table) if path.endswith((".antt", ".rt")) else []:
+            for it, olds in clashes(path, text, table) if path.endswith((".antt", ".rt")) else []:
                 print(f"look: {path}: {', '.join(olds)} -> {it}")
         elif new != text:
             n += 1

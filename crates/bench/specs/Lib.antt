@@ -1,2 +1,2 @@
--- What the loops' proofs share; nothing here is cited by a contract.
+-- Laws of a loop's counter; neither a contract nor a proof of this crate cites them.
 pub mod Turns

@@ -1,4 +1,4 @@
--- What bytes hold where they are read as a record, both ways; that what is written holds it, and nothing else does; the answers of `write`, and what `lay` leaves.
+-- What bytes hold that are a record's: they are read as it, what is written holds it, and nothing else does; the answers of `write`, and what `lay` leaves.
 use Rattle.std.specs.Prelude.{◌≡◌, refl, true, false, ℕ, ◌+◌, ◌^◌, ◌≤◌, ◌<◌, eqb, length, take, drop, get_or}
 use Rattle.std.proofs.Common.{sym, ◌∙◌, arith, length-append, drop-cons}
 use Rattle.std.proofs.Math.Path.{ap}

@@ -1,4 +1,4 @@
--- Writer and reader undo each other, and an ending is read as what was written: the request, then CLOSE.
+-- Writer and reader undo each other; and what is to be read of an ending (`proofs/Ended`: it is).
 use Rattle.std.specs.Prelude.{Bool, true, false, cond, ◌&&◌, List, [], ◌∷◌, ◌++◌, ◌≡◌, refl, ℕ, ◌+◌, ◌-◌, ◌^◌, ◌<◌, eqb, ltb, pos, negsuc, length, take, get_or}
 use Rattle.std.proofs.lemmas.Bool.{false≢true}
 use Rattle.std.proofs.Math.Bool.{or-true}

@@ -190,7 +190,7 @@ hex_write d b at j x y h room high low =
     ∙ copied_on d at p (k + 1) y (omega arith) (omega arith) (low ∙ sym (hex_last b j h))
     ∙ ap (copied d at p 0) n
 
--- what the code computes with
+-- no digit's byte is below that of 0
 pub hex_low : (c : ℕ) → is_hex c ≡ true → 48 ≤ c
 hex_low c h =
     elim (way c) [
