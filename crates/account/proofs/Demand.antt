@@ -1,8 +1,9 @@
 -- Demand 3, whole: the theorems of the calls without refusals 10, 11 and 12, carried to the calls as they are.
+use Rattle.std.specs.Prelude.{Result, Some, Ok, Err}
+use Rattle.exec.specs.declared.Refusal.{Refusal}
 use mathlib.Core.Bool.{true, false, ◌&&◌}
 use mathlib.Core.Path.{◌≡◌, refl, sym, ap, ◌∙◌, subst⁻¹}
 use mathlib.Core.List.{List, [], ◌∷◌, ◌++◌}
-use mathlib.Core.Option.{some}
 use Prim.Native.Nat.{ℕ, ◌+◌, ◌^◌, ◌≤◌, ◌<◌}
 use native.Mathlib.Omega.{arith}
 use lib.ListN.{length}
@@ -10,7 +11,6 @@ use borrow.Author.Tests.{le-leb}
 use Rattle.exec.specs.declared.Cause.{Cause}
 use Rattle.exec.specs.declared.Key.{Key}
 use Rattle.exec.specs.declared.Limits.{Limits}
-use Rattle.exec.specs.declared.Reply.{Reply}
 use Rattle.exec.specs.declared.Stream.{Stream}
 use Rattle.exec.specs.declared.Unit as units
 use Rattle.exec.specs.declared.Unit.TheVariants.{Bytes, Frames}
@@ -84,7 +84,7 @@ pub record Fine (s : State) : Type 0 where
   pub sound : Sound s
   pub limits : is_valid s.runner.limits ≡ true
 
-pub goes : (s : State) (c : Call) → Fine s → stop s.runner (enough s c) ≡ Reply.Ok
+pub goes : (s : State) (c : Call) → Fine s → stop s.runner (enough s c) ≡ Ok tt
 goes s c h =
     let r = h.sound.ranged in
     unstopped s.runner (enough s c) (in_range_lem s.lengths s.runner r) h.limits
@@ -122,13 +122,13 @@ unfolding fresh
 fine_open conf now bytes lengths o = record { sound = sound_open conf now bytes lengths o; limits = o.limits }
 
 pub opens_by : (conf : Conf) (now : ℕ) (bytes lengths : List ℕ) → Opens conf now bytes lengths
-    → open_stop conf.limits (bytes_do conf.limits bytes && lengths_do conf.limits lengths) ≡ Reply.Ok
+    → open_stop conf.limits (bytes_do conf.limits bytes && lengths_do conf.limits lengths) ≡ Ok tt
 unfolding Calls.«open»
 opens_by conf now bytes lengths op = by (open_stop conf.limits (bytes_do conf.limits bytes && lengths_do conf.limits lengths)) op
   where
-    by : (x : Reply) → (Calls.open_by x conf.key conf.limits conf.timers now).reply ≡ Reply.Ok → x ≡ Reply.Ok
-    by Reply.Ok e = refl
-    by (Reply.Refused y) e = e
+    by : (x : Result (Unit {0}) Refusal) → (Calls.open_by x conf.key conf.limits conf.timers now).reply ≡ Ok tt → x ≡ Ok tt
+    by (Ok tt) e = refl
+    by (Err y) e = e
 
 pub open_same : (conf : Conf) (now : ℕ) (bytes lengths : List ℕ) → Opens conf now bytes lengths → Step.opened conf now bytes lengths ≡ begun conf now bytes lengths
 unfolding Calls.«open»
@@ -169,7 +169,7 @@ module _ (conf : Conf) (now : ℕ) (bytes lengths : List ℕ) (op : Opens conf n
 
   -- the bound after every call that ticks
   pub late_call : (cs ds es : List Call) (t n : ℕ) (k : Key) (c : Cause) (call : Call) → Step.answer (Step.after (Step.opened conf now bytes lengths) cs) (Call.cancel t k c) ≡ Call.Applied
-      → t + conf.timers.grace + conf.timers.settlement < 2 ^ 64 → t + conf.timers.grace + conf.timers.settlement ≤ n → tick_of conf call ≡ some n → 5 ≤ messages es
+      → t + conf.timers.grace + conf.timers.settlement < 2 ^ 64 → t + conf.timers.grace + conf.timers.settlement ≤ n → tick_of conf call ≡ Some n → 5 ≤ messages es
       → any_terminal (Step.run (Step.opened conf now bytes lengths) (cs ++ (Call.cancel t k c ∷ (ds ++ (call ∷ es))))) ≡ true
   late_call cs ds es t n k c call e l m i v =
       subst⁻¹ (λ (ds : List Done). any_terminal ds ≡ true) (same_run (cs ++ (Call.cancel t k c ∷ (ds ++ (call ∷ es)))))

@@ -1,4 +1,10 @@
 -- Each call, while the runner has not finished: it keeps the invariant between runner and account, and the length of the byte store.
+use Rattle.std.specs.Prelude.{Option, Result, Some, None, Ok, Err}
+use Rattle.exec.specs.declared.Admission.TheVariants.{Own, Stale}
+use Rattle.exec.specs.declared.Admission.{Admission}
+use Rattle.runner.specs.declared.answer.Request.{Request}
+use Rattle.exec.specs.declared.LaunchFailure.{LaunchFailure}
+use Rattle.exec.specs.declared.Refusal.{Refusal}
 use mathlib.Core.Bool.{Bool, true, false, cond, or_self_left}
 use mathlib.Core.Path.{◌≡◌, refl, sym, ap, ◌∙◌, subst, subst⁻¹}
 use mathlib.Core.List.{List}
@@ -7,12 +13,9 @@ use Prim.Native.Nat.{ℕ, ◌+◌, ◌≤◌, ◌<◌}
 use native.Mathlib.Omega.{arith}
 use lib.Dec.{ltb}
 use lib.ListN.{length, take}
-use Rattle.exec.specs.declared.Admission.{Admission}
 use Rattle.exec.specs.declared.Cause.TheVariants as Cause
-use Rattle.exec.specs.declared.LaunchResult.{LaunchResult}
 use Rattle.exec.specs.declared.Limits.{Limits}
 use Rattle.exec.specs.declared.Receipt.TheVariants.{Late, Applied}
-use Rattle.exec.specs.declared.Received.TheVariants.{Receipt}
 use Rattle.exec.specs.declared.Stream.{Stream}
 use Rattle.exec.specs.declared.Stream.TheVariants.{Stdout, Stderr}
 use Rattle.exec.specs.Each.{Each}
@@ -25,9 +28,7 @@ use Rattle.output.specs.declared.Output.{Output}
 use Rattle.inbox.specs.Inbox.{inbox_base}
 use Rattle.input.specs.Input.{is_kept, kept_paid, receive_bytes}
 use Rattle.output.specs.Output.{keeps, keeps_fit, sent_out, ended_out, asked_out, lost_out, closed_out, failed_out, hung_up}
-use Rattle.runner.specs.declared.answer.Request.TheVariants as Request
 use Rattle.choice.specs.declared.Choice.{Choice}
-use Rattle.runner.specs.declared.message.Wish.{Wish}
 use Rattle.runner.specs.declared.runner.Runner.{Runner}
 use Rattle.runner.specs.Life.{awaits_launch, ticked, is_late, cancel_answer, close_runner_input, note_started, note_launch, launched_next, settled_next}
 use Rattle.runner.specs.Message.{choose, output_paid, output_sent, effect, payload, wish, wish_effect}
@@ -89,19 +90,19 @@ effect_inv st (Choice.End x) s a l h = seen_inv st x ended_out s a (λ o t g. g)
 effect_inv st (Choice.Output x n) s a l h = sent_inv st x n s a l.sound h
 effect_inv st Choice.Terminal s a l h = h
 
-handed_inv : (st : List ℕ) (w : Wish) (s : Runner) (a : Account.Account) → Inv st s a → Inv st (wish_effect w s) a
+handed_inv : (st : List ℕ) (w : Option Request) (s : Runner) (a : Account.Account) → Inv st s a → Inv st (wish_effect w s) a
 unfolding wish_effect
-handed_inv st Wish.None s a h = h
-handed_inv st (Wish.Request (Request.Terminate c)) s a h = h
-handed_inv st (Wish.Request (Request.Discard x)) s a h = seen_inv st x asked_out s a (λ o t g. g) refl refl h
-handed_inv st (Wish.Request Request.CloseInput) s a h = h
-handed_inv st (Wish.Request Request.Settle) s a h = h
+handed_inv st None s a h = h
+handed_inv st (Some (Request.Terminate c)) s a h = h
+handed_inv st (Some (Request.Discard x)) s a h = seen_inv st x asked_out s a (λ o t g. g) refl refl h
+handed_inv st (Some Request.CloseInput) s a h = h
+handed_inv st (Some Request.Settle) s a h = h
 
-launched_inv : (st : List ℕ) (b : Bool) (x : LaunchResult) (s : Runner) (ts : Each Tally) → awaits_launch s ≡ b → Inv st s (mk (rep s) ts) → Inv st (launched_if b x s) (mk (launch_r (rep s)) ts)
+launched_inv : (st : List ℕ) (b : Bool) (x : Result (Unit {0}) LaunchFailure) (s : Runner) (ts : Each Tally) → awaits_launch s ≡ b → Inv st s (mk (rep s) ts) → Inv st (launched_if b x s) (mk (launch_r (rep s)) ts)
 unfolding note_launch note_started close_runner_input
 launched_inv st false x s ts e h = (rw e refl, h.1)
-launched_inv st true LaunchResult.Started s ts e h = (rw e refl, h.1)
-launched_inv st true (LaunchResult.Failed f) s ts e h = (rw e refl, h.1)
+launched_inv st true (Ok tt) s ts e h = (rw e refl, h.1)
+launched_inv st true (Err f) s ts e h = (rw e refl, h.1)
 
 -- an input: nothing is written, or the bytes go behind the inbox, which is apart from both queues
 input_inv : (x : Bool) (b st : List ℕ) (s : Runner) (a : Account.Account) → byte_need s.limits ≤ length st → s.input.inbox.start < inbox_size s.limits
@@ -168,18 +169,18 @@ shut_inv st x f g s a c u p h = (
 )
 
 -- a cancel that is refused changes nothing
-unrefused : (k : Admission) (now : ℕ) (s : Runner) (a : Account.Account) → Account.cancel_a k now a ≡ cond (is_refused (received_as (cancel_answer k s now))) a (Account.cancel_a k now a)
+unrefused : (k : Result Admission Refusal) (now : ℕ) (s : Runner) (a : Account.Account) → Account.cancel_a k now a ≡ cond (is_refused (received_as (cancel_answer k s now))) a (Account.cancel_a k now a)
 unfolding cancel_answer Account.cancel_a
-unrefused Admission.Own now s a = go (is_late (ticked s now))
+unrefused (Ok Own) now s a = go (is_late (ticked s now))
   where
     b : Account.Account
-    b = Account.cancel_a Admission.Own now a
+    b = Account.cancel_a (Ok Own) now a
 
-    go : (l : Bool) → b ≡ cond (is_refused (received_as (cond l (Receipt Late) (Receipt Applied)))) a b
+    go : (l : Bool) → b ≡ cond (is_refused (received_as (cond l (Ok Late) (Ok Applied)))) a b
     go true = refl
     go false = refl
-unrefused Admission.Stale now s a = refl
-unrefused (Admission.Refused x) now s a = refl
+unrefused (Ok Stale) now s a = refl
+unrefused (Err x) now s a = refl
 
 -- what is kept has room
 pub kept_room : (b : List ℕ) (s : State) → RangedS s → is_kept s.runner.limits s.runner.input (length b) ≡ true
@@ -204,7 +205,7 @@ pub step_inv : (c : Call) (s : State) (a : Account.Account) → s.runner.flags.f
 unfolding next adds add answer credit_next input_next input_store end_next launched_next discarded_next closed_next failed_next hung_up_next written_next close_runner_input settled_next
 step_inv (Call.credit k p u) s a f r m h = unheard s a (Call.credit k p u) h
 step_inv (Call.input k b) s a f r m h =
-    let u : Runner = s.runner in let x : Admission = admits u.key k in
+    let u : Runner = s.runner in let x : (Result Admission Refusal) = admits u.key k in
     unheard s a (Call.input k b) (taken_inv (is_taken x u) b s.bytes u a m r.2.1 (kept_room b s r) h)
 step_inv (Call.end_input k) s a f r m h = unheard s a (Call.end_input k) h
 step_inv (Call.cancel now k c) s a f r m h =
@@ -284,7 +285,7 @@ output_length x b st s n f =
 bytes_length : (c : Call) (s : State) → RangedS s → Roomy s → length (next s c).bytes ≡ length s.bytes
 unfolding next input_store
 bytes_length (Call.input k b) s r m =
-    let u : Runner = s.runner in let x : Admission = admits u.key k in
+    let u : Runner = s.runner in let x : (Result Admission Refusal) = admits u.key k in
     taken_length (is_taken x u) b s.bytes u m r.2.1 (kept_room b s r)
 bytes_length (Call.output x b) s r m = output_length x b s.bytes s.runner m (r.0 x)
 bytes_length (Call.credit k p u) s r m = refl

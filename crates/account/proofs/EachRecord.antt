@@ -1,24 +1,21 @@
 -- A record that is read or written does what the call does that it makes, or makes none and is refused by a number of its own.
+use Rattle.std.specs.Prelude.{Option, Result, Some, None, Ok, Err}
+use Rattle.runner.specs.declared.answer.Message.{Message}
+use Rattle.exec.specs.declared.Receipt.{Receipt}
 use mathlib.Core.Bool.{Bool, true, false, cond, false≢true}
 use mathlib.Core.Path.{◌≡◌, refl, sym, ap, ◌∙◌}
 use mathlib.Core.List.{List, ◌++◌}
-use mathlib.Core.Option.{Option, none, some}
 use Prim.Native.Nat.{ℕ, ◌+◌, ◌-◌, ◌≤◌}
 use native.Mathlib.Omega.{arith}
 use lib.Dec.{eqb}
 use lib.ListN.{length, take, drop, get_or, length-append}
 use lib.Seq.{drop_at, length-take-le, take-append-le}
 use Rattle.exec.specs.declared.Pool.TheVariants as Pool
-use Rattle.exec.specs.declared.Received.{Received}
-use Rattle.exec.specs.declared.Receipt.TheVariants as Receipt
 use Rattle.exec.specs.declared.Refusal.{Refusal}
 use Rattle.exec.specs.declared.Refusal.TheVariants.{NotAChannel, BadLength, UnknownKind, OtherChannel, BadType}
-use Rattle.exec.specs.declared.Reply.{Reply}
 use Rattle.exec.specs.declared.Stream.{Stream}
 use Rattle.exec.specs.declared.Stream.TheVariants.{Stdout, Stderr}
 use Rattle.exec.specs.Refusal.{number}
-use Rattle.runner.specs.declared.answer.Message.TheVariants as Message
-use Rattle.runner.specs.declared.answer.Said.TheVariants as Said
 use Rattle.choice.specs.declared.Choice.{Choice}
 use Rattle.runner.specs.declared.runner.Runner.{Runner}
 use Rattle.runner.specs.Calls as Calls
@@ -26,7 +23,6 @@ use Rattle.runner.specs.Calls.{stores_do}
 use Rattle.runner.specs.Life.{outcome_of}
 use Rattle.runner.specs.Message.{choose, payload, said_for, buffer_after}
 use Rattle.runner.specs.Range.{stop, bytes_do}
-use Rattle.codec.specs.declared.Parsed.{Parsed}
 use Rattle.codec.specs.declared.Record.{Record}
 use Rattle.channel.specs.Calls as Channel
 use Rattle.channel.specs.Calls.{ReadAfter, WriteAfter, is_channel, admitted, heard_as, noted_as, parsed_read, admitted_read, room, asked, is_left, sent, told, wrote, wrote_buffer, sent_as, sent_buffer, part_back, has_ended}
@@ -54,68 +50,68 @@ pub record Unmade (e : Entry) (before after : State) (a : Answer) : Type 0 where
 
 -- what an entry does, by the call that it makes
 unfoldable pub Does : Entry → Option Call → (s after : State) → Answer → Type 0
-Does e none s after a = Unmade e s after a
-Does e (some c) s after a = (after ≡ Step.next s c) × (a ≡ Step.answer s c)
+Does e None s after a = Unmade e s after a
+Does e (Some c) s after a = (after ≡ Step.next s c) × (a ≡ Step.answer s c)
 
 -- ---- a record read
 
-pub heard_as_lem : (x : Received) → read_as (heard_as x) ≡ received_as x
-heard_as_lem (Received.Receipt Receipt.Applied) = refl
-heard_as_lem (Received.Receipt Receipt.Stale) = refl
-heard_as_lem (Received.Receipt Receipt.Late) = refl
-heard_as_lem (Received.Refused x) = refl
+pub heard_as_lem : (x : Result Receipt Refusal) → read_as (heard_as x) ≡ received_as x
+heard_as_lem (Ok Receipt.Applied) = refl
+heard_as_lem (Ok Receipt.Stale) = refl
+heard_as_lem (Ok Receipt.Late) = refl
+heard_as_lem (Err x) = refl
 
-pub noted_as_lem : (x : Reply) → read_as (noted_as x) ≡ replied x
-noted_as_lem Reply.Ok = refl
-noted_as_lem (Reply.Refused x) = refl
+pub noted_as_lem : (x : Result (Unit {0}) Refusal) → read_as (noted_as x) ≡ replied x
+noted_as_lem (Ok tt) = refl
+noted_as_lem (Err x) = refl
 
 abbrev pub leaves : ReadAfter → State
 leaves x = record { runner = x.reading.runner; bytes = x.bytes; lengths = x.lengths }
 
 -- what is so of every refusal of the reader's own is so of what it reads
-abbrev pub RefusedBy : (Refusal → Type 0) → Parsed → Type 0
-RefusedBy P (Parsed.Read rec) = Unit
-RefusedBy P (Parsed.Refused x) = P x
+abbrev pub RefusedBy : (Refusal → Type 0) → Result Record Refusal → Type 0
+RefusedBy P (Ok rec) = Unit
+RefusedBy P (Err x) = P x
 
 module _ (P : Refusal → Type 0) (bad-length : P BadLength) (unknown : P UnknownKind) (other : P OtherChannel) (bad-type : P BadType) where
-  checked_by : (channel : ℕ) (s : List ℕ) (p : Parsed) → RefusedBy P p → RefusedBy P (checked channel s p)
+  checked_by : (channel : ℕ) (s : List ℕ) (p : Result Record Refusal) → RefusedBy P p → RefusedBy P (checked channel s p)
   unfolding checked fitting
-  checked_by channel s (Parsed.Read rec) h =
+  checked_by channel s (Ok rec) h =
       either (RefusedBy P) (eqb (length s) (start rec + size rec)) _ _
       (either (RefusedBy P) (eqb _ channel) _ _ (either (RefusedBy P) (is_typed rec s) _ _ tt bad-type) other) bad-length
-  checked_by channel s (Parsed.Refused x) h = h
+  checked_by channel s (Err x) h = h
 
   pub reads_by : (channel : ℕ) (s : List ℕ) → RefusedBy P (read channel s)
   unfolding read kinded
   reads_by channel s =
       let kind = get_or s 0 0 in
-      let or : (n : ℕ) (p q : Parsed) → RefusedBy P p → RefusedBy P q → RefusedBy P (cond (eqb kind n) p q) = λ n. either (RefusedBy P) (eqb kind n) in
+      let or : (n : ℕ) (p q : (Result Record Refusal)) → RefusedBy P p → RefusedBy P q → RefusedBy P (cond (eqb kind n) p q) = λ n. either (RefusedBy P) (eqb kind n) in
       let k : RefusedBy P (kinded kind s) = or 93 _ _ tt (or 94 _ _ tt (or 95 _ _ tt (or 96 _ _ tt (or 97 _ _ tt unknown)))) in
       either (RefusedBy P) (eqb (length s) 0) _ _ bad-length (checked_by channel s (kinded kind s) k)
 
 abbrev pub Among : List ℕ → Refusal → Type 0
 Among numbers x = among (number x) numbers ≡ true
 
-parsed_does : (p : Parsed) (s : State) (now channel : ℕ) (b : List ℕ) → RefusedBy (Among of_reads) p
+parsed_does : (p : Result Record Refusal) (s : State) (now channel : ℕ) (b : List ℕ) → RefusedBy (Among of_reads) p
     → Does (read_record now channel b) (call_of (conf_of s.runner) now b p) s (leaves (parsed_read p s.runner now b s.bytes s.lengths)) (read_as (parsed_read p s.runner now b s.bytes s.lengths).reading.answer)
 unfolding Does call_of parsed_read Channel.made Step.next Step.answer
-parsed_does (Parsed.Read (Record.Adjust units)) s now channel b h = (refl, heard_as_lem (Calls.credit s.runner s.runner.key Pool.Output units).received)
-parsed_does (Parsed.Read (Record.Data n)) s now channel b h =
+parsed_does (Ok (Record.Adjust units)) s now channel b h = (refl, heard_as_lem (Calls.credit s.runner s.runner.key Pool.Output units).received)
+parsed_does (Ok (Record.Data n)) s now channel b h =
     (refl, heard_as_lem (Calls.input s.runner s.runner.key (drop 9 b) s.bytes s.lengths).hearing.received)
-parsed_does (Parsed.Read (Record.Extended n)) s now channel b h = record { kept = refl; refusal = 24; answered = refl; own = refl }
-parsed_does (Parsed.Read Record.Eof) s now channel b h = (refl, heard_as_lem (Calls.end_input s.runner s.runner.key).received)
-parsed_does (Parsed.Read Record.Close) s now channel b h = (refl, noted_as_lem (Calls.disconnect s.runner now).reply)
-parsed_does (Parsed.Refused x) s now channel b h = record { kept = refl; refusal = number x; answered = refl; own = h }
+parsed_does (Ok (Record.Extended n)) s now channel b h = record { kept = refl; refusal = 24; answered = refl; own = refl }
+parsed_does (Ok Record.Eof) s now channel b h = (refl, heard_as_lem (Calls.end_input s.runner s.runner.key).received)
+parsed_does (Ok Record.Close) s now channel b h = (refl, noted_as_lem (Calls.disconnect s.runner now).reply)
+parsed_does (Err x) s now channel b h = record { kept = refl; refusal = number x; answered = refl; own = h }
 
 -- what is met before a record, for a runner in range with its stores
-pub admitted_so : (r : Runner) (stores : Bool) → stop r stores ≡ Reply.Ok → admitted r stores ≡ cond (is_channel r.limits) Reply.Ok (Reply.Refused NotAChannel)
+pub admitted_so : (r : Runner) (stores : Bool) → stop r stores ≡ Ok tt → admitted r stores ≡ cond (is_channel r.limits) (Ok tt) (Err NotAChannel)
 unfolding admitted
 admitted_so r stores g = rw g refl
 
 pub read_by : (channels : Bool) (s : State) (now channel : ℕ) (b : List ℕ)
-    → Does (read_record now channel b) (cond channels (call_of (conf_of s.runner) now b (read channel b)) none) s
-    (leaves (admitted_read (cond channels Reply.Ok (Reply.Refused NotAChannel)) s.runner now channel b s.bytes s.lengths))
-    (read_as (admitted_read (cond channels Reply.Ok (Reply.Refused NotAChannel)) s.runner now channel b s.bytes s.lengths).reading.answer)
+    → Does (read_record now channel b) (cond channels (call_of (conf_of s.runner) now b (read channel b)) None) s
+    (leaves (admitted_read (cond channels (Ok tt) (Err NotAChannel)) s.runner now channel b s.bytes s.lengths))
+    (read_as (admitted_read (cond channels (Ok tt) (Err NotAChannel)) s.runner now channel b s.bytes s.lengths).reading.answer)
 unfolding Does admitted_read
 read_by true s now channel b = parsed_does (read channel b) s now channel b (reads_by (Among of_reads) refl refl refl refl channel b)
 read_by false s now channel b = record { kept = refl; refusal = 13; answered = refl; own = refl }
@@ -140,7 +136,7 @@ part_long k buffer part n h m = simp (length-append, length-take-le 13 buffer h)
 
 -- what is told of a message is what next_message answered
 output_told : (x : Stream) (channel n k : ℕ) (ended : Bool) (buffer part : List ℕ) → 13 ≤ length buffer → n ≤ length part
-    → wrote_as (wrote channel ended (Said.Message (Message.Output x n))) (wrote_buffer channel ended (Said.Message (Message.Output x n)) (part_back k buffer part)) ≡ Call.Says (Call.Output x (take n part))
+    → wrote_as (wrote channel ended (Ok (Some (Message.Output x n)))) (wrote_buffer channel ended (Ok (Some (Message.Output x n))) (part_back k buffer part)) ≡ Call.Says (Call.Output x (take n part))
 unfolding wrote wrote_buffer sent_as sent_buffer
 output_told Stdout channel n k ended buffer part h m =
     ap (λ (b : List ℕ). Call.Says (Call.Output Stdout b))
@@ -178,7 +174,7 @@ choice_as C n h Choice.Terminal r channel ended b = h _
 abbrev pub answers : WriteAfter → Answer
 answers w = wrote_as w.writing.wrote w.buffer
 
-module _ (s : State) (channel : ℕ) (buffer : List ℕ) (g : stop s.runner (bytes_do s.runner.limits s.bytes) ≡ Reply.Ok) where
+module _ (s : State) (channel : ℕ) (buffer : List ℕ) (g : stop s.runner (bytes_do s.runner.limits s.bytes) ≡ Ok tt) where
   abbrev pub part : List ℕ
   part = take s.runner.limits.chunk (drop 13 buffer)
 
@@ -189,7 +185,7 @@ module _ (s : State) (channel : ℕ) (buffer : List ℕ) (g : stop s.runner (byt
   told_taken : is_untaken (answers (tells s.runner channel s.bytes buffer)) ≡ false
   told_taken = told_as (λ (a : Answer). is_untaken a ≡ false) refl (λ x. refl)
 
-  pub told_does : 13 ≤ length buffer → Does (write_record channel buffer) (some (Call.next_message part)) s (Step.on_runner (tells s.runner channel s.bytes buffer).writing.runner s) (answers (tells s.runner channel s.bytes buffer))
+  pub told_does : 13 ≤ length buffer → Does (write_record channel buffer) (Some (Call.next_message part)) s (Step.on_runner (tells s.runner channel s.bytes buffer).writing.runner s) (answers (tells s.runner channel s.bytes buffer))
   unfolding Does told asked Step.next Step.answer Calls.next_message
   told_does h = (
     refl,
@@ -197,7 +193,7 @@ module _ (s : State) (channel : ℕ) (buffer : List ℕ) (g : stop s.runner (byt
   )
 
   pub written_does : (met : Bool) (w : WriteAfter) → Writes s.runner channel s.bytes buffer met w
-      → Does (write_record channel buffer) (cond met (cond (is_untaken (answers w)) none (some (Call.next_message part))) none) s (Step.on_runner w.writing.runner s) (answers w)
+      → Does (write_record channel buffer) (cond met (cond (is_untaken (answers w)) None (Some (Call.next_message part))) None) s (Step.on_runner w.writing.runner s) (answers w)
   unfolding Does
   written_does met w (elsewhere x) = record { kept = refl; refusal = 13; answered = refl; own = refl }
   written_does met w (short x y) = record { kept = refl; refusal = 25; answered = refl; own = refl }

@@ -1,15 +1,15 @@
 -- Terminal finishes the runner, nothing else does, and a finished runner says no more.
+use Rattle.std.specs.Prelude.{Option, Result, Some, None, Ok, Err}
+use Rattle.exec.specs.declared.LaunchFailure.{LaunchFailure}
+use Rattle.exec.specs.declared.Receipt.{Receipt}
+use Rattle.exec.specs.declared.Refusal.{Refusal}
 use mathlib.Core.Bool.{Bool, true, false, true≢false, false≢true, ◌||◌, or-true, or_assoc}
 use mathlib.Core.Path.{◌≡◌, refl, sym, ap, ◌∙◌}
 use mathlib.Core.List.{List, [], ◌∷◌, ◌++◌}
 use Prim.Native.Nat.{ℕ}
 use lib.ListN.{length}
 use Rattle.exec.specs.declared.Cause.{Cause}
-use Rattle.exec.specs.declared.LaunchResult.{LaunchResult}
-use Rattle.exec.specs.declared.Received.{Received}
-use Rattle.exec.specs.declared.Receipt.TheVariants as Receipt
 use Rattle.runner.specs.declared.answer.Request.{Request}
-use Rattle.runner.specs.declared.message.Wish.{Wish}
 use Rattle.exec.specs.declared.Stream.{Stream}
 use Rattle.choice.specs.declared.Choice.{Choice}
 use Rattle.runner.specs.declared.runner.Runner.{Runner}
@@ -34,16 +34,16 @@ handed_frame (Request.Discard x) s = refl
 handed_frame Request.CloseInput s = refl
 handed_frame Request.Settle s = refl
 
-wished_frame : (w : Wish) (s : Runner) → frame (wish_effect w s) ≡ frame s
+wished_frame : (w : Option Request) (s : Runner) → frame (wish_effect w s) ≡ frame s
 unfolding wish_effect
-wished_frame Wish.None s = refl
-wished_frame (Wish.Request q) s = handed_frame q s
+wished_frame None s = refl
+wished_frame (Some q) s = handed_frame q s
 
-launched_frame : (b : Bool) (x : LaunchResult) (s : Runner) → frame (launched_if b x s) ≡ frame s
+launched_frame : (b : Bool) (x : Result (Unit {0}) LaunchFailure) (s : Runner) → frame (launched_if b x s) ≡ frame s
 unfolding note_launch note_started close_runner_input
 launched_frame false x s = refl
-launched_frame true LaunchResult.Started s = refl
-launched_frame true (LaunchResult.Failed f) s = refl
+launched_frame true (Ok tt) s = refl
+launched_frame true (Err f) s = refl
 
 -- what a call does to the frame: nothing, or it answers Terminal and finishes
 pub data Framed (s t : Runner) (r : Answer) : Type 0 where
@@ -119,18 +119,18 @@ ends_by c s f g = go (framed c s)
 
 -- ---- only next_message answers a message
 
-quiet_received : (x : Received) → is_message (received_as x) ≡ false
-quiet_received (Received.Receipt Receipt.Applied) = refl
-quiet_received (Received.Receipt Receipt.Stale) = refl
-quiet_received (Received.Receipt Receipt.Late) = refl
-quiet_received (Received.Refused y) = refl
+quiet_received : (x : Result Receipt Refusal) → is_message (received_as x) ≡ false
+quiet_received (Ok Receipt.Applied) = refl
+quiet_received (Ok Receipt.Stale) = refl
+quiet_received (Ok Receipt.Late) = refl
+quiet_received (Err y) = refl
 
-quiet_wish : (w : Wish) → is_message (asks (asked_for w)) ≡ false
-quiet_wish Wish.None = refl
-quiet_wish (Wish.Request (Request.Terminate c)) = refl
-quiet_wish (Wish.Request (Request.Discard x)) = refl
-quiet_wish (Wish.Request Request.CloseInput) = refl
-quiet_wish (Wish.Request Request.Settle) = refl
+quiet_wish : (w : Option Request) → is_message (asks (asked_for w)) ≡ false
+quiet_wish None = refl
+quiet_wish (Some (Request.Terminate c)) = refl
+quiet_wish (Some (Request.Discard x)) = refl
+quiet_wish (Some Request.CloseInput) = refl
+quiet_wish (Some Request.Settle) = refl
 
 pub data Kind (s : State) : Call → Type 0 where
   quiet : {c : Call} → is_message (answer s c) ≡ false → Kind s c

@@ -1,4 +1,9 @@
 -- The fourth part: Terminal by the fifth message after the late tick.
+use Rattle.std.specs.Prelude.{Option, Result, Some, None, Ok, Err}
+use Rattle.exec.specs.declared.Admission.TheVariants.{Own, Stale}
+use Rattle.exec.specs.declared.Admission.{Admission}
+use Rattle.exec.specs.declared.Receipt.{Receipt}
+use Rattle.exec.specs.declared.Refusal.{Refusal}
 use mathlib.Core.Bool.{Bool, true, false, cond, not, ◌&&◌, ◌||◌, true≢false, or-true}
 use mathlib.Core.Path.{◌≡◌, refl, sym, ap, ◌∙◌, subst⁻¹}
 use mathlib.Core.List.{List, [], ◌∷◌}
@@ -8,11 +13,8 @@ use native.Mathlib.Nat.{le_refl}
 use lib.Dec.{ltb}
 use lib.ListN.{length}
 use borrow.Author.Tests.{le-leb, ltb-true, ltb-false}
-use Rattle.exec.specs.declared.Admission.{Admission}
 use Rattle.exec.specs.declared.Cause.{Cause}
 use Rattle.exec.specs.declared.Key.{Key}
-use Rattle.exec.specs.declared.Received.{Received}
-use Rattle.exec.specs.declared.Receipt.TheVariants as Receipt
 use Rattle.exec.specs.declared.Stream.{Stream}
 use Rattle.exec.specs.declared.Stream.TheVariants.{Stdout, Stderr}
 use Rattle.exec.specs.declared.Unit as Units
@@ -21,8 +23,6 @@ use Rattle.choice.specs.declared.Choice.{Choice}
 use Rattle.input.specs.declared.Input.{Input}
 use Rattle.output.specs.declared.Output.{Output}
 use Rattle.runner.specs.declared.runner.Runner.{Runner}
-use Rattle.exec.specs.declared.Deadline.{Deadline}
-use Rattle.exec.specs.declared.Deadline.TheVariants.{At, Never}
 use Rattle.choice.specs.Order.{if_else, order}
 use Rattle.exec.specs.Time.{after, then, earliest, due, after_at}
 use Rattle.exec.specs.Key.{admits}
@@ -50,28 +50,28 @@ use Rattle.account.proofs.Phase.{Either, left, right, Dry, AllKnown, Phase, left
 -- ---- the two phases
 
 -- a time at or before the sum
-abbrev pub Soon : ℕ → Deadline → Type 0
-Soon sum Never = ⊥
-Soon sum (At g) = g ≤ sum
+abbrev pub Soon : ℕ → Option ℕ → Type 0
+Soon sum None = ⊥
+Soon sum (Some g) = g ≤ sum
 
-abbrev pub Gone : Deadline → Type 0
+abbrev pub Gone : Option ℕ → Type 0
 Gone d = ⊥
 
-soon_if : (sum x y : ℕ) (t : Bool) → ltb y x ≡ t → x ≤ sum → Soon sum (cond t (At y) (At x))
+soon_if : (sum x y : ℕ) (t : Bool) → ltb y x ≡ t → x ≤ sum → Soon sum (cond t (Some y) (Some x))
 soon_if sum x y true e h = let z = ltb-true y x e in omega arith
 soon_if sum x y false e h = h
 
-pub soon_lower : (sum : ℕ) (d e : Deadline) → Soon sum d → Soon sum (earliest d e)
-soon_lower sum Never e h = absurd h
-soon_lower sum (At x) Never h = h
-soon_lower sum (At x) (At y) h = soon_if sum x y (ltb y x) refl h
+pub soon_lower : (sum : ℕ) (d e : Option ℕ) → Soon sum d → Soon sum (earliest d e)
+soon_lower sum None e h = absurd h
+soon_lower sum (Some x) None h = h
+soon_lower sum (Some x) (Some y) h = soon_if sum x y (ltb y x) refl h
 
-pub gone_lower : (d e : Deadline) → Gone d → Gone (earliest d e)
+pub gone_lower : (d e : Option ℕ) → Gone d → Gone (earliest d e)
 gone_lower d e h = absurd h
 
-soon_due : (sum now : ℕ) (d : Deadline) → sum ≤ now → Soon sum d → due d now ≡ true
-soon_due sum now Never l h = absurd h
-soon_due sum now (At g) l h = le-leb g now (omega arith)
+soon_due : (sum now : ℕ) (d : Option ℕ) → sum ≤ now → Soon sum d → due d now ≡ true
+soon_due sum now None l h = absurd h
+soon_due sum now (Some g) l h = le-leb g now (omega arith)
 
 abbrev pub Before : ℕ → Runner → Type 0
 Before sum s = Phase (Soon sum) s
@@ -141,8 +141,8 @@ closed_if false d i e = rw e refl
 
 soon_after : (sum now g st : ℕ) → now + g + st < 2 ^ 64 → now + g + st ≤ sum → Soon sum (after now g) × Soon sum (then (after now g) st)
 soon_after sum now g st l m =
-    let e : after now g ≡ At (now + g) = after_at now g (omega arith) in
-    let f : then (after now g) st ≡ At (now + g + st) = ap (λ (d : Deadline). then d st) e ∙ after_at (now + g) st (omega arith) in
+    let e : after now g ≡ Some (now + g) = after_at now g (omega arith) in
+    let f : then (after now g) st ≡ Some (now + g + st) = ap (λ (d : (Option ℕ)). then d st) e ∙ after_at (now + g) st (omega arith) in
     (subst⁻¹ (Soon sum) e (omega arith), subst⁻¹ (Soon sum) f m)
 
 pub before_terminate : (sum now : ℕ) (c : Cause) (s : Runner) → s.clocks.terminated ≡ false → now + s.timers.grace + s.timers.settlement < 2 ^ 64
@@ -155,36 +155,36 @@ before_terminate sum now c s e l m =
     (closed_if s.input.closed s.flags.detached s.input refl, refl, left w.0, left w.1)).hold
 
 -- what a cancel answers, by its lateness
-abbrev lateness : Bool → Received
-lateness b = cond b (Received.Receipt Receipt.Late) (Received.Receipt Receipt.Applied)
+abbrev lateness : Bool → Result Receipt Refusal
+lateness b = cond b (Ok Receipt.Late) (Ok Receipt.Applied)
 
 applied_if : (b : Bool) → received_as (lateness b) ≡ Call.Applied → b ≡ false
 applied_if true e = let z : true ≡ false = cc in z
 applied_if false e = refl
 
 -- an Applied cancel is itself the first of the three events: nothing had begun, not even in its own tick
-pub record Applying (k : Admission) (now : ℕ) (s : Runner) : Type 0 where
-  pub own : k ≡ Admission.Own
+pub record Applying (k : Result Admission Refusal) (now : ℕ) (s : Runner) : Type 0 where
+  pub own : k ≡ Ok Own
   pub live : s.flags.finished ≡ false
   pub first : (ticked s now).clocks.terminated ≡ false
 
-pub applying : (k : Admission) (now : ℕ) (c : Cause) (s : Runner) → received_as (cancel_answer k s now) ≡ Call.Applied → Applying k now s
+pub applying : (k : Result Admission Refusal) (now : ℕ) (c : Cause) (s : Runner) → received_as (cancel_answer k s now) ≡ Call.Applied → Applying k now s
 unfolding cancel_answer
-applying Admission.Own now c s e =
+applying (Ok Own) now c s e =
     let n : late (ticked s now) ≡ false = applied_if (late (ticked s now)) e in
     record {
       own = refl;
       live = sym (ap (λ (x : Frame). x.finished) (ticked_frame now s)) ∙ or_false_l (ticked s now).flags.finished (ticked s now).clocks.terminated n;
       first = or_false_r (ticked s now).flags.finished (ticked s now).clocks.terminated n;
     }
-applying Admission.Stale now c s e = let z : true ≡ false = cc in absurd (true≢false z)
-applying (Admission.Refused z) now c s e = let z : true ≡ false = cc in absurd (true≢false z)
+applying (Ok Stale) now c s e = let z : true ≡ false = cc in absurd (true≢false z)
+applying (Err z) now c s e = let z : true ≡ false = cc in absurd (true≢false z)
 
-before_own : (sum now : ℕ) (c : Cause) (s : Runner) → late (ticked s now) ≡ false → Before sum (terminate (ticked s now) now c) → Before sum (cancel_next Admission.Own now c s)
+before_own : (sum now : ℕ) (c : Cause) (s : Runner) → late (ticked s now) ≡ false → Before sum (terminate (ticked s now) now c) → Before sum (cancel_next (Ok Own) now c s)
 unfolding Life.cancel_next
 before_own sum now c s n p = subst⁻¹ (λ (b : Bool). Before sum (cancel_if b now c (ticked s now))) n p
 
-before_cancel : (sum now : ℕ) (c : Cause) (k : Admission) (s : Runner) → received_as (cancel_answer k s now) ≡ Call.Applied → now + s.timers.grace + s.timers.settlement < 2 ^ 64
+before_cancel : (sum now : ℕ) (c : Cause) (k : Result Admission Refusal) (s : Runner) → received_as (cancel_answer k s now) ≡ Call.Applied → now + s.timers.grace + s.timers.settlement < 2 ^ 64
     → now + s.timers.grace + s.timers.settlement ≤ sum → Before sum (cancel_next k now c s)
 before_cancel sum now c k s e l m =
     let a = applying k now c s e in
@@ -192,7 +192,7 @@ before_cancel sum now c k s e l m =
     let cf : t.timers ≡ s.timers = ap (λ (x : Frame). x.conf.timers) (ticked_frame now s) in
     let n : late t ≡ false = rw (tick_fin now s a.live, a.first) refl in
     let p : Before sum (terminate t now c) = before_terminate sum now c t a.first (rw cf l) (rw cf m) in
-    subst⁻¹ (λ (k : Admission). Before sum (cancel_next k now c s)) a.own (before_own sum now c s n p)
+    subst⁻¹ (λ (k : (Result Admission Refusal)). Before sum (cancel_next k now c s)) a.own (before_own sum now c s n p)
 
 -- ---- after the tick each message is nearer to Terminal
 
@@ -272,7 +272,7 @@ said_it : (s : State) (b : List ℕ) → choose s.runner (length b) ≡ Choice.T
 unfolding answer said
 said_it s b e = rw e refl
 
-no_gone : (d : Deadline) → Gone d → ⊥
+no_gone : (d : Option ℕ) → Gone d → ⊥
 no_gone d g = g
 
 -- one more call

@@ -1,4 +1,10 @@
 -- A call that is not refused by 12, 10 or 11 leaves and answers what it does without these, and its answer is none of them.
+use Rattle.std.specs.Prelude.{Option, Result, Some, None, Ok, Err}
+use Rattle.exec.specs.declared.Admission.TheVariants.{Own, Stale}
+use Rattle.exec.specs.declared.Admission.{Admission}
+use Rattle.runner.specs.declared.answer.Request.{Request}
+use Rattle.exec.specs.declared.Receipt.{Receipt}
+use Rattle.exec.specs.declared.Refusal.{Refusal}
 use mathlib.Core.Bool.{Bool, true, false, cond}
 use mathlib.Core.Path.{◌≡◌, refl, ap, ◌∙◌}
 use mathlib.Core.List.{List}
@@ -6,21 +12,15 @@ use Prim.Native.Nat.{ℕ}
 use lib.Dec.{ltb, eqb}
 use lib.ListN.{length, drop}
 use lib.Seq.{take_at}
-use Rattle.exec.specs.declared.Admission.{Admission}
 use Rattle.exec.specs.declared.Key.{Key}
 use Rattle.exec.specs.declared.Pool.{Pool}
-use Rattle.exec.specs.declared.PoolIndex.{PoolIndex}
-use Rattle.exec.specs.declared.Received.{Received}
-use Rattle.exec.specs.declared.Reply.TheVariants as Reply
 use Rattle.exec.specs.declared.Stream.{Stream}
 use Rattle.exec.specs.Key.{admits}
 use Rattle.exec.specs.Limits.{cost, off_chunk, output_pool}
 use Rattle.exec.specs.Refusal.{number}
 use Rattle.credit.specs.Sender.{grantable}
 use Rattle.input.specs.Input as Input
-use Rattle.runner.specs.declared.answer.Request.TheVariants as Request
 use Rattle.choice.specs.declared.Choice.{Choice}
-use Rattle.runner.specs.declared.message.Wish.{Wish}
 use Rattle.runner.specs.declared.runner.Runner.{Runner}
 use Rattle.runner.specs.Calls as Calls
 use Rattle.runner.specs.Calls.{asked_for}
@@ -40,7 +40,7 @@ use Rattle.account.proofs.Plain.{said}
 
 -- ---- what is left
 
-pub next_is : (s : State) (c : Call) → stop s.runner (Plain.enough s c) ≡ Reply.Ok → Step.next s c ≡ Plain.next s c
+pub next_is : (s : State) (c : Call) → stop s.runner (Plain.enough s c) ≡ Ok tt → Step.next s c ≡ Plain.next s c
 unfolding Plain.enough Plain.next Step.next Streams.received Streams.output_took Calls.credit Calls.input Calls.end_input Calls.cancel Calls.launched Calls.output Calls.discarded Calls.output_closed Calls.output_failed Calls.output_hung_up Calls.input_written Calls.input_closed Calls.exited Calls.settled Calls.dropped Calls.reset Calls.disconnect Calls.tick Calls.next_request Calls.next_message
 next_is s Call.key g = refl
 next_is s Call.limits g = refl
@@ -89,7 +89,7 @@ says_is (Choice.Output x n) r store buffer h =
     ap (λ (b : List ℕ). Call.Says (Call.Output x b)) (take_at (payload r x n store) (drop n buffer) n (h x n refl))
 says_is Choice.Terminal r store buffer h = refl
 
-pub answer_is : (s : State) (c : Call) → stop s.runner (Plain.enough s c) ≡ Reply.Ok → Step.answer s c ≡ Plain.answer s c
+pub answer_is : (s : State) (c : Call) → stop s.runner (Plain.enough s c) ≡ Ok tt → Step.answer s c ≡ Plain.answer s c
 unfolding Plain.enough Plain.answer Step.answer Streams.received Streams.output_took Calls.key Calls.limits Calls.credit Calls.input Calls.end_input Calls.cancel Calls.launched Calls.read_allowance Calls.output Calls.discarded Calls.output_closed Calls.output_failed Calls.output_hung_up Calls.pending_input Calls.input_written Calls.input_closed Calls.exited Calls.settled Calls.dropped Calls.reset Calls.disconnect Calls.tick Calls.deadline Calls.next_request Calls.next_message Calls.is_finished Calls.is_detached Calls.awaits_settlement Calls.memory_bound Calls.buffered Calls.high_water
 answer_is s Call.key g = rw g refl
 answer_is s Call.limits g = rw g refl
@@ -116,7 +116,7 @@ answer_is s (Call.tick now) g = rw g refl
 answer_is s Call.deadline g = rw g refl
 answer_is s Call.next_request g = rw g refl
 answer_is s (Call.next_message buffer) g =
-    let e : stop s.runner (bytes_do s.runner.limits s.bytes) ≡ Reply.Ok = g in
+    let e : stop s.runner (bytes_do s.runner.limits s.bytes) ≡ (Ok tt) = g in
     rw e (says_is (choose s.runner (length buffer)) s.runner s.bytes buffer (λ x n o. payload_length s.runner s.bytes buffer x n e o))
 answer_is s Call.is_finished g = rw g refl
 answer_is s Call.is_detached g = rw g refl
@@ -127,19 +127,19 @@ answer_is s Call.high_water g = rw g refl
 
 -- ---- which is none of the three
 
-abbrev Calm : Received → Type 0
+abbrev Calm : Result Receipt Refusal → Type 0
 Calm x = is_stop (received_as x) ≡ false
 
-either : (b : Bool) (x y : Received) → Calm x → Calm y → Calm (cond b x y)
+either : (b : Bool) (x y : Result Receipt Refusal) → Calm x → Calm y → Calm (cond b x y)
 either true x y p q = p
 either false x y p q = q
 
-abbrev CalmAdmission : Admission → Type 0
-CalmAdmission Admission.Own = Unit
-CalmAdmission Admission.Stale = Unit
-CalmAdmission (Admission.Refused x) = is_stop (Call.Refused (number x)) ≡ false
+abbrev CalmAdmission : Result Admission Refusal → Type 0
+CalmAdmission (Ok Own) = Unit
+CalmAdmission (Ok Stale) = Unit
+CalmAdmission (Err x) = is_stop (Call.Refused (number x)) ≡ false
 
-admission_either : (b : Bool) (x y : Admission) → CalmAdmission x → CalmAdmission y → CalmAdmission (cond b x y)
+admission_either : (b : Bool) (x y : Result Admission Refusal) → CalmAdmission x → CalmAdmission y → CalmAdmission (cond b x y)
 admission_either true x y p q = p
 admission_either false x y p q = q
 
@@ -150,9 +150,9 @@ admits_calm own message =
     (admission_either (ltb message.generation own.generation) _ _ tt (admission_either (eqb message.generation own.generation) _ _ tt refl))
     refl
 
-abbrev CalmPool : PoolIndex → Type 0
-CalmPool (PoolIndex.At i) = Unit
-CalmPool (PoolIndex.Refused x) = is_stop (Call.Refused (number x)) ≡ false
+abbrev CalmPool : Result ℕ Refusal → Type 0
+CalmPool (Ok i) = Unit
+CalmPool (Err x) = is_stop (Call.Refused (number x)) ≡ false
 
 pool_calm : (shared : Bool) (p : Pool) → CalmPool (output_pool shared p)
 pool_calm true Pool.Input = refl
@@ -164,47 +164,47 @@ pool_calm false Pool.Stdout = tt
 pool_calm false Pool.Stderr = tt
 pool_calm false Pool.Output = refl
 
-credit_in_lem : (p : PoolIndex) (r : Runner) (units : ℕ) → CalmPool p → Calm (Streams.credit_in p r units)
+credit_in_lem : (p : Result ℕ Refusal) (r : Runner) (units : ℕ) → CalmPool p → Calm (Streams.credit_in p r units)
 unfolding Streams.credit_in
-credit_in_lem (PoolIndex.Refused x) r units h = h
-credit_in_lem (PoolIndex.At i) r units h =
+credit_in_lem (Err x) r units h = h
+credit_in_lem (Ok i) r units h =
     either r.flags.finished _ _ refl (either (grantable (credit_at i r.credits) units) _ _ refl refl)
 
-credit_calm : (a : Admission) (p : PoolIndex) (r : Runner) (units : ℕ) → CalmAdmission a → CalmPool p → Calm (Streams.credit_answer a p r units)
+credit_calm : (a : Result Admission Refusal) (p : Result ℕ Refusal) (r : Runner) (units : ℕ) → CalmAdmission a → CalmPool p → Calm (Streams.credit_answer a p r units)
 unfolding Streams.credit_answer
-credit_calm (Admission.Refused x) p r units h k = h
-credit_calm Admission.Stale p r units h k = refl
-credit_calm Admission.Own p r units h k = credit_in_lem p r units k
+credit_calm (Err x) p r units h k = h
+credit_calm (Ok Stale) p r units h k = refl
+credit_calm (Ok Own) p r units h k = credit_in_lem p r units k
 
-input_calm : (a : Admission) (r : Runner) (n : ℕ) → CalmAdmission a → Calm (Streams.input_answer a r n)
+input_calm : (a : Result Admission Refusal) (r : Runner) (n : ℕ) → CalmAdmission a → Calm (Streams.input_answer a r n)
 unfolding Streams.input_answer Input.receive_answer
-input_calm (Admission.Refused x) r n h = h
-input_calm Admission.Stale r n h = refl
-input_calm Admission.Own r n h =
+input_calm (Err x) r n h = h
+input_calm (Ok Stale) r n h = refl
+input_calm (Ok Own) r n h =
     either r.flags.finished _ _ refl
     (either r.input.peer_ended _ _ refl
     (either (off_chunk r.limits n) _ _ refl
     (either (ltb r.input.window.open (cost r.limits.input.unit n)) _ _ refl (either r.input.closed _ _ refl refl))))
 
-end_calm : (a : Admission) (r : Runner) → CalmAdmission a → Calm (Streams.end_answer a r)
+end_calm : (a : Result Admission Refusal) (r : Runner) → CalmAdmission a → Calm (Streams.end_answer a r)
 unfolding Streams.end_answer Input.end_answer
-end_calm (Admission.Refused x) r h = h
-end_calm Admission.Stale r h = refl
-end_calm Admission.Own r h =
+end_calm (Err x) r h = h
+end_calm (Ok Stale) r h = refl
+end_calm (Ok Own) r h =
     either r.flags.finished _ _ refl (either r.input.peer_ended _ _ refl (either r.input.closed _ _ refl refl))
 
-cancel_calm : (a : Admission) (r : Runner) (now : ℕ) → CalmAdmission a → Calm (cancel_answer a r now)
+cancel_calm : (a : Result Admission Refusal) (r : Runner) (now : ℕ) → CalmAdmission a → Calm (cancel_answer a r now)
 unfolding cancel_answer
-cancel_calm (Admission.Refused x) r now h = h
-cancel_calm Admission.Stale r now h = refl
-cancel_calm Admission.Own r now h = either (is_late (ticked r now)) _ _ refl refl
+cancel_calm (Err x) r now h = h
+cancel_calm (Ok Stale) r now h = refl
+cancel_calm (Ok Own) r now h = either (is_late (ticked r now)) _ _ refl refl
 
-wish_calm : (w : Wish) → is_stop (asks (asked_for w)) ≡ false
-wish_calm Wish.None = refl
-wish_calm (Wish.Request (Request.Terminate c)) = refl
-wish_calm (Wish.Request (Request.Discard x)) = refl
-wish_calm (Wish.Request Request.CloseInput) = refl
-wish_calm (Wish.Request Request.Settle) = refl
+wish_calm : (w : Option Request) → is_stop (asks (asked_for w)) ≡ false
+wish_calm None = refl
+wish_calm (Some (Request.Terminate c)) = refl
+wish_calm (Some (Request.Discard x)) = refl
+wish_calm (Some Request.CloseInput) = refl
+wish_calm (Some Request.Settle) = refl
 
 said_calm : (m : Choice) (r : Runner) (bytes : List ℕ) → is_stop (said m r bytes) ≡ false
 unfolding said
@@ -250,5 +250,5 @@ calm s Call.memory_bound = refl
 calm s Call.buffered = refl
 calm s Call.high_water = refl
 
-pub not_stopped : (s : State) (c : Call) → stop s.runner (Plain.enough s c) ≡ Reply.Ok → is_stop (Step.answer s c) ≡ false
+pub not_stopped : (s : State) (c : Call) → stop s.runner (Plain.enough s c) ≡ Ok tt → is_stop (Step.answer s c) ≡ false
 not_stopped s c g = ap is_stop (answer_is s c g) ∙ calm s c

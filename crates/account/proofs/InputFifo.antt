@@ -1,5 +1,11 @@
 -- The workload's input is a queue: what a call hands over comes off the front of the inbox, what it brings goes behind it, and an
 -- inbox that is cleared belongs to an input that is closed from then on.
+use Rattle.std.specs.Prelude.{Option, Result, Some, None, Ok, Err}
+use Rattle.exec.specs.declared.Admission.TheVariants.{Own, Stale}
+use Rattle.exec.specs.declared.Admission.{Admission}
+use Rattle.runner.specs.declared.answer.Request.{Request}
+use Rattle.exec.specs.declared.Receipt.{Receipt}
+use Rattle.exec.specs.declared.Refusal.{Refusal}
 use mathlib.Core.Bool.{Bool, true, false, cond, ◌&&◌, ◌||◌, false≢true, or-true}
 use mathlib.Core.Path.{◌≡◌, refl, sym, ap, ◌∙◌, subst, subst⁻¹}
 use mathlib.Core.List.{List, [], ◌∷◌, ◌++◌, append_assoc, append-nil}
@@ -8,7 +14,6 @@ use Prim.Native.Nat.{ℕ, ◌+◌, ◌≤◌, ◌<◌, min}
 use native.Mathlib.Omega.{arith}
 use lib.Dec.{leb}
 use lib.ListN.{length, drop, take-append-drop}
-use Rattle.exec.specs.declared.Admission.{Admission}
 use Rattle.exec.specs.declared.Cause.TheVariants.{Dropped, Reset, Disconnected}
 use Rattle.exec.specs.declared.Limits.{Limits}
 use Rattle.exec.specs.declared.Stream.{Stream}
@@ -20,16 +25,12 @@ use Rattle.inbox.specs.Inbox as Inbox
 use Rattle.inbox.specs.Inbox.{inbox_base}
 use Rattle.inbox.specs.Range.{inbox_fits}
 use Rattle.inbox.specs.RangeLaws as Fits
-use Rattle.exec.specs.declared.Receipt.TheVariants as Receipt
-use Rattle.exec.specs.declared.Received.{Received}
 use Rattle.input.specs.declared.Input.{Input}
 use Rattle.input.specs.Input as In
 use Rattle.input.specs.Input.{pending_input, receive_answer, is_kept, receive_input, receive_bytes, close_when_taken, is_used_up, peer_ends, pop_in, end_input, written_input}
 use Rattle.output.specs.Output.{keeps as keeps_of, keeps_fit}
 use Rattle.output.specs.Outputs.{outputs_fit}
-use Rattle.runner.specs.declared.answer.Request.TheVariants as Request
 use Rattle.choice.specs.declared.Choice.{Choice}
-use Rattle.runner.specs.declared.message.Wish.{Wish}
 use Rattle.runner.specs.declared.runner.Runner.{Runner}
 use Rattle.runner.specs.Life.{close_runner_input, ticked, cancel_next, launched_next, exited_next, settled_next, detach_next}
 use Rattle.runner.specs.Message.{choose, effect, output_sent, output_paid, wish, wish_effect}
@@ -94,11 +95,11 @@ within s h =
 
 -- ---- bytes from the peer
 
-applied_is : (x : Received) → is_applied (received_as x) ≡ In.is_applied x
-applied_is (Received.Refused x) = refl
-applied_is (Received.Receipt Receipt.Applied) = refl
-applied_is (Received.Receipt Receipt.Stale) = refl
-applied_is (Received.Receipt Receipt.Late) = refl
+applied_is : (x : Result Receipt Refusal) → is_applied (received_as x) ≡ In.is_applied x
+applied_is (Err x) = refl
+applied_is (Ok Receipt.Applied) = refl
+applied_is (Ok Receipt.Stale) = refl
+applied_is (Ok Receipt.Late) = refl
 
 receive_flow : (l : Limits) (i : Input) (b st : List ℕ) (k : Bool) → is_kept l i (length b) ≡ k → Within l i st
     → (k ≡ true → i.inbox.length + length b ≤ inbox_size l)
@@ -110,14 +111,14 @@ receive_flow l i b st true e w m =
     let z = write_read (inbox_base l) (inbox_size l) i.inbox.start i.inbox.length b (length b) st a (omega arith) (omega arith) (m refl) in
     rw e (on (sym (z ∙ ap (λ (x : List ℕ). queue l i st ++ x) (take-length b))) (λ c. (c, refl)))
 
-input_flow : (a : Admission) (s : State) (b : List ℕ) (f : Bool) → s.runner.flags.finished ≡ f → Fine s
+input_flow : (a : Result Admission Refusal) (s : State) (b : List ℕ) (f : Bool) → s.runner.flags.finished ≡ f → Fine s
     → Flow s.runner.limits s.runner.input (input_next a s.runner (length b)).input s.bytes (input_store a s.runner b s.bytes) []
     (cond (is_applied (received_as (input_answer a s.runner (length b)))) b [])
 unfolding input_next input_store input_answer
-input_flow (Admission.Refused x) s b f e h = still s.runner.limits s.runner.input s.bytes
-input_flow Admission.Stale s b f e h = still s.runner.limits s.runner.input s.bytes
-input_flow Admission.Own s b true e h = rw e (still s.runner.limits s.runner.input s.bytes)
-input_flow Admission.Own s b false e h =
+input_flow (Err x) s b f e h = still s.runner.limits s.runner.input s.bytes
+input_flow (Ok Stale) s b f e h = still s.runner.limits s.runner.input s.bytes
+input_flow (Ok Own) s b true e h = rw e (still s.runner.limits s.runner.input s.bytes)
+input_flow (Ok Own) s b false e h =
     let l = s.runner.limits in let i = s.runner.input in
     rw (e, applied_is (receive_answer l i (length b))) (receive_flow l i b s.bytes (is_kept l i (length b)) refl (within s h) (kept_room b s h.sound.ranged))
 
@@ -143,12 +144,12 @@ ended_flow : (l : Limits) (i : Input) (st : List ℕ) → Flow l i (end_input i)
 unfolding end_input
 ended_flow l i st = ended_if l i st i.peer_ended
 
-end_flow : (a : Admission) (r : Runner) (st : List ℕ) (f : Bool) → r.flags.finished ≡ f → Flow r.limits r.input (end_next a r).input st st [] []
+end_flow : (a : Result Admission Refusal) (r : Runner) (st : List ℕ) (f : Bool) → r.flags.finished ≡ f → Flow r.limits r.input (end_next a r).input st st [] []
 unfolding end_next
-end_flow (Admission.Refused x) r st f e = still r.limits r.input st
-end_flow Admission.Stale r st f e = still r.limits r.input st
-end_flow Admission.Own r st true e = rw e (still r.limits r.input st)
-end_flow Admission.Own r st false e = rw e (ended_flow r.limits r.input st)
+end_flow (Err x) r st f e = still r.limits r.input st
+end_flow (Ok Stale) r st f e = still r.limits r.input st
+end_flow (Ok Own) r st true e = rw e (still r.limits r.input st)
+end_flow (Ok Own) r st false e = rw e (ended_flow r.limits r.input st)
 
 -- ---- the output's rings are apart from the inbox's
 
@@ -177,13 +178,13 @@ said_flow (Choice.End x) r st = kept r.limits r.input _ st refl refl
 said_flow (Choice.Output x n) r st = kept r.limits r.input _ st refl refl
 said_flow Choice.Terminal r st = kept r.limits r.input _ st refl refl
 
-asked_flow : (w : Wish) (r : Runner) (st : List ℕ) → Flow r.limits r.input (wish_effect w r).input st st [] []
+asked_flow : (w : Option Request) (r : Runner) (st : List ℕ) → Flow r.limits r.input (wish_effect w r).input st st [] []
 unfolding wish_effect
-asked_flow Wish.None r st = kept r.limits r.input _ st refl refl
-asked_flow (Wish.Request (Request.Terminate c)) r st = kept r.limits r.input _ st refl refl
-asked_flow (Wish.Request (Request.Discard x)) r st = kept r.limits r.input _ st refl refl
-asked_flow (Wish.Request Request.CloseInput) r st = kept r.limits r.input _ st refl refl
-asked_flow (Wish.Request Request.Settle) r st = kept r.limits r.input _ st refl refl
+asked_flow None r st = kept r.limits r.input _ st refl refl
+asked_flow (Some (Request.Terminate c)) r st = kept r.limits r.input _ st refl refl
+asked_flow (Some (Request.Discard x)) r st = kept r.limits r.input _ st refl refl
+asked_flow (Some Request.CloseInput) r st = kept r.limits r.input _ st refl refl
+asked_flow (Some Request.Settle) r st = kept r.limits r.input _ st refl refl
 
 -- ---- a call, and a list of calls
 

@@ -1,14 +1,16 @@
 -- What the runner's stages do to the workload's input: they keep it, or close it with its inbox cleared.
+use Rattle.std.specs.Prelude.{Option, Result, None, Ok, Err}
+use Rattle.exec.specs.declared.Admission.TheVariants.{Own, Stale}
+use Rattle.exec.specs.declared.Admission.{Admission}
+use Rattle.exec.specs.declared.LaunchFailure.{LaunchFailure}
+use Rattle.exec.specs.declared.Status.{Status}
+use Rattle.exec.specs.declared.Refusal.{Refusal}
 use mathlib.Core.Bool.{Bool, true, false, cond, ◌||◌}
 use mathlib.Core.Path.{◌≡◌, refl, sym, ◌∙◌}
 use Prim.Native.Nat.{ℕ}
 use native.Mathlib.Omega.{arith}
-use Rattle.exec.specs.declared.Admission.{Admission}
 use Rattle.exec.specs.declared.Cause.{Cause}
 use Rattle.exec.specs.declared.Cause.TheVariants.{TimedOut}
-use Rattle.exec.specs.declared.Deadline.TheVariants.{Never}
-use Rattle.exec.specs.declared.LaunchResult.{LaunchResult}
-use Rattle.exec.specs.declared.MaybeStatus.{MaybeStatus}
 use Rattle.exec.specs.Time.{due}
 use Rattle.inbox.specs.Inbox.{new_inbox}
 use Rattle.input.specs.declared.Input.{Input}
@@ -65,7 +67,7 @@ module _ (r : Runner) where
   unfolding pass_give_up give_up_unless_clean give_up
   pass_give_up_lem now =
       either r.input (due r.clocks.give_up_at now) (give_up_unless_clean r) r
-      (either r.input (is_cleaned_up r) (with_clocks (set_give_up_at Never r.clocks) r) (give_up r) keeps keeps) keeps
+      (either r.input (is_cleaned_up r) (with_clocks (set_give_up_at None r.clocks) r) (give_up r) keeps keeps) keeps
 
   drop_launch_lem : Keeps (drop_launch r)
   unfolding drop_launch abandon_launch
@@ -125,18 +127,18 @@ pub ticks : (r : Runner) (now : ℕ) → Keeps r (ticked r now)
 unfolding ticked
 ticks r now = either r.input r.flags.finished r (fire r now) (keeps r) (fires r now)
 
-pub launches : (r : Runner) (x : LaunchResult) → Keeps r (launched_next r x)
+pub launches : (r : Runner) (x : Result (Unit {0}) LaunchFailure) → Keeps r (launched_next r x)
 unfolding launched_next note_launch note_started
-launches r LaunchResult.Started = either r.input (awaits_launch r) (note_started r) r (keeps r) (keeps r)
-launches r (LaunchResult.Failed f) =
+launches r (Ok tt) = either r.input (awaits_launch r) (note_started r) r (keeps r) (keeps r)
+launches r (Err f) =
     let r' = with_life (set_launch (Launch.Failed f) r.life) r in
     either r.input (awaits_launch r) (close_runner_input r') r (close r') (keeps r)
 
-pub exit_closes : (r : Runner) (now : ℕ) (x : MaybeStatus) → Keeps r (note_exit r now x)
+pub exit_closes : (r : Runner) (now : ℕ) (x : Option Status) → Keeps r (note_exit r now x)
 unfolding note_exit close_runner_input
 exit_closes r now x = close_moves r.input r.flags.detached
 
-pub exits : (r : Runner) (now : ℕ) (x : MaybeStatus) → Keeps r (exited_next r now x)
+pub exits : (r : Runner) (now : ℕ) (x : Option Status) → Keeps r (exited_next r now x)
 unfolding exited_next note_exit_once
 exits r now x =
     let t = ticked (timeout_cleared r) now in
@@ -152,9 +154,9 @@ detaches r now c =
     (then_moves (terminates t now c)
     (then_moves (told u) (then_moves (ended (silenced u)) (soon (end_grace (silenced u)) now)))))
 
-pub cancels : (a : Admission) (r : Runner) (now : ℕ) (c : Cause) → Keeps r (cancel_next a r now c)
+pub cancels : (a : Result Admission Refusal) (r : Runner) (now : ℕ) (c : Cause) → Keeps r (cancel_next a r now c)
 unfolding cancel_next
-cancels (Admission.Refused x) r now c = keeps r
-cancels Admission.Stale r now c = keeps r
-cancels Admission.Own r now c =
+cancels (Err x) r now c = keeps r
+cancels (Ok Stale) r now c = keeps r
+cancels (Ok Own) r now c =
     let t = ticked r now in then_moves (ticks r now) (either t.input (too_late t) t (terminate t now c) (keeps t) (terminates t now c))

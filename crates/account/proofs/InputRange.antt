@@ -1,4 +1,7 @@
 -- The input in range: its inbox, its frames and its window, through every change of it.
+use Rattle.std.specs.Prelude.{Result, Ok, Err}
+use Rattle.exec.specs.declared.Receipt.{Receipt}
+use Rattle.exec.specs.declared.Refusal.{Refusal}
 use mathlib.Core.Bool.{Bool, true, false, cond}
 use mathlib.Core.Path.{◌≡◌, refl, ap, ◌∙◌}
 use mathlib.Core.List.{List, [], ◌∷◌, ◌++◌}
@@ -18,8 +21,6 @@ use Rattle.ring.specs.Frames.{rest_of, sum, Popped, popped}
 use Rattle.ring.specs.FrameLaws.{rest_sum, pop_rest, pop_most, pop_length, push_is_write}
 use Rattle.inbox.specs.Inbox.{frames_pushed, frames_popped, lengths_pushed, freed_by, lengths_popped, first_after, pushed}
 use Rattle.input.specs.declared.Input.{Input}
-use Rattle.exec.specs.declared.Receipt.TheVariants as Receipt
-use Rattle.exec.specs.declared.Received.{Received}
 use Rattle.input.specs.Input.{close_input, receive_answer, is_receipt, is_applied, receive_input, receive_lengths, is_paid, passed, end_input, written_input, written_lengths, close_when_taken, peer_ends, pop_in}
 use Rattle.input.proofs.Receives.{chunk_fits}
 
@@ -200,12 +201,12 @@ received_if pays keeps l n i = record {
   closed_message = i.closed_message;
 }
 
-received_if_lem : (x : Received) (l : Limits) (lengths : List ℕ) (n : ℕ) (i : Input) → (is_receipt x ≡ true → Paid l n i) → InRange l lengths i
+received_if_lem : (x : Result Receipt Refusal) (l : Limits) (lengths : List ℕ) (n : ℕ) (i : Input) → (is_receipt x ≡ true → Paid l n i) → InRange l lengths i
     → InRange l (cond (is_applied x) (lengths_pushed l.input.unit l.input.size n i.inbox lengths) lengths) (received_if (is_receipt x) (is_applied x) l n i)
-received_if_lem (Received.Refused y) l lengths n i p h = h
-received_if_lem (Received.Receipt Receipt.Applied) l lengths n i p h = let q = p refl in (push_by l.input.unit l lengths n i q.small q.enough h.0, h.1)
-received_if_lem (Received.Receipt Receipt.Stale) l lengths n i p h = (pay_by l.input.unit l lengths n i h.0, h.1)
-received_if_lem (Received.Receipt Receipt.Late) l lengths n i p h = (pay_by l.input.unit l lengths n i h.0, h.1)
+received_if_lem (Err y) l lengths n i p h = h
+received_if_lem (Ok Receipt.Applied) l lengths n i p h = let q = p refl in (push_by l.input.unit l lengths n i q.small q.enough h.0, h.1)
+received_if_lem (Ok Receipt.Stale) l lengths n i p h = (pay_by l.input.unit l lengths n i h.0, h.1)
+received_if_lem (Ok Receipt.Late) l lengths n i p h = (pay_by l.input.unit l lengths n i h.0, h.1)
 
 pub input_if : (b : Bool) (l : Limits) (lengths : List ℕ) (n : ℕ) (i : Input) → InRange l lengths i
     → InRange l (cond b (receive_lengths l i n lengths) lengths) (cond b (receive_input l i n) i)

@@ -1,12 +1,15 @@
 -- A claim on each stream, of whether the account has it closed and of its tally: what it must stand for a call and its answer to
 -- keep it. The account changes a stream in six ways; all else that it does leaves the streams alone.
+use Rattle.std.specs.Prelude.{Result, Ok, Err}
+use Rattle.exec.specs.declared.Admission.TheVariants.{Own, Stale}
+use Rattle.exec.specs.declared.Admission.{Admission}
+use Rattle.exec.specs.declared.Refusal.{Refusal}
 use mathlib.Core.Bool.{Bool, true, false, not, ◌||◌}
 use mathlib.Core.Path.{◌≡◌, refl, subst⁻¹}
 use mathlib.Core.List.{List}
 use Prim.Native.Nat.{ℕ}
 use lib.Dec.{ltb}
 use lib.ListN.{take}
-use Rattle.exec.specs.declared.Admission.{Admission}
 use Rattle.exec.specs.declared.Stream.{Stream}
 use Rattle.exec.specs.Each.{Each, one, both}
 use Rattle.exec.specs.Key.{admits}
@@ -93,13 +96,13 @@ module _ (P : Stream → Bool → Tally → Type 0) (c : Call) (r : Answer) (h :
       abandon_keeps (due a4.rep.abandon now) a4 (give_up_keeps (due a3.rep.give_up now) (Account.cleaned_r a3.rep) a3
       (same_closed a1.rep a (timeout_closed (due a.rep.timeout now) now a.rep) p))
 
-  cancel_keeps : (k : Admission) (now : ℕ) (a : Account) → All P a → All P (Account.cancel_a k now a)
+  cancel_keeps : (k : Result Admission Refusal) (now : ℕ) (a : Account) → All P a → All P (Account.cancel_a k now a)
   unfolding Account.cancel_a
-  cancel_keeps Admission.Own now a p =
+  cancel_keeps (Ok Own) now a p =
       let b : Account = Account.tick_a now a in
       same_closed (Account.begin now b.rep) b (begin_closed b.rep.begun now b.rep) (tick_keeps now a p)
-  cancel_keeps Admission.Stale now a p = p
-  cancel_keeps (Admission.Refused x) now a p = p
+  cancel_keeps (Ok Stale) now a p = p
+  cancel_keeps (Err x) now a p = p
 
   detach_keeps : (now : ℕ) (a : Account) → All P a → All P (Account.detach_a now a)
   unfolding Account.detach_a

@@ -1,15 +1,17 @@
 -- The bound of demand 3 after every call that ticks: what the late tick leaves, the rest of the call keeps.
+use Rattle.std.specs.Prelude.{Option, Result, Some, None, Ok, Err}
+use Rattle.std.proofs.lemmas.Option.{none-some, same_Some}
+use Rattle.exec.specs.declared.Admission.TheVariants.{Own, Stale}
+use Rattle.exec.specs.declared.Admission.{Admission}
+use Rattle.exec.specs.declared.Status.{Status}
+use Rattle.exec.specs.declared.Refusal.{Refusal}
 use mathlib.Core.Bool.{Bool, true, false, ◌||◌, or-true}
 use mathlib.Core.Path.{◌≡◌, refl, ap, ◌∙◌, subst⁻¹}
 use mathlib.Core.List.{List, ◌∷◌, ◌++◌}
-use mathlib.Core.Option.{some, some-injective, none-ne-some}
 use Prim.Native.Nat.{ℕ, ◌+◌, ◌^◌, ◌≤◌, ◌<◌}
 use native.Mathlib.Omega.{arith}
-use Rattle.exec.specs.declared.Admission.{Admission}
 use Rattle.exec.specs.declared.Cause.{Cause}
-use Rattle.exec.specs.declared.Deadline.TheVariants.{Never}
 use Rattle.exec.specs.declared.Key.{Key}
-use Rattle.exec.specs.declared.MaybeStatus.{MaybeStatus}
 use Rattle.exec.specs.Key.{admits}
 use Rattle.lifecycle.specs.Life.{exit_known}
 use Rattle.lifecycle.specs.Setters.{set_timeout_at}
@@ -32,14 +34,14 @@ use Rattle.account.proofs.Five.{Gone, gone_lower, Before, After, late_ticked, ca
 
 -- ---- the calls that tick
 
-at_now : (sum n now : ℕ) → sum ≤ n → some now ≡ some n → sum ≤ now
-at_now sum n now l e = subst⁻¹ (λ (m : ℕ). sum ≤ m) (some-injective now n e) l
+at_now : (sum n now : ℕ) → sum ≤ n → Some now ≡ Some n → sum ≤ now
+at_now sum n now l e = subst⁻¹ (λ (m : ℕ). sum ≤ m) (same_Some now n e) l
 
 -- an exit comes too late: it is known by then
-after_exited : (sum now : ℕ) (x : MaybeStatus) (s : Runner) → s.flags.finished ≡ false → sum ≤ now → Before sum s → After (exited_next s now x)
+after_exited : (sum now : ℕ) (x : Option Status) (s : Runner) → s.flags.finished ≡ false → sum ≤ now → Before sum s → After (exited_next s now x)
 unfolding exited_next note_exit_once
 after_exited sum now x s f l h =
-    let s' : Runner = with_clocks (set_timeout_at Never s.clocks) s in let t : Runner = ticked s' now in
+    let s' : Runner = with_clocks (set_timeout_at None s.clocks) s in let t : Runner = ticked s' now in
     (low_exited_if Gone gone_lower (exit_known t.life.exit) t.flags.gave_up now x t refl (late_ticked sum now s' f l h)).hold
 
 -- a detachment drops what is dropped already
@@ -50,51 +52,51 @@ after_detach sum now c s f l h =
     (low_detach_if Gone gone_lower t.flags.finished t.flags.detached now c t (late_ticked sum now s f l h)).hold
 
 -- a cancel is late
-after_cancel : (sum n now : ℕ) (k : Admission) (c : Cause) (s : Runner) → s.flags.finished ≡ false → sum ≤ n → Before sum s → own_tick k now ≡ some n → After (cancel_next k now c s)
+after_cancel : (sum n now : ℕ) (k : Result Admission Refusal) (c : Cause) (s : Runner) → s.flags.finished ≡ false → sum ≤ n → Before sum s → own_tick k now ≡ Some n → After (cancel_next k now c s)
 unfolding Life.cancel_next
-after_cancel sum n now Admission.Own c s f l h e =
+after_cancel sum n now (Ok Own) c s f l h e =
     let t : Runner = ticked s now in
     (low_cancel_if Gone gone_lower (late t) now c t (late_ticked sum now s f (at_now sum n now l e) h)).hold
-after_cancel sum n now Admission.Stale c s f l h e = absurd (none-ne-some n e)
-after_cancel sum n now (Admission.Refused x) c s f l h e = absurd (none-ne-some n e)
+after_cancel sum n now (Ok Stale) c s f l h e = absurd (none-some n e)
+after_cancel sum n now (Err x) c s f l h e = absurd (none-some n e)
 
-after_call : (sum n : ℕ) (call : Call) (s : State) → s.runner.flags.finished ≡ false → sum ≤ n → Before sum s.runner → tick_of (conf_of s.runner) call ≡ some n → After (next s call).runner
+after_call : (sum n : ℕ) (call : Call) (s : State) → s.runner.flags.finished ≡ false → sum ≤ n → Before sum s.runner → tick_of (conf_of s.runner) call ≡ Some n → After (next s call).runner
 unfolding next
-after_call sum n Call.key s f l h e = absurd (none-ne-some n e)
-after_call sum n Call.limits s f l h e = absurd (none-ne-some n e)
-after_call sum n (Call.credit k p u) s f l h e = absurd (none-ne-some n e)
-after_call sum n (Call.input k b) s f l h e = absurd (none-ne-some n e)
-after_call sum n (Call.end_input k) s f l h e = absurd (none-ne-some n e)
+after_call sum n Call.key s f l h e = absurd (none-some n e)
+after_call sum n Call.limits s f l h e = absurd (none-some n e)
+after_call sum n (Call.credit k p u) s f l h e = absurd (none-some n e)
+after_call sum n (Call.input k b) s f l h e = absurd (none-some n e)
+after_call sum n (Call.end_input k) s f l h e = absurd (none-some n e)
 after_call sum n (Call.cancel now k c) s f l h e = after_cancel sum n now (admits s.runner.key k) c s.runner f l h e
-after_call sum n (Call.launched x) s f l h e = absurd (none-ne-some n e)
-after_call sum n (Call.read_allowance x) s f l h e = absurd (none-ne-some n e)
-after_call sum n (Call.output x b) s f l h e = absurd (none-ne-some n e)
-after_call sum n (Call.discarded x m) s f l h e = absurd (none-ne-some n e)
-after_call sum n (Call.output_closed x) s f l h e = absurd (none-ne-some n e)
-after_call sum n (Call.output_failed x) s f l h e = absurd (none-ne-some n e)
-after_call sum n (Call.output_hung_up x) s f l h e = absurd (none-ne-some n e)
-after_call sum n Call.pending_input s f l h e = absurd (none-ne-some n e)
-after_call sum n (Call.input_written m) s f l h e = absurd (none-ne-some n e)
-after_call sum n Call.input_closed s f l h e = absurd (none-ne-some n e)
+after_call sum n (Call.launched x) s f l h e = absurd (none-some n e)
+after_call sum n (Call.read_allowance x) s f l h e = absurd (none-some n e)
+after_call sum n (Call.output x b) s f l h e = absurd (none-some n e)
+after_call sum n (Call.discarded x m) s f l h e = absurd (none-some n e)
+after_call sum n (Call.output_closed x) s f l h e = absurd (none-some n e)
+after_call sum n (Call.output_failed x) s f l h e = absurd (none-some n e)
+after_call sum n (Call.output_hung_up x) s f l h e = absurd (none-some n e)
+after_call sum n Call.pending_input s f l h e = absurd (none-some n e)
+after_call sum n (Call.input_written m) s f l h e = absurd (none-some n e)
+after_call sum n Call.input_closed s f l h e = absurd (none-some n e)
 after_call sum n (Call.exited now x) s f l h e = after_exited sum now x s.runner f (at_now sum n now l e) h
-after_call sum n (Call.settled x) s f l h e = absurd (none-ne-some n e)
+after_call sum n (Call.settled x) s f l h e = absurd (none-some n e)
 after_call sum n (Call.dropped now) s f l h e = after_detach sum now Cause.Dropped s.runner f (at_now sum n now l e) h
 after_call sum n (Call.reset now) s f l h e = after_detach sum now Cause.Reset s.runner f (at_now sum n now l e) h
 after_call sum n (Call.disconnect now) s f l h e = after_detach sum now Cause.Disconnected s.runner f (at_now sum n now l e) h
 after_call sum n (Call.tick now) s f l h e = late_ticked sum now s.runner f (at_now sum n now l e) h
-after_call sum n Call.deadline s f l h e = absurd (none-ne-some n e)
-after_call sum n Call.next_request s f l h e = absurd (none-ne-some n e)
-after_call sum n (Call.next_message buffer) s f l h e = absurd (none-ne-some n e)
-after_call sum n Call.is_finished s f l h e = absurd (none-ne-some n e)
-after_call sum n Call.is_detached s f l h e = absurd (none-ne-some n e)
-after_call sum n Call.awaits_settlement s f l h e = absurd (none-ne-some n e)
-after_call sum n Call.memory_bound s f l h e = absurd (none-ne-some n e)
-after_call sum n Call.buffered s f l h e = absurd (none-ne-some n e)
-after_call sum n Call.high_water s f l h e = absurd (none-ne-some n e)
+after_call sum n Call.deadline s f l h e = absurd (none-some n e)
+after_call sum n Call.next_request s f l h e = absurd (none-some n e)
+after_call sum n (Call.next_message buffer) s f l h e = absurd (none-some n e)
+after_call sum n Call.is_finished s f l h e = absurd (none-some n e)
+after_call sum n Call.is_detached s f l h e = absurd (none-some n e)
+after_call sum n Call.awaits_settlement s f l h e = absurd (none-some n e)
+after_call sum n Call.memory_bound s f l h e = absurd (none-some n e)
+after_call sum n Call.buffered s f l h e = absurd (none-some n e)
+after_call sum n Call.high_water s f l h e = absurd (none-some n e)
 
 -- ---- the whole list
 
-pub from_call : (sum n : ℕ) (call : Call) (es : List Call) (s : State) → s.runner.flags.finished ≡ false → sum ≤ n → Before sum s.runner → tick_of (conf_of s.runner) call ≡ some n → 5 ≤ messages es
+pub from_call : (sum n : ℕ) (call : Call) (es : List Call) (s : State) → s.runner.flags.finished ≡ false → sum ≤ n → Before sum s.runner → tick_of (conf_of s.runner) call ≡ Some n → 5 ≤ messages es
     → any_terminal (run s (call ∷ es)) ≡ true
 from_call sum n call es s f l h e m = go (next s call).runner.flags.finished refl
   where
@@ -115,7 +117,7 @@ unfolding fresh
 opened_conf conf now bytes lengths = refl
 
 pub any : (conf : Conf) (now : ℕ) (bytes lengths : List ℕ) (cs ds es : List Call) (t n : ℕ) (k : Key) (c : Cause) (call : Call) → answer (after_all (begun conf now bytes lengths) cs) (Call.cancel t k c) ≡ Call.Applied
-    → t + conf.timers.grace + conf.timers.settlement < 2 ^ 64 → t + conf.timers.grace + conf.timers.settlement ≤ n → tick_of conf call ≡ some n → 5 ≤ messages es
+    → t + conf.timers.grace + conf.timers.settlement < 2 ^ 64 → t + conf.timers.grace + conf.timers.settlement ≤ n → tick_of conf call ≡ Some n → 5 ≤ messages es
     → any_terminal (run (begun conf now bytes lengths) (cs ++ (Call.cancel t k c ∷ (ds ++ (call ∷ es))))) ≡ true
 any conf now bytes lengths cs ds es t n k c call e l m i v =
     let s : State = after_all (begun conf now bytes lengths) cs in
@@ -126,6 +128,6 @@ any conf now bytes lengths cs ds es t n k c call e l m i v =
     let b = cancelled t k c s e (rw tm l) in
     let sum : ℕ = t + s.runner.timers.grace + s.runner.timers.settlement in
     let r : any_terminal (run u (ds ++ (call ∷ es))) ≡ true = either_part ds (call ∷ es) u b.1
-    (λ f. from_call sum n call es (after_all u ds) f (rw tm m) (before_list sum ds u b.0) (subst⁻¹ (λ (x : Conf). tick_of x call ≡ some n) cu i) v) in
+    (λ f. from_call sum n call es (after_all u ds) f (rw tm m) (before_list sum ds u b.0) (subst⁻¹ (λ (x : Conf). tick_of x call ≡ Some n) cu i) v) in
     rw (run_append cs (Call.cancel t k c ∷ (ds ++ (call ∷ es))) (begun conf now bytes lengths))
     (rw r (rw (or-true (is_terminal (answer s (Call.cancel t k c)))) (or-true (any_terminal (run (begun conf now bytes lengths) cs)))))

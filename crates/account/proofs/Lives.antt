@@ -1,17 +1,19 @@
 -- The replay keeps step with the runner's life cycle, and each stream with its account, at every stage of a call.
+use Rattle.std.specs.Prelude.{Option, Result, None, Ok, Err}
+use Rattle.exec.specs.declared.Admission.TheVariants.{Own, Stale}
+use Rattle.exec.specs.declared.Admission.{Admission}
+use Rattle.exec.specs.declared.Status.{Status}
+use Rattle.exec.specs.declared.Refusal.{Refusal}
 use mathlib.Core.Bool.{Bool, true, false, cond, ◌||◌, true≢false}
 use mathlib.Core.Path.{◌≡◌, refl, ap, ◌∙◌, subst, subst⁻¹}
 use mathlib.Core.List.{List}
 use Prim.Native.Nat.{ℕ}
-use Rattle.exec.specs.declared.Admission.{Admission}
 use Rattle.exec.specs.declared.Cause.{Cause}
 use Rattle.lifecycle.specs.declared.life.Exit.{Exit}
-use Rattle.exec.specs.declared.MaybeStatus.{MaybeStatus}
 use Rattle.exec.specs.declared.Settlement.{Settlement}
 use Rattle.exec.specs.declared.Stream.{Stream}
 use Rattle.lifecycle.specs.declared.life.Settling.{Settling}
 use Rattle.runner.specs.declared.runner.Runner.{Runner}
-use Rattle.exec.specs.declared.Deadline.TheVariants.{Never}
 use Rattle.exec.specs.Each.{per, both}
 use Rattle.exec.specs.Time.{after, due}
 use Rattle.lifecycle.specs.Life.{launch_known, exit_known, or_lost, is_fenced, is_settled, expired, settle_with}
@@ -130,7 +132,7 @@ terminate_frame false now c s = grace_frame (due (after now s.timers.grace) now)
 timeout_frame : (b : Bool) (now : ℕ) (s : Runner) → frame (timeout_if b now s) ≡ frame s
 unfolding terminate
 timeout_frame false now s = refl
-timeout_frame true now s = terminate_frame s.clocks.terminated now Cause.TimedOut (with_clocks (set_timeout_at Never s.clocks) s)
+timeout_frame true now s = terminate_frame s.clocks.terminated now Cause.TimedOut (with_clocks (set_timeout_at None s.clocks) s)
 
 give_up_frame : (b c : Bool) (s : Runner) → frame (give_up_if b c s) ≡ frame s
 unfolding give_up
@@ -170,11 +172,11 @@ unfolding terminate
 cancel_if_frame true now c s = refl
 cancel_if_frame false now c s = terminate_frame s.clocks.terminated now c s
 
-pub cancel_frame : (k : Admission) (now : ℕ) (c : Cause) (s : Runner) → frame (cancel_next k now c s) ≡ frame s
+pub cancel_frame : (k : Result Admission Refusal) (now : ℕ) (c : Cause) (s : Runner) → frame (cancel_next k now c s) ≡ frame s
 unfolding Life.cancel_next
-cancel_frame Admission.Own now c s = cancel_if_frame (late (ticked s now)) now c (ticked s now) ∙ ticked_frame now s
-cancel_frame Admission.Stale now c s = refl
-cancel_frame (Admission.Refused z) now c s = refl
+cancel_frame (Ok Own) now c s = cancel_if_frame (late (ticked s now)) now c (ticked s now) ∙ ticked_frame now s
+cancel_frame (Ok Stale) now c s = refl
+cancel_frame (Err z) now c s = refl
 
 detach_if_frame : (f d : Bool) (now : ℕ) (c : Cause) (s : Runner) → frame (detach_if f d now c s) ≡ frame s
 unfolding end_grace silenced give_up_soon terminate
@@ -186,16 +188,16 @@ pub detach_frame : (now : ℕ) (c : Cause) (s : Runner) → frame (detach_next s
 unfolding detach_next cut_off_once cut_off
 detach_frame now c s = detach_if_frame (ticked s now).flags.finished (ticked s now).flags.detached now c (ticked s now) ∙ ticked_frame now s
 
-exited_if_frame : (e g : Bool) (now : ℕ) (x : MaybeStatus) (s : Runner) → frame (exited_if e g now x s) ≡ frame s
+exited_if_frame : (e g : Bool) (now : ℕ) (x : Option Status) (s : Runner) → frame (exited_if e g now x s) ≡ frame s
 unfolding note_exit close_runner_input
 exited_if_frame true g now x s = refl
 exited_if_frame false true now x s = refl
 exited_if_frame false false now x s = refl
 
-pub exited_frame : (now : ℕ) (x : MaybeStatus) (s : Runner) → frame (exited_next s now x) ≡ frame s
+pub exited_frame : (now : ℕ) (x : Option Status) (s : Runner) → frame (exited_next s now x) ≡ frame s
 unfolding exited_next note_exit_once
 exited_frame now x s =
-    let s' : Runner = with_clocks (set_timeout_at Never s.clocks) s in
+    let s' : Runner = with_clocks (set_timeout_at None s.clocks) s in
     exited_if_frame (exit_known (ticked s' now).life.exit) (ticked s' now).flags.gave_up now x (ticked s' now) ∙ ticked_frame now s'
 
 module _ (st : List ℕ) where
@@ -228,7 +230,7 @@ module _ (st : List ℕ) where
   timeout_if_inv : (b : Bool) (now : ℕ) (s : Runner) (a : Account) → Inv st s a → Inv st (timeout_if b now s) (mk (timeout_r b now a.rep) a.tallies)
   unfolding timeout_r
   timeout_if_inv false now s a h = h
-  timeout_if_inv true now s a h = terminate_inv now Cause.TimedOut (with_clocks (set_timeout_at Never s.clocks) s) (mk (no_timeout_r a.rep) a.tallies) (ap no_timeout_r h.0, h.1)
+  timeout_if_inv true now s a h = terminate_inv now Cause.TimedOut (with_clocks (set_timeout_at None s.clocks) s) (mk (no_timeout_r a.rep) a.tallies) (ap no_timeout_r h.0, h.1)
 
   stage1_inv : (now : ℕ) (s : Runner) (a : Account) → Inv st s a → Inv st (stage1 now s) (tick1 now a)
   stage1_inv now s a h = along (λ (b : Account). Inv st (stage1 now s) (tick1 now b)) s a h (timeout_if_inv (due s.clocks.timeout_at now) now s (home s a) (at_home s a h))
@@ -304,12 +306,12 @@ module _ (st : List ℕ) where
       let same : terminate s now c ≡ s = ap (λ (b : Bool). terminate_if b now c s) ee in
       subst (λ (t : Runner). Inv st t (mk (begin now a.rep) a.tallies)) same (terminate_inv now c s a h)
 
-  pub cancel_inv : (k : Admission) (now : ℕ) (c : Cause) (s : Runner) (a : Account) → s.flags.finished ≡ false → Inv st s a → Inv st (cancel_next k now c s) (cancel_a k now a)
+  pub cancel_inv : (k : Result Admission Refusal) (now : ℕ) (c : Cause) (s : Runner) (a : Account) → s.flags.finished ≡ false → Inv st s a → Inv st (cancel_next k now c s) (cancel_a k now a)
   unfolding Life.cancel_next cancel_a
-  cancel_inv Admission.Own now c s a f h =
+  cancel_inv (Ok Own) now c s a f h =
       cancel_if_inv (ticked s now).flags.finished (ticked s now).clocks.terminated now c (ticked s now) (tick_a now a) (tick_fin now s f) refl (tick_inv now s a f h)
-  cancel_inv Admission.Stale now c s a f h = h
-  cancel_inv (Admission.Refused z) now c s a f h = h
+  cancel_inv (Ok Stale) now c s a f h = h
+  cancel_inv (Err z) now c s a f h = h
 
   detach_if_inv : (f d : Bool) (now : ℕ) (c : Cause) (s : Runner) (a : Account) → f ≡ false → Inv st s a
       → Inv st (detach_if f d now c s) (mk (detach_r d now a.rep) a.tallies)
@@ -328,16 +330,16 @@ module _ (st : List ℕ) where
       along (λ (x : Account). Inv st (detach_next s now c) (mk (detach_r x.rep.detached now x.rep) x.tallies)) t b g
       (detach_if_inv t.flags.finished t.flags.detached now c t (home t b) (tick_fin now s f) (at_home t b g))
 
-  exited_if_inv : (e g : Bool) (now : ℕ) (x : MaybeStatus) (s : Runner) (a : Account) → Inv st s a → Inv st (exited_if e g now x s) (mk (exit_r (e || g) now a.rep) a.tallies)
+  exited_if_inv : (e g : Bool) (now : ℕ) (x : Option Status) (s : Runner) (a : Account) → Inv st s a → Inv st (exited_if e g now x s) (mk (exit_r (e || g) now a.rep) a.tallies)
   unfolding note_exit close_runner_input exit_r
   exited_if_inv true g now x s a h = h
   exited_if_inv false true now x s a h = h
   exited_if_inv false false now x s a h = (ap (exit_r false now) h.0, h.1)
 
-  pub exited_inv : (now : ℕ) (x : MaybeStatus) (s : Runner) (a : Account) → s.flags.finished ≡ false → Inv st s a → Inv st (exited_next s now x) (exit_a now a)
+  pub exited_inv : (now : ℕ) (x : Option Status) (s : Runner) (a : Account) → s.flags.finished ≡ false → Inv st s a → Inv st (exited_next s now x) (exit_a now a)
   unfolding exited_next note_exit_once exit_a
   exited_inv now x s a f h =
-      let s' : Runner = with_clocks (set_timeout_at Never s.clocks) s in let a' : Account = mk (no_timeout_r a.rep) a.tallies in
+      let s' : Runner = with_clocks (set_timeout_at None s.clocks) s in let a' : Account = mk (no_timeout_r a.rep) a.tallies in
       let t : Runner = ticked s' now in let b : Account = tick_a now a' in
       let g : Inv st t b = tick_inv now s' a' f (ap no_timeout_r h.0, h.1) in
       along (λ (y : Account). Inv st (exited_next s now x) (mk (exit_r (y.rep.exit || y.rep.gave_up) now y.rep) y.tallies)) t b g

@@ -1,4 +1,5 @@
 -- The phase that an Applied cancel begins: what holds until give-up and after it, the messages left, and what a change of a part must keep.
+use Rattle.std.specs.Prelude.{Option}
 use mathlib.Core.Bool.{Bool, true, false, cond, not, ◌&&◌, ◌||◌, true≢false, false≢true}
 use mathlib.Core.Path.{◌≡◌, refl, sym, ap, ◌∙◌}
 use Prim.Native.Nat.{ℕ, ◌+◌, ◌-◌, ◌≤◌}
@@ -12,7 +13,6 @@ use Rattle.input.specs.declared.Input.{Input}
 use Rattle.output.specs.declared.Output.{Output}
 use Rattle.lifecycle.specs.declared.life.Settling.{Settling}
 use Rattle.runner.specs.declared.runner.Runner.{Runner}
-use Rattle.exec.specs.declared.Deadline.{Deadline}
 use Rattle.lifecycle.specs.Life.{launch_known, exit_known, is_settled, expired, settle_with}
 use Rattle.input.specs.Input as In
 use Rattle.input.specs.Input.{close_when_taken, peer_ends, end_input}
@@ -63,7 +63,7 @@ AllKnown s = Known (awaits_launch s) (exit_known s.life.exit) (λ (x : Stream). 
 
 -- The phase: the input is closed, the termination begun, and each of the two deadlines stands as P says or has done its work.
 -- With P d = "d is a time at or before the sum" this is the phase before give-up, with P d = ⊥ the phase after it.
-abbrev pub Phase : (Deadline → Type 0) → Runner → Type 0
+abbrev pub Phase : ((Option ℕ) → Type 0) → Runner → Type 0
 Phase P s = (s.input.closed ≡ true) × (s.clocks.terminated ≡ true) × Either (P s.clocks.grace_until) (Dry s) × Either (P s.clocks.give_up_at) (AllKnown s)
 
 abbrev pub bit : Bool → ℕ

@@ -1,4 +1,11 @@
 -- From open on no state is out of range: what 12 asks holds after every list of calls.
+use Rattle.std.specs.Prelude.{Option, Result, Some, None, Ok, Err}
+use Rattle.exec.specs.declared.Admission.TheVariants.{Own, Stale}
+use Rattle.exec.specs.declared.Admission.{Admission}
+use Rattle.runner.specs.declared.answer.Request.{Request}
+use Rattle.exec.specs.declared.LaunchFailure.{LaunchFailure}
+use Rattle.exec.specs.declared.Status.{Status}
+use Rattle.exec.specs.declared.Refusal.{Refusal}
 use mathlib.Core.Bool.{Bool, true, false, cond, not, ◌&&◌, ◌||◌}
 use mathlib.Core.Path.{◌≡◌, refl, ap}
 use mathlib.Core.List.{List, [], ◌∷◌}
@@ -8,13 +15,8 @@ use native.Mathlib.Nat.{mul-le-mul}
 use lib.Dec.{ltb, leb, eqb}
 use lib.ListN.{length}
 use borrow.Author.Tests.{le-leb, lt-ltb, ltb-true, leb-true, eq-eqb}
-use Rattle.exec.specs.declared.Admission.{Admission}
 use Rattle.exec.specs.declared.Cause.{Cause}
-use Rattle.exec.specs.declared.LaunchResult.{LaunchResult}
 use Rattle.exec.specs.declared.Limits.{Limits}
-use Rattle.exec.specs.declared.MaybeStatus.{MaybeStatus}
-use Rattle.exec.specs.declared.PoolIndex.{PoolIndex}
-use Rattle.exec.specs.declared.Reply.TheVariants as Reply
 use Rattle.exec.specs.declared.Stream.{Stream}
 use Rattle.exec.specs.declared.Stream.TheVariants.{Stdout, Stderr}
 use Rattle.exec.specs.declared.Unit as units
@@ -36,9 +38,7 @@ use Rattle.lifecycle.specs.Life.{is_fenced}
 use Rattle.input.specs.declared.Input.{Input}
 use Rattle.output.specs.declared.Output.{Output}
 use Rattle.output.specs.Output.{new_output, grace_ended, given_up, abandoned, sent_out, ended_out, asked_out, lost_out, closed_out, failed_out, hung_up, keeps, keeps_fit, output_fits}
-use Rattle.runner.specs.declared.answer.Request.TheVariants as Request
 use Rattle.choice.specs.declared.Choice.{Choice}
-use Rattle.runner.specs.declared.message.Wish.{Wish}
 use Rattle.runner.specs.declared.runner.Runner.{Runner}
 use Rattle.runner.specs.Life.{awaits_launch, is_cleaned_up, is_late, is_over, close_runner_input, end_grace, give_up, abandon_launch, abandon_open_streams, begin_termination, pass_grace, terminate, pass_timeout, pass_settlement, give_up_unless_clean, pass_give_up, drop_launch, drop_streams, pass_abandonment, fire, ticked, timeout_cleared, cancel_next, note_started, note_launch, launched_next, note_exit, note_exit_once, exited_next, settled_next, silenced, give_up_soon, cut_off, cut_off_once, detach_next}
 use Rattle.runner.specs.Message.{choose, output_paid, output_sent, effect, wish, wish_effect}
@@ -83,16 +83,16 @@ put_range : (i : ℕ) (f : Credit → Credit) (cs : List Credit) → ((c : Credi
 put_range i f cs k h Stdout = one_of Within (eqb i 0) _ _ (k (credit_at i cs) (at_range i cs h)) (h Stdout)
 put_range i f cs k h Stderr = one_of Within (eqb i 0) _ _ (h Stderr) (k (credit_at i cs) (at_range i cs h))
 
-credits_in_lem : (p : PoolIndex) (f : Bool) (u : ℕ) (cs : List Credit) → AllWithin cs → AllWithin (credits_in p f u cs)
-credits_in_lem (PoolIndex.Refused x) f u cs h = h
-credits_in_lem (PoolIndex.At i) f u cs h =
+credits_in_lem : (p : Result ℕ Refusal) (f : Bool) (u : ℕ) (cs : List Credit) → AllWithin cs → AllWithin (credits_in p f u cs)
+credits_in_lem (Err x) f u cs h = h
+credits_in_lem (Ok i) f u cs h =
     one_of AllWithin (not f && grantable (credit_at i cs) u) (put_credit i (grant (credit_at i cs) u).credit cs) cs
     (put_range i (λ (c : Credit). (grant c u).credit) cs (λ c w. grant_range c u w) h) h
 
-credits_range : (a : Admission) (p : PoolIndex) (f : Bool) (u : ℕ) (cs : List Credit) → AllWithin cs → AllWithin (credits_after a p f u cs)
-credits_range (Admission.Refused x) p f u cs h = h
-credits_range Admission.Stale p f u cs h = h
-credits_range Admission.Own p f u cs h = credits_in_lem p f u cs h
+credits_range : (a : Result Admission Refusal) (p : Result ℕ Refusal) (f : Bool) (u : ℕ) (cs : List Credit) → AllWithin cs → AllWithin (credits_after a p f u cs)
+credits_range (Err x) p f u cs h = h
+credits_range (Ok Stale) p f u cs h = h
+credits_range (Ok Own) p f u cs h = credits_in_lem p f u cs h
 
 -- ---- the state
 
@@ -174,11 +174,11 @@ module _ (ls : List ℕ) where
   unfolding ticked
   tick_range now s h = either s.flags.finished s (fire s now) h (fire_range now s h)
 
-  cancel_range : (k : Admission) (now : ℕ) (c : Cause) (s : Runner) → Ranged ls s → Ranged ls (cancel_next k s now c)
+  cancel_range : (k : Result Admission Refusal) (now : ℕ) (c : Cause) (s : Runner) → Ranged ls s → Ranged ls (cancel_next k s now c)
   unfolding cancel_next
-  cancel_range (Admission.Refused x) now c s h = h
-  cancel_range Admission.Stale now c s h = h
-  cancel_range Admission.Own now c s h =
+  cancel_range (Err x) now c s h = h
+  cancel_range (Ok Stale) now c s h = h
+  cancel_range (Ok Own) now c s h =
       let t : Runner = ticked s now in
       let k : Ranged ls t = tick_range now s h in either (is_late t) t (terminate t now c) k (terminate_range now c t k)
 
@@ -200,23 +200,23 @@ module _ (ls : List ℕ) where
   unfolding close_runner_input
   closed_range s h = (h.0, h.1, close_range s.limits ls s.input s.flags.detached h.2, h.3)
 
-  noted_range : (now : ℕ) (x : MaybeStatus) (s : Runner) → Ranged ls s → Ranged ls (note_exit s now x)
+  noted_range : (now : ℕ) (x : Option Status) (s : Runner) → Ranged ls s → Ranged ls (note_exit s now x)
   unfolding note_exit
   noted_range now x s h = closed_range _ h
 
-  exited_range : (now : ℕ) (x : MaybeStatus) (s : Runner) → Ranged ls s → Ranged ls (exited_next s now x)
+  exited_range : (now : ℕ) (x : Option Status) (s : Runner) → Ranged ls s → Ranged ls (exited_next s now x)
   unfolding exited_next note_exit_once
   exited_range now x s h =
       let t : Runner = ticked (timeout_cleared s) now in
       let k : Ranged ls t = tick_range now (timeout_cleared s) h in either (is_over t) t (note_exit t now x) k (noted_range now x t k)
 
-  launched_range : (x : LaunchResult) (s : Runner) → Ranged ls s → Ranged ls (launched_next s x)
+  launched_range : (x : Result (Unit {0}) LaunchFailure) (s : Runner) → Ranged ls s → Ranged ls (launched_next s x)
   unfolding launched_next note_launch note_started
   launched_range x s h = either (awaits_launch s) (note_launch s x) s (noted x) h
     where
-      noted : (x : LaunchResult) → Ranged ls (note_launch s x)
-      noted LaunchResult.Started = h
-      noted (LaunchResult.Failed f) = closed_range _ h
+      noted : (x : Result (Unit {0}) LaunchFailure) → Ranged ls (note_launch s x)
+      noted (Ok tt) = h
+      noted (Err f) = closed_range _ h
 
   paid_range : (x : Stream) (n : ℕ) (s : Runner) → Ranged ls s → AllWithin (output_paid x n s).credits
   unfolding output_paid
@@ -251,13 +251,13 @@ module _ (ls : List ℕ) where
   effect_range (Choice.Output x n) s l h = output_range x n s l.sound h
   effect_range Choice.Terminal s l h = h
 
-  handed_range : (w : Wish) (s : Runner) → Ranged ls s → Ranged ls (wish_effect w s)
+  handed_range : (w : Option Request) (s : Runner) → Ranged ls s → Ranged ls (wish_effect w s)
   unfolding wish_effect
-  handed_range Wish.None s h = h
-  handed_range (Wish.Request (Request.Terminate c)) s h = h
-  handed_range (Wish.Request (Request.Discard x)) s h = queue_kept x asked_out s refl refl h
-  handed_range (Wish.Request Request.CloseInput) s h = h
-  handed_range (Wish.Request Request.Settle) s h = h
+  handed_range None s h = h
+  handed_range (Some (Request.Terminate c)) s h = h
+  handed_range (Some (Request.Discard x)) s h = queue_kept x asked_out s refl refl h
+  handed_range (Some Request.CloseInput) s h = h
+  handed_range (Some Request.Settle) s h = h
 
 abbrev pub RangedS : State → Type 0
 RangedS s = Ranged s.lengths s.runner
@@ -317,7 +317,7 @@ pub record Lent (l : Limits) (bytes lengths : List ℕ) : Type 0 where
   pub room : byte_need l ≤ length bytes
   pub slots : length_need l ≤ length lengths
 
-pub lent : (l : Limits) (bytes lengths : List ℕ) → open_stop l (bytes_do l bytes && lengths_do l lengths) ≡ Reply.Ok → Lent l bytes lengths
+pub lent : (l : Limits) (bytes lengths : List ℕ) → open_stop l (bytes_do l bytes && lengths_do l lengths) ≡ Ok tt → Lent l bytes lengths
 lent l bytes lengths e =
     let p = is_opened l (bytes_do l bytes && lengths_do l lengths) e in
     let q = both (ltb 0 l.chunk && ltb 0 l.input.size) (ltb 0 l.output.size) p.0 in

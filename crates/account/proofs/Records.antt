@@ -1,8 +1,8 @@
 -- Demand 3 whole: an entry does what the call that it makes does, so a list with records has the account of its calls.
+use Rattle.std.specs.Prelude.{Option, Some, None, Ok}
 use mathlib.Core.Bool.{Bool, true, false, cond, ◌&&◌, ◌||◌, false≢true}
 use mathlib.Core.Path.{◌≡◌, refl, sym, ap, ◌∙◌, subst, subst⁻¹}
 use mathlib.Core.List.{List, [], ◌∷◌, ◌++◌}
-use mathlib.Core.Option.{Option, none, some}
 use Prim.Native.Nat.{ℕ}
 use lib.Dec.{leb, eqb}
 use lib.ListN.{length, take, drop}
@@ -10,7 +10,6 @@ use borrow.Author.Tests.{eqb-true}
 use Rattle.exec.specs.declared.Cause.{Cause}
 use Rattle.exec.specs.declared.Key.{Key}
 use Rattle.exec.specs.declared.Outcome.{Outcome}
-use Rattle.exec.specs.declared.Reply.{Reply}
 use Rattle.exec.specs.declared.Stream.{Stream}
 use Rattle.exec.specs.Outcome.{is_truncated}
 use Rattle.runner.specs.Calls as Calls
@@ -44,13 +43,13 @@ use Rattle.account.proofs.EachRecord.{Unmade, Does, admitted_so, read_by, answer
 abbrev pub EntryDoes : Conf → Entry → State → Type 0
 EntryDoes conf e s = Does e (made conf e (answer_entry s e)) s (next_entry s e) (answer_entry s e)
 
-pub read_does : (s : State) (now channel : ℕ) (b : List ℕ) → stop s.runner (stores_do s.runner s.bytes s.lengths) ≡ Reply.Ok
+pub read_does : (s : State) (now channel : ℕ) (b : List ℕ) → stop s.runner (stores_do s.runner s.bytes s.lengths) ≡ Ok tt
     → EntryDoes (conf_of s.runner) (read_record now channel b) s
 unfolding made next_entry answer_entry Channel.read_record
 read_does s now channel b g =
     rw (admitted_so s.runner (stores_do s.runner s.bytes s.lengths) g) (read_by (is_channel s.runner.limits) s now channel b)
 
-pub write_does : (s : State) (channel : ℕ) (buffer : List ℕ) → stop s.runner (bytes_do s.runner.limits s.bytes) ≡ Reply.Ok
+pub write_does : (s : State) (channel : ℕ) (buffer : List ℕ) → stop s.runner (bytes_do s.runner.limits s.bytes) ≡ Ok tt
     → EntryDoes (conf_of s.runner) (write_record channel buffer) s
 unfolding made next_entry answer_entry
 write_does s channel buffer g = written_does s channel buffer g _ _ (writes s.runner channel s.bytes buffer g)
@@ -76,8 +75,8 @@ good_next conf c s h =
 
 good_by : (conf : Conf) (x : Entry) (m : Option Call) (s after : State) (a : Answer) → Does x m s after a → Good conf s → Good conf after
 unfolding Does
-good_by conf x none s after a d h = subst⁻¹ (Good conf) d.kept h
-good_by conf x (some c) s after a d h = subst⁻¹ (Good conf) d.0 (good_next conf c s h)
+good_by conf x None s after a d h = subst⁻¹ (Good conf) d.kept h
+good_by conf x (Some c) s after a d h = subst⁻¹ (Good conf) d.0 (good_next conf c s h)
 
 pub good_entry : (conf : Conf) (e : Entry) (s : State) → Good conf s → Good conf (next_entry s e)
 good_entry conf e s h = good_by conf e (made conf e (answer_entry s e)) s (next_entry s e) (answer_entry s e) (does conf e s h) h
@@ -91,7 +90,7 @@ left_untold : (s : State) (channel : ℕ) (buffer : List ℕ) → Fine s → is_
     → (o : Outcome) × (Step.answer s (Call.next_message part) ≡ Call.Says (Call.Terminal o)) × (is_untold o.status ≡ true)
 unfolding answer_entry Plain.enough
 left_untold s channel buffer f e part =
-    let g : stop s.runner (bytes_do s.runner.limits s.bytes) ≡ Reply.Ok = goes s (Call.next_message buffer) f in
+    let g : stop s.runner (bytes_do s.runner.limits s.bytes) ≡ (Ok tt) = goes s (Call.next_message buffer) f in
     let p = left_chosen s channel buffer g _ _ (writes s.runner channel s.bytes buffer g) e in (
       outcome_of s.runner,
       answer_same s (Call.next_message part) f ∙ ends_answer s (Call.next_message part) (record { buffer = part; call = refl; chosen = still s.runner _ (length part) p.0 }),
@@ -107,7 +106,7 @@ untold_left : (s : State) → Fine s → (part : List ℕ) (o : Outcome) → Ste
     → answer_entry s (write_record channel buffer) ≡ Call.Refused 40
 unfolding answer_entry asked Calls.next_message said_for is_left Plain.enough
 untold_left s f part o e u channel buffer m =
-    let g : stop s.runner (bytes_do s.runner.limits s.bytes) ≡ Reply.Ok = goes s (Call.next_message part) f in
+    let g : stop s.runner (bytes_do s.runner.limits s.bytes) ≡ (Ok tt) = goes s (Call.next_message part) f in
     let a = sym (answer_same s (Call.next_message part) f) ∙ e in
     let t = ends (Call.next_message part) s (ap is_terminal a) in
     let same : outcome_of s.runner ≡ o = says_outcome _ _ (sym (ends_answer s (Call.next_message part) t) ∙ a) in
@@ -116,8 +115,8 @@ untold_left s f part o e u channel buffer m =
     ap answers (write_left s.runner channel s.bytes buffer _ _ (writes s.runner channel s.bytes buffer g) m l)
 
 -- so where no Terminal is next, an entry makes what it makes where it is not refused by 40
-pub made_so : (conf : Conf) (e : Entry) (c : Call) (s : State) → Good conf s → made conf e Call.Ok ≡ some c → is_terminal (Step.answer s c) ≡ false
-    → made conf e (answer_entry s e) ≡ some c
+pub made_so : (conf : Conf) (e : Entry) (c : Call) (s : State) → Good conf s → made conf e Call.Ok ≡ Some c → is_terminal (Step.answer s c) ≡ false
+    → made conf e (answer_entry s e) ≡ Some c
 unfolding made
 made_so conf (call x) c s g k h = k
 made_so conf (read_record now channel b) c s g k h = k
@@ -126,8 +125,8 @@ made_so conf (write_record channel buffer) c s g k h = at (is_channel conf.limit
     part : List ℕ
     part = take conf.limits.chunk (drop 13 buffer)
 
-    at : (b u : Bool) → is_untaken (answer_entry s (write_record channel buffer)) ≡ u → cond b (some (Call.next_message part)) none ≡ some c
-        → cond b (cond u none (some (Call.next_message part))) none ≡ some c
+    at : (b u : Bool) → is_untaken (answer_entry s (write_record channel buffer)) ≡ u → cond b (Some (Call.next_message part)) None ≡ Some c
+        → cond b (cond u None (Some (Call.next_message part))) None ≡ Some c
     at false u e k = k
     at true false e k = k
     at true true e k =
@@ -138,26 +137,26 @@ made_so conf (write_record channel buffer) c s g k h = at (is_channel conf.limit
 
 after_by : (x : Entry) (m : Option Call) (s after : State) (a : Answer) (cs : List Call) → Does x m s after a → Step.after after cs ≡ Step.after s (cons_call m cs)
 unfolding Does
-after_by x none s after a cs d = ap (λ (t : State). Step.after t cs) d.kept
-after_by x (some c) s after a cs d = ap (λ (t : State). Step.after t cs) d.0
+after_by x None s after a cs d = ap (λ (t : State). Step.after t cs) d.kept
+after_by x (Some c) s after a cs d = ap (λ (t : State). Step.after t cs) d.0
 
 run_by : (x : Entry) (m : Option Call) (s after : State) (a : Answer) (cs : List Call) → Does x m s after a
     → cons_done m a (Step.run after cs) ≡ Step.run s (cons_call m cs)
 unfolding Does
-run_by x none s after a cs d = ap (λ (t : State). Step.run t cs) d.kept
-run_by x (some c) s after a cs d = rw (d.0, d.1) refl
+run_by x None s after a cs d = ap (λ (t : State). Step.run t cs) d.kept
+run_by x (Some c) s after a cs d = rw (d.0, d.1) refl
 
 any_by : (x : Entry) (m : Option Call) (s after : State) (a : Answer) (cs : List Call) → Does x m s after a
     → (is_terminal a || any_terminal (Step.run after cs)) ≡ any_terminal (Step.run s (cons_call m cs))
 unfolding Does
-any_by x none s after a cs d = rw (d.answered, d.kept) refl
-any_by x (some c) s after a cs d = rw (d.0, d.1) refl
+any_by x None s after a cs d = rw (d.answered, d.kept) refl
+any_by x (Some c) s after a cs d = rw (d.0, d.1) refl
 
 silent_by : (x : Entry) (m : Option Call) (s after : State) (a : Answer) (cs : List Call) → Does x m s after a → Silent (Step.run s (cons_call m cs))
     → (is_message a ≡ false) × Silent (Step.run after cs)
 unfolding Does
-silent_by x none s after a cs d h = (rw d.answered refl, rw d.kept h)
-silent_by x (some c) s after a cs d h = (rw d.1 h.0, rw d.0 h.1)
+silent_by x None s after a cs d h = (rw d.answered refl, rw d.kept h)
+silent_by x (Some c) s after a cs d h = (rw d.1 h.0, rw d.0 h.1)
 
 module _ (conf : Conf) where
   same_after : (es : List Entry) (s : State) → Good conf s → after_entries s es ≡ Step.after s (calls_of conf (run_entries s es))
@@ -185,8 +184,8 @@ module _ (conf : Conf) where
       (p.0, same_silent es (next_entry s e) (good_entry conf e s h) p.1)
 
   calls_cons : (m : Option Call) (xs ys : List Call) → cons_call m (xs ++ ys) ≡ cons_call m xs ++ ys
-  calls_cons none xs ys = refl
-  calls_cons (some c) xs ys = refl
+  calls_cons None xs ys = refl
+  calls_cons (Some c) xs ys = refl
 
   -- a list behind another runs from where that one left
   pub calls_append : (xs ys : List Entry) (s : State)
@@ -198,12 +197,12 @@ module _ (conf : Conf) where
 
 -- an answer that is Terminal is a call's
 terminal_made : (x : Entry) (m : Option Call) (s after : State) (a : Answer) → Does x m s after a → is_terminal a ≡ true
-    → (c : Call) × (after ≡ Step.next s c) × (a ≡ Step.answer s c) × (m ≡ some c)
+    → (c : Call) × (after ≡ Step.next s c) × (a ≡ Step.answer s c) × (m ≡ Some c)
 unfolding Does
-terminal_made x none s after a d h = absurd (false≢true (sym (ap is_terminal d.answered) ∙ h))
-terminal_made x (some c) s after a d h = (c, d.0, d.1, refl)
+terminal_made x None s after a d h = absurd (false≢true (sym (ap is_terminal d.answered) ∙ h))
+terminal_made x (Some c) s after a d h = (c, d.0, d.1, refl)
 
-unmade_as : (x : Entry) (m : Option Call) (s after : State) (a : Answer) → m ≡ none → Does x m s after a
+unmade_as : (x : Entry) (m : Option Call) (s after : State) (a : Answer) → m ≡ None → Does x m s after a
     → (after ≡ s) × ((n : ℕ) × (a ≡ Call.Refused n) × (among n (of_entry x) ≡ true))
 unfolding Does
 unmade_as x m s after a e d = let u : Unmade x s after a = rw e at d in (u.kept, (u.refusal, u.answered, u.own))
@@ -231,8 +230,8 @@ own_calm (write_record channel buffer) n h = calm_in n of_writes (refl, (refl, (
 
 ranged_by : (x : Entry) (m : Option Call) (s after : State) (a : Answer) → Does x m s after a → ((c : Call) → is_stop (Step.answer s c) ≡ false) → is_stop a ≡ false
 unfolding Does
-ranged_by x none s after a d h = ap is_stop d.answered ∙ own_calm x d.refusal d.own
-ranged_by x (some c) s after a d h = ap is_stop d.1 ∙ h c
+ranged_by x None s after a d h = ap is_stop d.answered ∙ own_calm x d.refusal d.own
+ranged_by x (Some c) s after a d h = ap is_stop d.1 ∙ h c
 
 -- ---- the demand
 
@@ -264,7 +263,7 @@ module _ (conf : Conf) (now : ℕ) (bytes lengths : List ℕ) (op : Opens conf n
   pub at_terminal : (es : List Entry) (e : Entry) → is_terminal (answer_entry (after_entries (Step.opened conf now bytes lengths) es) e) ≡ true
       → (c : Call) × (next_entry (after_entries (Step.opened conf now bytes lengths) es) e ≡ Step.next (Step.after (Step.opened conf now bytes lengths) (calls es)) c)
       × (answer_entry (after_entries (Step.opened conf now bytes lengths) es) e ≡ Step.answer (Step.after (Step.opened conf now bytes lengths) (calls es)) c)
-      × (made conf e (answer_entry (after_entries (Step.opened conf now bytes lengths) es) e) ≡ some c)
+      × (made conf e (answer_entry (after_entries (Step.opened conf now bytes lengths) es) e) ≡ Some c)
   at_terminal es e h =
       let s : State = after_entries (Step.opened conf now bytes lengths) es in
       let q = terminal_made e (made conf e (answer_entry s e)) s (next_entry s e) (answer_entry s e) (does conf e s (good_at es)) h in

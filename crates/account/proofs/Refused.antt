@@ -1,32 +1,30 @@
 -- Refusals change nothing: by 12, 10 and 11 the guard gives back what it was given, and behind it only credit, input, end_input
 -- and cancel refuse, and only these answer Stale; of the records' own refusals `Records` tells. Then those of open, and of what
 -- writes and reads the bytes of a record.
+use Rattle.std.specs.Prelude.{Option, Result, Some, None, Ok, Err}
+use Rattle.exec.specs.declared.Admission.TheVariants.{Own}
+use Rattle.exec.specs.declared.Admission.{Admission}
+use Rattle.runner.specs.declared.answer.Request.{Request}
+use Rattle.exec.specs.declared.Status.{Status}
+use Rattle.exec.specs.declared.Receipt.{Receipt}
 use mathlib.Core.Bool.{Bool, true, false, cond, not, ◌&&◌, ◌||◌, false≢true}
 use mathlib.Core.Path.{◌≡◌, refl, sym, ap, ◌∙◌, subst}
 use mathlib.Core.List.{List, [], ◌∷◌}
-use mathlib.Core.Option.{Option, none, some}
 use Prim.Native.Nat.{ℕ, ◌+◌}
 use native.Mathlib.Omega.{arith}
 use lib.Dec.{leb, eqb}
 use lib.ListN.{length, get_or}
-use Rattle.exec.specs.declared.Admission.{Admission}
 use Rattle.exec.specs.declared.Cause.{Cause}
 use Rattle.exec.specs.declared.Key.{Key}
 use Rattle.exec.specs.declared.Limits.{Limits}
-use Rattle.exec.specs.declared.MaybeStatus.{MaybeStatus}
-use Rattle.exec.specs.declared.Receipt.TheVariants as Receipt
-use Rattle.exec.specs.declared.Received.{Received}
 use Rattle.exec.specs.declared.Refusal.{Refusal}
-use Rattle.exec.specs.declared.Reply.{Reply}
 use Rattle.exec.specs.declared.Timers.{Timers}
 use Rattle.exec.specs.Key.{admits}
 use Rattle.exec.specs.Limits.{bytes_with, is_valid, no_limits}
 use Rattle.exec.specs.Refusal.{number}
 use Rattle.input.specs.declared.Input.{Input}
 use Rattle.input.specs.Input as Input
-use Rattle.runner.specs.declared.answer.Request.TheVariants as Request
 use Rattle.choice.specs.declared.Choice.{Choice}
-use Rattle.runner.specs.declared.message.Wish.{Wish}
 use Rattle.runner.specs.declared.runner.Runner.{Runner}
 use Rattle.runner.specs.Calls as Calls
 use Rattle.runner.specs.Calls.{asked_for, stores_do, open_by}
@@ -37,19 +35,17 @@ use Rattle.runner.specs.State.{with_flow, with_input}
 use Rattle.runner.specs.Streams as Streams
 use Rattle.output.specs.Output.{output_fits}
 use Rattle.codec.specs.declared.Record.{Record}
-use Rattle.codec.specs.declared.Written.TheVariants as Written
 use Rattle.codec.specs.Codec as Codec
 use Rattle.codec.specs.Codec.{start, size, WrittenAfter, written_after}
-use Rattle.exits.specs.declared.Told.{Told}
 use Rattle.exits.specs.Exit as Exit
-use Rattle.exits.specs.Exit.{is_told, is_untold, request, is_mine, guess}
+use Rattle.exits.specs.Exit.{is_untold, is_told, request, is_mine, guess}
 use Rattle.octets.specs.Text.{same}
 use Rattle.channel.specs.Calls as Channel
 use Rattle.channel.specs.Calls.{WriteAfter, admitted, admitted_read, admitted_write}
 use Rattle.calls.specs.Call as Call
 use Rattle.calls.specs.Call.{Conf, Call, Answer, is_refused}
 use Rattle.account.specs.Step as Step
-use Rattle.account.specs.Step.{State, on_runner, replied, received_as, asks, waits}
+use Rattle.account.specs.Step.{State, on_runner, replied, received_as, asks}
 use Rattle.account.specs.Records.{Entry, call, read_record, write_record, next_entry, answer_entry, after_entries, among, of_entry}
 use Rattle.account.specs.Refused.{of_calls, Unwritten, Refusals}
 use Rattle.account.proofs.Plain as Plain
@@ -64,19 +60,19 @@ use Rattle.account.proofs.Safe.{IfRefused, Kept, Safe, admits_by, credit_safe, l
 
 -- ---- refused by 12, 10 or 11
 
--- what is known of a refusal that is met: its number, which is not 0
-abbrev Known : Reply → Type 0
-Known Reply.Ok = Unit
-Known (Reply.Refused x) = (among (number x) of_calls ≡ true) × ((b : List ℕ) → waits (number x) b ≡ Call.Refused (number x))
+-- what is known of a refusal that is met: its number
+abbrev Known : Result (Unit {0}) Refusal → Type 0
+Known (Ok tt) = Unit
+Known (Err x) = among (number x) of_calls ≡ true
 
-stop_known : (r : Runner) (stores : Bool) (x : Refusal) → stop r stores ≡ Reply.Refused x → Known (Reply.Refused x)
+stop_known : (r : Runner) (stores : Bool) (x : Refusal) → stop r stores ≡ Err x → Known (Err x)
 unfolding stop
 stop_known r stores x e =
     subst Known e
-    (either Known (not (in_range r)) _ _ (refl, λ b. refl)
-    (either Known (not (is_valid r.limits)) _ _ (refl, λ b. refl) (either Known (not stores) _ _ (refl, λ b. refl) tt)))
+    (either Known (not (in_range r)) _ _ refl
+    (either Known (not (is_valid r.limits)) _ _ refl (either Known (not stores) _ _ refl tt)))
 
-stopped : (s : State) (c : Call) (x : Refusal) → stop s.runner (Plain.enough s c) ≡ Reply.Refused x
+stopped : (s : State) (c : Call) (x : Refusal) → stop s.runner (Plain.enough s c) ≡ Err x
     → (Step.next s c ≡ s) × (Step.answer s c ≡ Call.Refused (number x))
 unfolding Plain.enough Step.next Step.answer Calls.key Calls.limits Calls.credit Calls.input Calls.end_input Calls.cancel Calls.launched Calls.read_allowance Calls.output Calls.discarded Calls.output_closed Calls.output_failed Calls.output_hung_up Calls.pending_input Calls.input_written Calls.input_closed Calls.exited Calls.settled Calls.dropped Calls.reset Calls.disconnect Calls.tick Calls.deadline Calls.next_request Calls.next_message Calls.is_finished Calls.is_detached Calls.awaits_settlement Calls.memory_bound Calls.buffered Calls.high_water
 stopped s Call.key x g = rw g (refl, refl)
@@ -92,7 +88,7 @@ stopped s (Call.discarded y n) x g = rw g (refl, refl)
 stopped s (Call.output_closed y) x g = rw g (refl, refl)
 stopped s (Call.output_failed y) x g = rw g (refl, refl)
 stopped s (Call.output_hung_up y) x g = rw g (refl, refl)
-stopped s Call.pending_input x g = rw g (refl, (stop_known s.runner _ x g).1 [])
+stopped s Call.pending_input x g = rw g (refl, refl)
 stopped s (Call.input_written n) x g = rw g (refl, refl)
 stopped s Call.input_closed x g = rw g (refl, refl)
 stopped s (Call.exited now y) x g = rw g (refl, refl)
@@ -113,7 +109,7 @@ stopped s Call.high_water x g = rw g (refl, refl)
 
 -- ---- input
 
-abbrev received : State → List ℕ → Admission → State
+abbrev received : State → List ℕ → Result Admission Refusal → State
 received s b a = record {
   runner = Streams.input_next a s.runner (length b);
   bytes = Streams.input_store a s.runner b s.bytes;
@@ -133,7 +129,7 @@ unpaid_by false kept s i bytes lengths high ei eb el k = refl
 unpaid_by true false s i bytes lengths high ei eb el k = rw (ei, eb, el) refl
 unpaid_by true true s i bytes lengths high ei eb el k = absurd (false≢true (sym k))
 
-module _ (l : Limits) (i : Input) (b : List ℕ) (x : Refusal) (h : Input.receive_answer l i (length b) ≡ Received.Refused x) where
+module _ (l : Limits) (i : Input) (b : List ℕ) (x : Refusal) (h : Input.receive_answer l i (length b) ≡ Err x) where
   unpaid_input : Input.receive_input l i (length b) ≡ i
   unfolding Input.receive_input
   unpaid_input = rw h refl
@@ -146,7 +142,7 @@ module _ (l : Limits) (i : Input) (b : List ℕ) (x : Refusal) (h : Input.receiv
   unfolding Input.receive_lengths
   unpaid_lengths lengths = rw h refl
 
-unpaid : (s : State) (b : List ℕ) (x : Refusal) → Input.receive_answer s.runner.limits s.runner.input (length b) ≡ Received.Refused x → received s b Admission.Own ≡ s
+unpaid : (s : State) (b : List ℕ) (x : Refusal) → Input.receive_answer s.runner.limits s.runner.input (length b) ≡ Err x → received s b (Ok Own) ≡ s
 unfolding Streams.input_next Streams.input_store Streams.input_lengths
 unpaid s b x h =
     let l : Limits = s.runner.limits in
@@ -154,17 +150,17 @@ unpaid s b x h =
     unpaid_by (not s.runner.flags.finished) (Input.is_kept l i (length b)) s _ _ _ _ (unpaid_input l i b x h) (unpaid_bytes l i b x h s.bytes)
     (unpaid_lengths l i b x h s.lengths) (rw h refl)
 
-abbrev InputSafe : State → List ℕ → Admission → Type 0
+abbrev InputSafe : State → List ℕ → Result Admission Refusal → Type 0
 InputSafe s b a = Safe s (received s b a) (received_as (Streams.input_answer a s.runner (length b)))
 
 -- an input is refused by 4, 5 or 6 behind its key
-input_own : (s : State) (b : List ℕ) → InputSafe s b Admission.Own
+input_own : (s : State) (b : List ℕ) → InputSafe s b (Ok Own)
 unfolding Streams.input_answer
 input_own s b =
     let l : Limits = s.runner.limits in
     let i : Input = s.runner.input in
-    either (λ x. Safe s (received s b Admission.Own) (received_as x)) s.runner.flags.finished _ _ tt
-    (Input.answered l i (length b) (λ x. Input.receive_answer l i (length b) ≡ x → Safe s (received s b Admission.Own) (received_as x))
+    either (λ x. Safe s (received s b (Ok Own)) (received_as x)) s.runner.flags.finished _ _ tt
+    (Input.answered l i (length b) (λ x. Input.receive_answer l i (length b) ≡ x → Safe s (received s b (Ok Own)) (received_as x))
     (λ e. record { same = unpaid s b Refusal.Ended e; known = refl })
     (λ e. record { same = unpaid s b Refusal.Chunk e; known = refl })
     (λ e. record { same = unpaid s b Refusal.Window e; known = refl }) (λ p e. tt) (λ p e. tt) refl)
@@ -177,7 +173,7 @@ input_safe s k b =
 -- end_input by 6: the input is kept
 ended : (over finished : Bool) (s : State) (i : Input)
     → Safe s (on_runner (with_input (cond (not finished) (cond over s.runner.input i) s.runner.input) s.runner) s)
-    (received_as (cond finished (Received.Receipt Receipt.Late) (cond over (Received.Refused Refusal.Ended) (cond s.runner.input.closed (Received.Receipt Receipt.Late) (Received.Receipt Receipt.Applied)))))
+    (received_as (cond finished (Ok Receipt.Late) (cond over (Err Refusal.Ended) (cond s.runner.input.closed (Ok Receipt.Late) (Ok Receipt.Applied)))))
 ended over true s i = tt
 ended true false s i = record { same = refl; known = refl }
 ended false false s i = late_safe s _ s.runner.input.closed
@@ -199,12 +195,12 @@ cancel_safe s now k c =
 
 -- ---- every call
 
-wish_safe : (s t : State) (w : Wish) → Safe s t (asks (asked_for w))
-wish_safe s t Wish.None = tt
-wish_safe s t (Wish.Request (Request.Terminate c)) = tt
-wish_safe s t (Wish.Request (Request.Discard x)) = tt
-wish_safe s t (Wish.Request Request.CloseInput) = tt
-wish_safe s t (Wish.Request Request.Settle) = tt
+wish_safe : (s t : State) (w : Option Request) → Safe s t (asks (asked_for w))
+wish_safe s t None = tt
+wish_safe s t (Some (Request.Terminate c)) = tt
+wish_safe s t (Some (Request.Discard x)) = tt
+wish_safe s t (Some Request.CloseInput) = tt
+wish_safe s t (Some Request.Settle) = tt
 
 said_safe : (Q : Type 0) (P : ℕ → Type 0) (m : Choice) (r : Runner) (bytes : List ℕ) → IfRefused Q P (said m r bytes)
 unfolding said
@@ -250,10 +246,10 @@ plain_safe s Call.memory_bound = tt
 plain_safe s Call.buffered = tt
 plain_safe s Call.high_water = tt
 
-safe_by : (met : Reply) (s : State) (c : Call) → stop s.runner (Plain.enough s c) ≡ met → Safe s (Step.next s c) (Step.answer s c)
-safe_by Reply.Ok s c g = rw (next_is s c g, answer_is s c g) (plain_safe s c)
-safe_by (Reply.Refused x) s c g =
-    let p = stopped s c x g in rw p.1 (record { same = p.0; known = (stop_known s.runner (Plain.enough s c) x g).0 })
+safe_by : (met : Result (Unit {0}) Refusal) (s : State) (c : Call) → stop s.runner (Plain.enough s c) ≡ met → Safe s (Step.next s c) (Step.answer s c)
+safe_by (Ok tt) s c g = rw (next_is s c g, answer_is s c g) (plain_safe s c)
+safe_by (Err x) s c g =
+    let p = stopped s c x g in rw p.1 (record { same = p.0; known = stop_known s.runner (Plain.enough s c) x g })
 
 safe : (s : State) (c : Call) → Safe s (Step.next s c) (Step.answer s c)
 safe s c = safe_by (stop s.runner (Plain.enough s c)) s c refl
@@ -273,46 +269,46 @@ record KeptBy (e : Entry) (s t : State) (n : ℕ) : Type 0 where
 -- refused as the call that it makes, or by its own
 does_kept : (x : Entry) (m : Option Call) (s t : State) (a : Answer) (n : ℕ) → Does x m s t a → a ≡ Call.Refused n → KeptBy x s t n
 unfolding Does
-does_kept x none s t a n d e =
+does_kept x None s t a n d e =
     let k : d.refusal ≡ n = cc d.answered in
     record { same = d.kept; known = or_right (among n of_calls) (among n (of_entry x)) (subst (λ (m : ℕ). among m (of_entry x) ≡ true) k d.own) }
-does_kept x (some c) s t a n d e =
+does_kept x (Some c) s t a n d e =
     let k = refused s c n (sym d.1 ∙ e) in record { same = d.0 ∙ k.same; known = rw k.known refl }
 
 does_stale : (x : Entry) (m : Option Call) (s t : State) (a : Answer) → Does x m s t a → a ≡ Call.Stale → t ≡ s
 unfolding Does
-does_stale x none s t a d e = absurd (false≢true (sym (ap is_refused e) ∙ ap is_refused d.answered))
-does_stale x (some c) s t a d e = d.0 ∙ stale s c (sym d.1 ∙ e)
+does_stale x None s t a d e = absurd (false≢true (sym (ap is_refused e) ∙ ap is_refused d.answered))
+does_stale x (Some c) s t a d e = d.0 ∙ stale s c (sym d.1 ∙ e)
 
 -- refused by 12, 10 or 11
-stop_kept : (e : Entry) (s : State) (stores : Bool) (x : Refusal) (n : ℕ) → stop s.runner stores ≡ Reply.Refused x → Call.Refused (number x) ≡ Call.Refused n → KeptBy e s s n
+stop_kept : (e : Entry) (s : State) (stores : Bool) (x : Refusal) (n : ℕ) → stop s.runner stores ≡ Err x → Call.Refused (number x) ≡ Call.Refused n → KeptBy e s s n
 stop_kept e s stores x n g h =
-    let m : number x ≡ n = cc in record { same = refl; known = rw (← m) (rw (stop_known s.runner stores x g).0 refl) }
+    let m : number x ≡ n = cc in record { same = refl; known = rw (← m) (rw (stop_known s.runner stores x g) refl) }
 
-admitted_not : (r : Runner) (stores : Bool) (x : Refusal) → stop r stores ≡ Reply.Refused x → admitted r stores ≡ Reply.Refused x
+admitted_not : (r : Runner) (stores : Bool) (x : Refusal) → stop r stores ≡ Err x → admitted r stores ≡ Err x
 unfolding admitted
 admitted_not r stores x g = rw g refl
 
 -- what is so of an entry that does what its call does, and of one that is refused by 12, 10 or 11, is so of every entry
 module _ (s : State) (C : Entry → State → Answer → Type 0) (made : (e : Entry) (m : Option Call) (t : State) (a : Answer) → Does e m s t a → C e t a)
-    (stops : (e : Entry) (stores : Bool) (x : Refusal) → stop s.runner stores ≡ Reply.Refused x → C e s (Call.Refused (number x))) where
-  read_so : (met : Reply) (now channel : ℕ) (b : List ℕ) → stop s.runner (stores_do s.runner s.bytes s.lengths) ≡ met
+    (stops : (e : Entry) (stores : Bool) (x : Refusal) → stop s.runner stores ≡ Err x → C e s (Call.Refused (number x))) where
+  read_so : (met : Result (Unit {0}) Refusal) (now channel : ℕ) (b : List ℕ) → stop s.runner (stores_do s.runner s.bytes s.lengths) ≡ met
       → C (read_record now channel b) (next_entry s (read_record now channel b)) (answer_entry s (read_record now channel b))
   unfolding next_entry answer_entry Channel.read_record admitted_read
-  read_so Reply.Ok now channel b g = made _ _ _ _ (read_does s now channel b g)
-  read_so (Reply.Refused x) now channel b g =
+  read_so (Ok tt) now channel b g = made _ _ _ _ (read_does s now channel b g)
+  read_so (Err x) now channel b g =
       rw (admitted_not s.runner (stores_do s.runner s.bytes s.lengths) x g) (stops _ _ x g)
 
-  write_so : (met : Reply) (channel : ℕ) (buffer : List ℕ) → stop s.runner (bytes_do s.runner.limits s.bytes) ≡ met
+  write_so : (met : Result (Unit {0}) Refusal) (channel : ℕ) (buffer : List ℕ) → stop s.runner (bytes_do s.runner.limits s.bytes) ≡ met
       → C (write_record channel buffer) (next_entry s (write_record channel buffer)) (answer_entry s (write_record channel buffer))
   unfolding next_entry answer_entry Channel.write_record admitted_write
-  write_so Reply.Ok channel buffer g = made _ _ _ _ (write_does s channel buffer g)
-  write_so (Reply.Refused x) channel buffer g =
+  write_so (Ok tt) channel buffer g = made _ _ _ _ (write_does s channel buffer g)
+  write_so (Err x) channel buffer g =
       rw (admitted_not s.runner (bytes_do s.runner.limits s.bytes) x g) (stops _ _ x g)
 
   entry_so : (e : Entry) → C e (next_entry s e) (answer_entry s e)
   unfolding next_entry answer_entry Does
-  entry_so (call c) = made (call c) (some c) (Step.next s c) (Step.answer s c) (refl, refl)
+  entry_so (call c) = made (call c) (Some c) (Step.next s c) (Step.answer s c) (refl, refl)
   entry_so (read_record now channel b) = read_so (stop s.runner (stores_do s.runner s.bytes s.lengths)) now channel b refl
   entry_so (write_record channel buffer) = write_so (stop s.runner (bytes_do s.runner.limits s.bytes)) channel buffer refl
 
@@ -326,46 +322,46 @@ stale_entry s e =
 
 -- ---- the buffers
 
-message_buffer : (met : Reply) (s : State) (buffer : List ℕ) → stop s.runner (bytes_do s.runner.limits s.bytes) ≡ met
+message_buffer : (met : Result (Unit {0}) Refusal) (s : State) (buffer : List ℕ) → stop s.runner (bytes_do s.runner.limits s.bytes) ≡ met
     → IfRefused Unit (λ n. (Calls.next_message s.runner s.bytes buffer).buffer ≡ buffer) (Step.answer s (Call.next_message buffer))
 unfolding Calls.next_message Plain.enough Plain.answer
-message_buffer Reply.Ok s buffer g =
+message_buffer (Ok tt) s buffer g =
     rw (answer_is s (Call.next_message buffer) g) (said_safe _ _ (choose s.runner (length buffer)) s.runner s.bytes)
-message_buffer (Reply.Refused x) s buffer g = rw (stopped s (Call.next_message buffer) x g).1 (rw g refl)
+message_buffer (Err x) s buffer g = rw (stopped s (Call.next_message buffer) x g).1 (rw g refl)
 
 abbrev BufferSafe : WriteAfter → List ℕ → Type 0
 BufferSafe w buffer = IfRefused Unit (λ n. w.buffer ≡ buffer) (answers w)
 
-write_buffer : (s : State) (channel : ℕ) (buffer : List ℕ) → stop s.runner (bytes_do s.runner.limits s.bytes) ≡ Reply.Ok
+write_buffer : (s : State) (channel : ℕ) (buffer : List ℕ) → stop s.runner (bytes_do s.runner.limits s.bytes) ≡ Ok tt
     → (met : Bool) (w : WriteAfter) → Writes s.runner channel s.bytes buffer met w → BufferSafe w buffer
 write_buffer s channel buffer g met w (elsewhere x) = refl
 write_buffer s channel buffer g met w (short x y) = refl
 write_buffer s channel buffer g met w (left u) = refl
 write_buffer s channel buffer g met w (taken u h) = told_as s channel buffer g (IfRefused Unit (λ n. (tells s.runner channel s.bytes buffer).buffer ≡ buffer)) tt (λ x. tt)
 
-record_buffer : (met : Reply) (s : State) (channel : ℕ) (buffer : List ℕ) → stop s.runner (bytes_do s.runner.limits s.bytes) ≡ met
+record_buffer : (met : Result (Unit {0}) Refusal) (s : State) (channel : ℕ) (buffer : List ℕ) → stop s.runner (bytes_do s.runner.limits s.bytes) ≡ met
     → BufferSafe (Channel.write_record s.runner channel s.bytes buffer) buffer
 unfolding Channel.write_record admitted_write
-record_buffer Reply.Ok s channel buffer g = write_buffer s channel buffer g _ _ (writes s.runner channel s.bytes buffer g)
-record_buffer (Reply.Refused x) s channel buffer g = rw (admitted_not s.runner (bytes_do s.runner.limits s.bytes) x g) refl
+record_buffer (Ok tt) s channel buffer g = write_buffer s channel buffer g _ _ (writes s.runner channel s.bytes buffer g)
+record_buffer (Err x) s channel buffer g = rw (admitted_not s.runner (bytes_do s.runner.limits s.bytes) x g) refl
 
 -- ---- open
 
 module _ (conf : Conf) (now : ℕ) where
-  open_by_lem : (valid stores : Bool) → replied (open_by (cond (not valid) (Reply.Refused Refusal.NoLimits) (cond (not stores) (Reply.Refused Refusal.StoreShort) Reply.Ok)) conf.key conf.limits conf.timers now).reply
+  open_by_lem : (valid stores : Bool) → replied (open_by (cond (not valid) (Err Refusal.NoLimits) (cond (not stores) (Err Refusal.StoreShort) (Ok tt))) conf.key conf.limits conf.timers now).reply
       ≡ cond valid (cond stores Call.Ok (Call.Refused 11)) (Call.Refused 10)
   open_by_lem true true = refl
   open_by_lem true false = refl
   open_by_lem false stores = refl
 
   -- one that is refused gives a runner without limits
-  open_none : (met : Reply) (n : ℕ) → replied (open_by met conf.key conf.limits conf.timers now).reply ≡ Call.Refused n
+  open_none : (met : Result (Unit {0}) Refusal) (n : ℕ) → replied (open_by met conf.key conf.limits conf.timers now).reply ≡ Call.Refused n
       → (open_by met conf.key conf.limits conf.timers now).runner ≡ fresh conf.key no_limits conf.timers now
-  open_none Reply.Ok n e = absurd (false≢true (ap is_refused e))
-  open_none (Reply.Refused x) n e = refl
+  open_none (Ok tt) n e = absurd (false≢true (ap is_refused e))
+  open_none (Err x) n e = refl
 
 abbrev Unlimited : Runner → Type 0
-Unlimited r = (stores : Bool) → stop r stores ≡ Reply.Refused Refusal.NoLimits
+Unlimited r = (stores : Bool) → stop r stores ≡ Err Refusal.NoLimits
 
 none_unlimited : (k : Key) (t : Timers) (now : ℕ) → Unlimited (fresh k no_limits t now)
 unfolding stop in_range fresh output_fits bytes_with
@@ -383,14 +379,14 @@ unlimited_list (x ∷ es) s g e = rw (kept s x 10 (unlimited_entry s g x)).same 
 
 -- ---- the bytes of a record, without a runner
 
-same_refusal : (x y : Refusal) → Written.Refused x ≡ Written.Refused y → x ≡ y
+same_refusal : (x y : Refusal) → ◌≡◌ {A = Result ℕ Refusal} (Err x) (Err y) → x ≡ y
 same_refusal x y e = cc
 
 module _ (numbers : List ℕ) (buffer : List ℕ) where
-  wrote_bytes : (n : ℕ) (b : List ℕ) → Unwritten numbers (written_after (Written.Bytes n) b) buffer
+  wrote_bytes : (n : ℕ) (b : List ℕ) → Unwritten numbers (written_after (Ok n) b) buffer
   wrote_bytes n b x e = let z : ◌≡◌ {A = ℕ} 0 1 = cc in absurd (omega arith)
 
-  wrote_none : (y : Refusal) → Among numbers y → Unwritten numbers (written_after (Written.Refused y) buffer) buffer
+  wrote_none : (y : Refusal) → Among numbers y → Unwritten numbers (written_after (Err y) buffer) buffer
   wrote_none y h x e = (subst (Among numbers) (same_refusal y x e) h, refl)
 
   wrote_if : (b : Bool) (v w : WrittenAfter) → Unwritten numbers v buffer → Unwritten numbers w buffer → Unwritten numbers (cond b v w) buffer
@@ -410,7 +406,7 @@ lay_kept channel rec buffer =
     let ns : List ℕ = 25 ∷ [] in
     wrote_if ns buffer (leb (13 + size rec) (length buffer)) _ _ (wrote_bytes ns buffer _ _) (wrote_none ns buffer Refusal.BufferShort refl)
 
-close_kept : (channel : ℕ) (status : MaybeStatus) (buffer : List ℕ) → Unwritten (25 ∷ 40 ∷ []) (Exit.close channel status buffer) buffer
+close_kept : (channel : ℕ) (status : Option Status) (buffer : List ℕ) → Unwritten (25 ∷ 40 ∷ []) (Exit.close channel status buffer) buffer
 unfolding Exit.close Exit.closed
 close_kept channel status buffer =
     let ns : List ℕ = 25 ∷ 40 ∷ [] in
@@ -419,15 +415,20 @@ close_kept channel status buffer =
     (wrote_none ns buffer Refusal.BufferShort refl)
 
 -- what is so of every refusal of a request's reader
-abbrev Untold : Told → Type 0
-Untold (Told.Status status) = Unit
-Untold (Told.Refused x) = Among (20 ∷ 21 ∷ 22 ∷ 41 ∷ []) x
+abbrev Untold : Result Status Refusal → Type 0
+Untold (Ok status) = Unit
+Untold (Err x) = Among (20 ∷ 21 ∷ 22 ∷ 41 ∷ []) x
+
+form_by : (channel : ℕ) (s : List ℕ) (o : Option Status) → Untold (Exit.matching channel s o)
+unfolding Exit.matching
+form_by channel s None = refl
+form_by channel s (Some x) = either Untold (is_told x && same (request channel x) s) (Ok x) (Err Refusal.BadRequest) tt refl
 
 request_by : (channel : ℕ) (s : List ℕ) → Untold (Exit.read channel s)
-unfolding Exit.read Exit.matching
+unfolding Exit.read
 request_by channel s =
-    let form = either Untold (is_told (guess s) && same (request channel (guess s)) s) (Told.Status (guess s)) (Told.Refused Refusal.BadRequest) tt refl in
-    either Untold (eqb (length s) 0) _ _ refl (either Untold (eqb (get_or s 0 0) 98) _ _ (either Untold (is_mine channel s) _ _ form refl) refl)
+    either Untold (eqb (length s) 0) _ _ refl
+    (either Untold (eqb (get_or s 0 0) 98) _ _ (either Untold (is_mine channel s) _ _ (form_by channel s (guess s)) refl) refl)
 
 -- DEMAND 1, OF REFUSALS
 pub refusals : Refusals

@@ -1,5 +1,7 @@
 -- The session of 01's card, computed from the definitions: the answers of its 13 calls after open. The stores are any of which
 -- the bytes are at least the 16 that the limits need.
+use Rattle.std.specs.Prelude.{Some, None, Ok}
+use Rattle.exec.specs.declared.Cause.{Cause}
 use mathlib.Core.Bool.{true, false}
 use mathlib.Core.Path.{◌≡◌, refl, ap, ◌∙◌}
 use mathlib.Core.List.{List, [], ◌∷◌, map}
@@ -7,12 +9,6 @@ use Prim.Native.Nat.{ℕ, ◌≤◌}
 use native.Mathlib.Omega.{arith}
 use borrow.Author.Tests.{le-leb}
 use lib.ListN.{length}
-use Rattle.exec.specs.declared.Cause.TheVariants as Cause
-use Rattle.exec.specs.declared.LaunchResult.TheVariants as LaunchResult
-use Rattle.exec.specs.declared.MaybeCause.TheVariants as MaybeCause
-use Rattle.exec.specs.declared.MaybeDuration.TheVariants as MaybeDuration
-use Rattle.exec.specs.declared.MaybeLaunchFailure.TheVariants as MaybeLaunchFailure
-use Rattle.exec.specs.declared.MaybeStatus.TheVariants as MaybeStatus
 use Rattle.exec.specs.declared.Outcome.{Outcome}
 use Rattle.exec.specs.declared.Pool.TheVariants as Pool
 use Rattle.exec.specs.declared.Stream.TheVariants.{Stdout, Stderr}
@@ -39,7 +35,7 @@ abbrev pub conf : Conf
 conf = record {
   key = record { id = 7; generation = 2 };
   limits = limits_for 4 (bytes_window 8) (bytes_window 8) false;
-  timers = record { timeout = MaybeDuration.Some 3600000000000; grace = 10; settlement = 5 };
+  timers = record { timeout = Some 3600000000000; grace = 10; settlement = 5 };
 }
 
 -- message,16
@@ -47,7 +43,7 @@ abbrev pub message : Call
 message = Call.next_message (0 ∷ 0 ∷ 0 ∷ 0 ∷ 0 ∷ 0 ∷ 0 ∷ 0 ∷ 0 ∷ 0 ∷ 0 ∷ 0 ∷ 0 ∷ 0 ∷ 0 ∷ 0 ∷ [])
 
 abbrev calls : List Call
-calls = Call.launched LaunchResult.Started
+calls = Call.launched (Ok tt)
     ∷ Call.credit (record { id = 7; generation = 2 }) Pool.Stdout 3
     ∷ Call.output Stdout (97 ∷ 98 ∷ 99 ∷ 100 ∷ 101 ∷ [])
     ∷ message
@@ -65,9 +61,9 @@ calls = Call.launched LaunchResult.Started
 -- cancelled and given up: both streams truncated, and nothing to be used again
 abbrev pub cut_short : Outcome
 cut_short = record {
-  status = MaybeStatus.None;
-  cause = MaybeCause.Some Cause.Cancelled;
-  launch_failure = MaybeLaunchFailure.None;
+  status = None;
+  cause = Some Cause.Cancelled;
+  launch_failure = None;
   stdout_truncated = true;
   stderr_truncated = true;
   reusable = false;

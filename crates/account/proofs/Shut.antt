@@ -1,5 +1,12 @@
 -- Of what the turn needs: a stream that is closed and not marked was closed by the program, and one of a runner that has finished
 -- stays closed.
+use Rattle.std.specs.Prelude.{Option, Result, Some, None, Ok, Err}
+use Rattle.exec.specs.declared.Admission.TheVariants.{Own, Stale}
+use Rattle.exec.specs.declared.Admission.{Admission}
+use Rattle.runner.specs.declared.answer.Request.{Request}
+use Rattle.exec.specs.declared.LaunchFailure.{LaunchFailure}
+use Rattle.exec.specs.declared.Status.{Status}
+use Rattle.exec.specs.declared.Refusal.{Refusal}
 use mathlib.Core.Bool.{Bool, true, false, true≢false, false≢true}
 use mathlib.Core.Path.{◌≡◌, refl, sym, ◌∙◌, subst⁻¹}
 use mathlib.Core.List.{List, [], ◌∷◌}
@@ -7,16 +14,11 @@ use mathlib.Core.Logic.{inl, inr}
 use Prim.Native.Nat.{ℕ}
 use lib.Dec.{ltb}
 use lib.ListN.{length}
-use Rattle.exec.specs.declared.Admission.{Admission}
 use Rattle.exec.specs.declared.Cause.{Cause}
-use Rattle.exec.specs.declared.LaunchResult.{LaunchResult}
-use Rattle.exec.specs.declared.MaybeStatus.{MaybeStatus}
 use Rattle.exec.specs.declared.Stream.{Stream}
 use Rattle.exec.specs.Key.{admits}
 use Rattle.output.specs.declared.Output.{Output}
 use Rattle.output.specs.Output.{lost_out, closed_out, failed_out, hung_up, asked_out}
-use Rattle.runner.specs.declared.answer.Request.TheVariants as Request
-use Rattle.runner.specs.declared.message.Wish.{Wish}
 use Rattle.runner.specs.declared.runner.Runner.{Runner}
 use Rattle.runner.specs.Life.{awaits_launch, ticked, cancel_next, note_started, note_launch, launched_next, close_runner_input, is_over, note_exit, note_exit_once, timeout_cleared, exited_next, cut_off_once, detach_next, settled_next}
 use Rattle.runner.specs.Message.{effect, wish, wish_effect}
@@ -79,33 +81,33 @@ still : (now : ℕ) (r : Runner) → r.flags.finished ≡ true → ticked r now 
 unfolding ticked
 still now r f = rw f refl
 
-cancel_still : (k : Admission) (now : ℕ) (c : Cause) (r : Runner) → r.flags.finished ≡ true → cancel_next k r now c ≡ r
+cancel_still : (k : Result Admission Refusal) (now : ℕ) (c : Cause) (r : Runner) → r.flags.finished ≡ true → cancel_next k r now c ≡ r
 unfolding cancel_next
-cancel_still Admission.Own now c r f = rw (still now r f, f) refl
-cancel_still Admission.Stale now c r f = refl
-cancel_still (Admission.Refused x) now c r f = refl
+cancel_still (Ok Own) now c r f = rw (still now r f, f) refl
+cancel_still (Ok Stale) now c r f = refl
+cancel_still (Err x) now c r f = refl
 
 detach_still : (now : ℕ) (c : Cause) (r : Runner) → r.flags.finished ≡ true → detach_next r now c ≡ r
 unfolding detach_next cut_off_once
 detach_still now c r f = rw (still now r f, f) refl
 
-exit_shut : (now : ℕ) (x : MaybeStatus) (r : Runner) → r.flags.finished ≡ true → Shut r → Shut (exited_next r now x)
+exit_shut : (now : ℕ) (x : Option Status) (r : Runner) → r.flags.finished ≡ true → Shut r → Shut (exited_next r now x)
 unfolding exited_next note_exit_once note_exit close_runner_input
 exit_shut now x r f h = rw (still now (timeout_cleared r) f) (either Shut (is_over (timeout_cleared r)) (timeout_cleared r) (note_exit (timeout_cleared r) now x) h h)
 
-launch_shut : (b : Bool) (x : LaunchResult) (r : Runner) → Shut r → Shut (launched_if b x r)
+launch_shut : (b : Bool) (x : Result (Unit {0}) LaunchFailure) (r : Runner) → Shut r → Shut (launched_if b x r)
 unfolding note_launch note_started close_runner_input
 launch_shut false x r h = h
-launch_shut true LaunchResult.Started r h = h
-launch_shut true (LaunchResult.Failed y) r h = h
+launch_shut true (Ok tt) r h = h
+launch_shut true (Err y) r h = h
 
-wish_shut : (w : Wish) (r : Runner) → Shut r → Shut (wish_effect w r)
+wish_shut : (w : Option Request) (r : Runner) → Shut r → Shut (wish_effect w r)
 unfolding wish_effect
-wish_shut Wish.None r h = h
-wish_shut (Wish.Request (Request.Terminate c)) r h = h
-wish_shut (Wish.Request (Request.Discard x)) r h = shut_at x asked_out r (h x) h
-wish_shut (Wish.Request Request.CloseInput) r h = h
-wish_shut (Wish.Request Request.Settle) r h = h
+wish_shut None r h = h
+wish_shut (Some (Request.Terminate c)) r h = h
+wish_shut (Some (Request.Discard x)) r h = shut_at x asked_out r (h x) h
+wish_shut (Some Request.CloseInput) r h = h
+wish_shut (Some Request.Settle) r h = h
 
 pub shut_next : (c : Call) (s : State) → s.runner.flags.finished ≡ true → Shut s.runner → Shut (next s c).runner
 unfolding next effect credit_next input_next end_next launched_next output_next discarded_next closed_next failed_next hung_up_next written_next close_runner_input settled_next

@@ -1,10 +1,10 @@
 -- A stream that Terminal reports untruncated was spared: the list before has no report that bytes of it were dropped, and none that
 -- reading it failed, whatever such a call was answered: from open it is not refused, so it marks the stream, and that stays.
+use Rattle.std.specs.Prelude.{Option, Some, None}
 use mathlib.Core.Bool.{Bool, true, false, true≢false}
 use mathlib.Core.Path.{◌≡◌, refl, sym, ◌∙◌, subst, subst⁻¹}
 use mathlib.Core.List.{List, [], ◌∷◌}
 use mathlib.Core.Logic.{inl, inr}
-use mathlib.Core.Option.{Option, none, some}
 use Prim.Native.Nat.{ℕ, ◌<◌}
 use borrow.Author.Tests.{lt-ltb}
 use lib.Dec.{ltb}
@@ -48,8 +48,8 @@ module _ (x : Stream) where
   stays (d ∷ ds) a p = stays ds (add a d.call d.answer) (add_keeps Marked d.call d.answer (lasting d.call d.answer) a p)
 
   behind : (m : Option Call) (r : Answer) (ds : List Done) → ((a : Account) → All Marked (account a ds)) → (a : Account) → All Marked (account a (cons_done m r ds))
-  behind none r ds h a = h a
-  behind (some c) r ds h a = h (add a c r)
+  behind None r ds h a = h a
+  behind (Some c) r ds h a = h (add a c r)
 
   -- a call that marks x where it is made
   abbrev pub Marks : Call → Type 0

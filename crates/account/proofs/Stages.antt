@@ -1,14 +1,15 @@
 -- The stages of a tick with their tests as arguments, so that lemmas go by clauses on the test.
+use Rattle.std.specs.Prelude.{Option, Result, None}
+use Rattle.exec.specs.declared.Admission.{Admission}
+use Rattle.exec.specs.declared.LaunchFailure.{LaunchFailure}
+use Rattle.exec.specs.declared.Status.{Status}
+use Rattle.exec.specs.declared.Refusal.{Refusal}
 use mathlib.Core.Bool.{Bool, cond, ◌||◌}
 use mathlib.Core.Path.{◌≡◌, refl}
 use Prim.Native.Nat.{ℕ}
-use Rattle.exec.specs.declared.Admission.{Admission}
 use Rattle.exec.specs.declared.Cause.{Cause}
-use Rattle.exec.specs.declared.MaybeStatus.{MaybeStatus}
-use Rattle.exec.specs.declared.LaunchResult.{LaunchResult}
 use Rattle.lifecycle.specs.declared.life.Settling.{Settling}
 use Rattle.runner.specs.declared.runner.Runner.{Runner}
-use Rattle.exec.specs.declared.Deadline.TheVariants.{Never}
 use Rattle.exec.specs.Time.{due}
 use Rattle.lifecycle.specs.Life.{is_fenced, is_settled, expired}
 use Rattle.lifecycle.specs.Setters.{set_timeout_at, set_give_up_at, set_settling}
@@ -23,10 +24,10 @@ abbrev pub terminate_if : Bool → ℕ → Cause → Runner → Runner
 terminate_if b now c r = cond b r (pass_grace (begin_termination r now c) now)
 
 abbrev pub timeout_if : Bool → ℕ → Runner → Runner
-timeout_if b now r = cond b (terminate (with_clocks (set_timeout_at Never r.clocks) r) now Cause.TimedOut) r
+timeout_if b now r = cond b (terminate (with_clocks (set_timeout_at None r.clocks) r) now Cause.TimedOut) r
 
 abbrev pub give_up_if : Bool → Bool → Runner → Runner
-give_up_if b clean r = cond b (cond clean (with_clocks (set_give_up_at Never r.clocks) r) (give_up r)) r
+give_up_if b clean r = cond b (cond clean (with_clocks (set_give_up_at None r.clocks) r) (give_up r)) r
 
 abbrev pub drop_launch_if : Bool → Runner → Runner
 drop_launch_if b r = cond b (abandon_launch r) r
@@ -72,13 +73,13 @@ detached_now now r = give_up_soon (end_grace (silenced r)) now
 abbrev pub detach_if : Bool → Bool → ℕ → Cause → Runner → Runner
 detach_if f d now c r = cond (f || d) r (detached_now now (terminate r now c))
 
-abbrev pub exited_if : Bool → Bool → ℕ → MaybeStatus → Runner → Runner
+abbrev pub exited_if : Bool → Bool → ℕ → Option Status → Runner → Runner
 exited_if e g now x r = cond (e || g) r (note_exit r now x)
 
-abbrev pub launched_if : Bool → LaunchResult → Runner → Runner
+abbrev pub launched_if : Bool → Result (Unit {0}) LaunchFailure → Runner → Runner
 launched_if b x r = cond b (note_launch r x) r
 
-abbrev pub cancel_next : Admission → ℕ → Cause → Runner → Runner
+abbrev pub cancel_next : Result Admission Refusal → ℕ → Cause → Runner → Runner
 cancel_next k now c r = Life.cancel_next k r now c
 
 abbrev pub over : Settling → Bool

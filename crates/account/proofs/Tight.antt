@@ -1,11 +1,11 @@
 -- Five is tight: a list on which the fifth next_message after the tick is Terminal and the four before it are other messages.
+use Rattle.std.specs.Prelude.{Ok}
 use mathlib.Core.Bool.{false}
 use mathlib.Core.Path.{◌≡◌, refl, ap, ◌∙◌}
 use mathlib.Core.List.{List, [], ◌∷◌, ◌++◌}
 use Prim.Native.Nat.{ℕ, ◌≤◌}
 use lib.ListN.{length}
 use Rattle.exec.specs.declared.Cause.TheVariants as Cause
-use Rattle.exec.specs.declared.LaunchResult.TheVariants as LaunchResult
 use Rattle.exec.specs.declared.Stream.TheVariants.{Stdout, Stderr}
 use Rattle.exec.specs.Key.{admits}
 use Rattle.choice.specs.Order.{if_else, order}
@@ -23,7 +23,7 @@ use Rattle.account.proofs.Session.{conf, message, cut_short, answers_of, open_ok
 
 -- the launch is reported and the Credit sent; then a cancel at 20, and the tick at 20 + 10 + 5
 abbrev pub before : List Call
-before = message ∷ Call.launched LaunchResult.Started ∷ Call.cancel 20 (record { id = 7; generation = 2 }) Cause.Cancelled ∷ Call.tick 35 ∷ []
+before = message ∷ Call.launched (Ok tt) ∷ Call.cancel 20 (record { id = 7; generation = 2 }) Cause.Cancelled ∷ Call.tick 35 ∷ []
 
 abbrev pub four : List Call
 four = message ∷ message ∷ message ∷ message ∷ []

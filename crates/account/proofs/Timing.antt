@@ -1,4 +1,10 @@
 -- Every call keeps the phase that an Applied cancel begins, and after give-up lets the messages left be no more.
+use Rattle.std.specs.Prelude.{Option, Result, Some, None, Ok, Err}
+use Rattle.exec.specs.declared.Admission.TheVariants.{Own, Stale}
+use Rattle.exec.specs.declared.Admission.{Admission}
+use Rattle.exec.specs.declared.LaunchFailure.{LaunchFailure}
+use Rattle.exec.specs.declared.Status.{Status}
+use Rattle.exec.specs.declared.Refusal.{Refusal}
 use mathlib.Core.Bool.{Bool, true, false, cond, not, true≢false}
 use mathlib.Core.Path.{◌≡◌, refl, sym, ap, ◌∙◌, subst⁻¹}
 use Prim.Native.Nat.{ℕ, ◌≤◌}
@@ -6,20 +12,14 @@ use native.Mathlib.Omega.{arith}
 use native.Mathlib.Nat.{le_refl}
 use lib.Dec.{ltb}
 use lib.ListN.{length}
-use Rattle.exec.specs.declared.Admission.{Admission}
 use Rattle.exec.specs.declared.Cause.{Cause}
-use Rattle.exec.specs.declared.MaybeStatus.{MaybeStatus}
-use Rattle.exec.specs.declared.LaunchResult.{LaunchResult}
 use Rattle.runner.specs.declared.answer.Request.{Request}
-use Rattle.runner.specs.declared.message.Wish.{Wish}
 use Rattle.exec.specs.declared.Stream.{Stream}
 use Rattle.exec.specs.declared.Stream.TheVariants.{Stdout, Stderr}
 use Rattle.choice.specs.declared.Choice.{Choice}
 use Rattle.input.specs.declared.Input.{Input}
 use Rattle.output.specs.declared.Output.{Output}
 use Rattle.runner.specs.declared.runner.Runner.{Runner}
-use Rattle.exec.specs.declared.Deadline.{Deadline}
-use Rattle.exec.specs.declared.Deadline.TheVariants.{Never}
 use Rattle.exec.specs.Time.{earliest, due}
 use Rattle.exec.specs.Key.{admits}
 use Rattle.lifecycle.specs.Life.{exit_known, is_fenced}
@@ -41,10 +41,10 @@ use Rattle.account.proofs.Sides.{out_each, on_out}
 use Rattle.account.proofs.Flags.{or_left}
 use Rattle.account.proofs.Phase.{Either, left, right, Empty, bit, AllKnown, Phase, left_over, over_overdue, reported_over, cleaned_known, known_given, dry_given, dry_grace, known_grace, InKept, OutKept, kept_asked, kept_end, kept_send, kept_discard, kept_close, kept_fail, kept_hang, kept_intake, kept_if, kept_ended, kept_written, on_right, not_right}
 
-module _ (P : Deadline → Type 0) (lower : (d e : Deadline) → P d → P (earliest d e)) where
+module _ (P : Option ℕ → Type 0) (lower : (d e : Option ℕ) → P d → P (earliest d e)) where
   pub record Low (s t : Runner) : Type 0 where
     pub hold : Phase P t
-    pub less : ((d : Deadline) → P d → ⊥) → left_over t ≤ left_over s
+    pub less : ((d : Option ℕ) → P d → ⊥) → left_over t ≤ left_over s
 
   same : {s : Runner} → Phase P s → Low s s
   same {s} h = record { hold = h; less = λ n. le_refl (left_over s) }
@@ -66,7 +66,7 @@ module _ (P : Deadline → Type 0) (lower : (d e : Deadline) → P d → P (earl
 
   pub low_timeout : (b : Bool) (now : ℕ) (s : Runner) → Phase P s → Low s (timeout_if b now s)
   low_timeout false now s h = same h
-  low_timeout true now s h = then (record { hold = h; less = λ n. le_refl (left_over s) }) (low_terminate now Cause.TimedOut (with_clocks (set_timeout_at Never s.clocks) s))
+  low_timeout true now s h = then (record { hold = h; less = λ n. le_refl (left_over s) }) (low_terminate now Cause.TimedOut (with_clocks (set_timeout_at None s.clocks) s))
 
   pub low_settle : (now : ℕ) (s : Runner) → Phase P s → Low s (stage3 now s)
   low_settle now s h = record {
@@ -125,12 +125,12 @@ module _ (P : Deadline → Type 0) (lower : (d e : Deadline) → P d → P (earl
   low_cancel_if true now c s h = same h
   low_cancel_if false now c s h = low_terminate now c s h
 
-  low_cancel : (k : Admission) (now : ℕ) (c : Cause) (s : Runner) → Phase P s → Low s (cancel_next k now c s)
+  low_cancel : (k : Result Admission Refusal) (now : ℕ) (c : Cause) (s : Runner) → Phase P s → Low s (cancel_next k now c s)
   unfolding Life.cancel_next
-  low_cancel Admission.Own now c s h =
+  low_cancel (Ok Own) now c s h =
       then {s = s} {t = ticked s now} {u = cancel_if (late (ticked s now)) now c (ticked s now)} (low_ticked now s h) (low_cancel_if (late (ticked s now)) now c (ticked s now))
-  low_cancel Admission.Stale now c s h = same h
-  low_cancel (Admission.Refused z) now c s h = same h
+  low_cancel (Ok Stale) now c s h = same h
+  low_cancel (Err z) now c s h = same h
 
   pub low_detached_now : (now : ℕ) (s : Runner) → Phase P s → Low s (detached_now now s)
   unfolding end_grace silenced give_up_soon
@@ -162,29 +162,29 @@ module _ (P : Deadline → Type 0) (lower : (d e : Deadline) → P d → P (earl
   unfolding close_runner_input
   low_close s h = subst⁻¹ (λ (i : Input). Low s (with_input i s)) (closed_in s h.0) (same h)
 
-  pub low_exited_if : (e g : Bool) (now : ℕ) (x : MaybeStatus) (s : Runner) → exit_known s.life.exit ≡ e → Phase P s → Low s (exited_if e g now x s)
+  pub low_exited_if : (e g : Bool) (now : ℕ) (x : Option Status) (s : Runner) → exit_known s.life.exit ≡ e → Phase P s → Low s (exited_if e g now x s)
   unfolding note_exit close_runner_input
   low_exited_if true g now x s e h = same h
   low_exited_if false true now x s e h = same h
   low_exited_if false false now x s e h =
       record { hold = (rw (closed_in s h.0) h.0, h.1, h.2, not_right (λ d. true≢false (sym d.exit ∙ e)) h.3); less = λ n. rw (closed_in s h.0) (le_refl (left_over s)) }
 
-  low_exited : (now : ℕ) (x : MaybeStatus) (s : Runner) → Phase P s → Low s (exited_next s now x)
+  low_exited : (now : ℕ) (x : Option Status) (s : Runner) → Phase P s → Low s (exited_next s now x)
   unfolding exited_next note_exit_once
   low_exited now x s h =
-      let s' : Runner = with_clocks (set_timeout_at Never s.clocks) s in let t : Runner = ticked s' now in
+      let s' : Runner = with_clocks (set_timeout_at None s.clocks) s in let t : Runner = ticked s' now in
       let g = low_ticked now s' h in
       then {s = s} {t = t} {u = exited_if (exit_known t.life.exit) t.flags.gave_up now x t} (record { hold = g.hold; less = g.less }) (low_exited_if (exit_known t.life.exit) t.flags.gave_up now x t refl)
 
-  low_launched_if : (b : Bool) (x : LaunchResult) (s : Runner) → awaits_launch s ≡ b → Phase P s → Low s (launched_if b x s)
+  low_launched_if : (b : Bool) (x : Result (Unit {0}) LaunchFailure) (s : Runner) → awaits_launch s ≡ b → Phase P s → Low s (launched_if b x s)
   unfolding note_launch note_started close_runner_input
   low_launched_if false x s e h = same h
-  low_launched_if true LaunchResult.Started s e h = record { hold = (h.0, h.1, h.2, not_right (λ d. true≢false (sym e ∙ d.launch)) h.3); less = λ n. none_left n h.3 }
+  low_launched_if true (Ok tt) s e h = record { hold = (h.0, h.1, h.2, not_right (λ d. true≢false (sym e ∙ d.launch)) h.3); less = λ n. none_left n h.3 }
     where
-      none_left : {B : Type 0} → ((d : Deadline) → P d → ⊥) → Either (P s.clocks.give_up_at) (AllKnown s) → B
+      none_left : {B : Type 0} → ((d : Option ℕ) → P d → ⊥) → Either (P s.clocks.give_up_at) (AllKnown s) → B
       none_left n (left p) = absurd (n _ p)
       none_left n (right d) = absurd (true≢false (sym e ∙ d.launch))
-  low_launched_if true (LaunchResult.Failed x) s e h =
+  low_launched_if true (Err x) s e h =
       record { hold = (rw (closed_in s h.0) h.0, h.1, h.2, not_right (λ d. true≢false (sym e ∙ d.launch)) h.3); less = λ n. rw (closed_in s h.0) (le_refl (left_over s)) }
 
   -- the input: closed it stays, and its message stays or goes
@@ -216,10 +216,10 @@ module _ (P : Deadline → Type 0) (lower : (d e : Deadline) → P d → P (earl
   low_handed Request.CloseInput s h = record { hold = h; less = λ n. le_refl (left_over s) }
   low_handed Request.Settle s h = record { hold = h; less = λ n. le_refl (left_over s) }
 
-  low_wished : (w : Wish) (s : Runner) → Phase P s → Low s (wish_effect w s)
+  low_wished : (w : Option Request) (s : Runner) → Phase P s → Low s (wish_effect w s)
   unfolding wish_effect
-  low_wished Wish.None s h = same h
-  low_wished (Wish.Request q) s h = low_handed q s h
+  low_wished None s h = same h
+  low_wished (Some q) s h = low_handed q s h
 
   -- what a message moves beside its part is no matter here
   low_plain : (s t : Runner) → Low s t → Low s (plain t)
@@ -253,7 +253,7 @@ module _ (P : Deadline → Type 0) (lower : (d e : Deadline) → P d → P (earl
   unfolding next credit_next input_next end_next launched_next output_next discarded_next closed_next failed_next hung_up_next written_next settled_next receive_input written_input
   low_next (Call.credit k p u) s h = record { hold = h; less = λ n. le_refl (left_over s.runner) }
   low_next (Call.input k b) s h =
-      let r : Runner = s.runner in let a : Admission = admits r.key k in
+      let r : Runner = s.runner in let a : (Result Admission Refusal) = admits r.key k in
       low_high r (input_received a r (length b)) _
       (low_input r (cond (is_taken a r) (receive_input r.limits r.input (length b)) r.input)
       (kept_if (is_taken a r) r.input (receive_input r.limits r.input (length b)) r.input (h.0, refl) (h.0, refl)) h)

@@ -1,15 +1,15 @@
 -- What the account has of a stream as taken and sent is what the list of what was done tells: of the bytes offered those that
 -- were answered taken, and the bytes that the answers carry, joined.
+use Rattle.std.specs.Prelude.{Option, Result, Some, None, Ok, Err}
+use Rattle.codec.specs.declared.Record.{Record}
+use Rattle.exec.specs.declared.Refusal.{Refusal}
 use mathlib.Core.Bool.{◌&&◌}
 use mathlib.Core.Path.{◌≡◌, refl, sym, ap, ◌∙◌, subst⁻¹}
 use mathlib.Core.List.{List, [], ◌∷◌, ◌++◌, append-nil, append_assoc}
-use mathlib.Core.Option.{Option, none, some}
 use Prim.Native.Nat.{ℕ}
 use lib.ListN.{length, take, drop}
 use Rattle.exec.specs.declared.Stream.{Stream}
 use Rattle.runner.specs.Message.{choose}
-use Rattle.codec.specs.declared.Parsed.{Parsed}
-use Rattle.codec.specs.declared.Record.TheVariants as Record
 use Rattle.channel.specs.Calls.{is_channel}
 use Rattle.codec.specs.Codec.{read}
 use Rattle.calls.specs.Call as Call
@@ -46,36 +46,36 @@ call_told c s z f = subst⁻¹ (Tells z c) (answer_same s c f) (plain_told c s z
 -- ---- an entry: a record makes no output
 
 abbrev Mute : Option Call → Type 0
-Mute none = Unit
-Mute (some c) = (x : Stream) → offered x c ≡ []
+Mute None = Unit
+Mute (Some c) = (x : Stream) → offered x c ≡ []
 
-read_mute : (conf : Conf) (now : ℕ) (b : List ℕ) (p : Parsed) → Mute (call_of conf now b p)
+read_mute : (conf : Conf) (now : ℕ) (b : List ℕ) (p : Result Record Refusal) → Mute (call_of conf now b p)
 unfolding call_of
-read_mute conf now b (Parsed.Read (Record.Adjust units)) = λ x. refl
-read_mute conf now b (Parsed.Read (Record.Data n)) = λ x. refl
-read_mute conf now b (Parsed.Read (Record.Extended n)) = tt
-read_mute conf now b (Parsed.Read Record.Eof) = λ x. refl
-read_mute conf now b (Parsed.Read Record.Close) = λ x. refl
-read_mute conf now b (Parsed.Refused y) = tt
+read_mute conf now b (Ok (Record.Adjust units)) = λ x. refl
+read_mute conf now b (Ok (Record.Data n)) = λ x. refl
+read_mute conf now b (Ok (Record.Extended n)) = tt
+read_mute conf now b (Ok Record.Eof) = λ x. refl
+read_mute conf now b (Ok Record.Close) = λ x. refl
+read_mute conf now b (Err y) = tt
 
 -- what an entry offers is what the call offers that it makes
 abbrev Offering : Entry → Option Call → Type 0
-Offering e none = Unit
-Offering e (some c) = (x : Stream) → offered_in x e ≡ offered x c
+Offering e None = Unit
+Offering e (Some c) = (x : Stream) → offered_in x e ≡ offered x c
 
 mute_offering : (e : Entry) (m : Option Call) → ((x : Stream) → offered_in x e ≡ []) → Mute m → Offering e m
-mute_offering e none h q = tt
-mute_offering e (some c) h q = λ x. h x ∙ sym (q x)
+mute_offering e None h q = tt
+mute_offering e (Some c) h q = λ x. h x ∙ sym (q x)
 
 offering : (conf : Conf) (e : Entry) (a : Answer) → Offering e (made conf e a)
 unfolding made
 offering conf (call c) a = λ x. refl
 offering conf (read_record now channel b) a =
     mute_offering (read_record now channel b) (made conf (read_record now channel b) a) (λ x. refl)
-    (either Mute (is_channel conf.limits) (call_of conf now b (read channel b)) none (read_mute conf now b (read channel b)) tt)
+    (either Mute (is_channel conf.limits) (call_of conf now b (read channel b)) None (read_mute conf now b (read channel b)) tt)
 offering conf (write_record channel buffer) a =
     mute_offering (write_record channel buffer) (made conf (write_record channel buffer) a) (λ x. refl)
-    (either Mute (is_channel conf.limits && roomy conf buffer) _ none (either Mute (is_untaken a) none (some (Call.next_message (take conf.limits.chunk (drop 13 buffer)))) tt (λ x. refl)) tt)
+    (either Mute (is_channel conf.limits && roomy conf buffer) _ None (either Mute (is_untaken a) None (Some (Call.next_message (take conf.limits.chunk (drop 13 buffer)))) tt (λ x. refl)) tt)
 
 -- ---- a list: what is behind the entry is told of the account after it
 
@@ -96,7 +96,7 @@ refused_adds e r n x h = rw h (refl, refl)
 behind : (conf : Conf) (e : Entry) (m : Option Call) (s after : State) (r : Answer) (ds : List EntryDone) (z : Account) → made conf e r ≡ m → Does e m s after r → Offering e m → Fine s
     → ((a : Account) → ToldIn conf a ds) → ToldIn conf z (record { entry = e; answer = r } ∷ ds)
 unfolding Does
-behind conf e none s after r ds z k d o f h x =
+behind conf e None s after r ds z k d o f h x =
     let p = h z x in
     let q = refused_adds e r d.refusal x d.answered in
     let t : Tally = tally_of x z in
@@ -104,7 +104,7 @@ behind conf e none s after r ds z k d o f h x =
       p.0 ∙ ap (λ (b : List ℕ). t.taken ++ (b ++ taken_in x ds)) (sym q.0),
       p.1 ∙ ap (λ (b : List ℕ). t.sent ++ (b ++ sent_in x ds)) (sym q.1),
     )
-behind conf e (some c) s after r ds z k d o f h x =
+behind conf e (Some c) s after r ds z k d o f h x =
     let p = h (add z c r) x in
     let q = subst⁻¹ (Tells z c) d.1 (call_told c s z f) x in
     let t : Tally = tally_of x z in

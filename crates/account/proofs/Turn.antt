@@ -1,9 +1,11 @@
 -- The turn: a stream that Terminal reports untruncated was sent whole and closed by the program, and no byte is added to it any more.
+use Rattle.std.specs.Prelude.{Option, Result, Some, None, Ok, Err}
+use Rattle.codec.specs.declared.Record.{Record}
+use Rattle.exec.specs.declared.Refusal.{Refusal}
 use mathlib.Core.Bool.{Bool, true, false, not, ◌&&◌, ◌||◌, true≢false, false≢true}
 use mathlib.Core.Path.{◌≡◌, refl, sym, ap, ◌∙◌, subst, subst⁻¹}
 use mathlib.Core.List.{List, [], ◌∷◌, ◌++◌, append-nil}
 use mathlib.Core.Logic.{inl, inr}
-use mathlib.Core.Option.{Option, none, some}
 use Prim.Native.Nat.{ℕ, ◌+◌, ◌≤◌}
 use native.Mathlib.Omega.{arith}
 use lib.Dec.{ltb}
@@ -18,8 +20,6 @@ use Rattle.output.specs.Output.{is_done}
 use Rattle.runner.specs.Message.{effect}
 use Rattle.runner.specs.State.{out_of}
 use Rattle.runner.specs.Streams.{output_taken}
-use Rattle.codec.specs.declared.Parsed.{Parsed}
-use Rattle.codec.specs.declared.Record.TheVariants as Record
 use Rattle.channel.specs.Calls.{is_channel}
 use Rattle.codec.specs.Codec.{read}
 use Rattle.calls.specs.Call as Call
@@ -100,24 +100,24 @@ module _ (z : Account) where
 -- ---- a record closes no stream
 
 abbrev Unclosing : Stream → Option Call → Type 0
-Unclosing x m = m ≡ some (Call.output_closed x) → ⊥
+Unclosing x m = m ≡ Some (Call.output_closed x) → ⊥
 
 unclosed : (m : Option Call) (r : Answer) (x : Stream) (ds : List Done) → Unclosing x m → Has (closing_call x) (cons_done m r ds) → Has (closing_call x) ds
-unclosed none r x ds n h = h
-unclosed (some c) r x ds n (inl e) = absurd (n (ap (λ (d : Done). some d.call) (sym e)))
-unclosed (some c) r x ds n (inr h) = h
+unclosed None r x ds n h = h
+unclosed (Some c) r x ds n (inl e) = absurd (n (ap (λ (d : Done). Some d.call) (sym e)))
+unclosed (Some c) r x ds n (inr h) = h
 
-none_unclosed : (x : Stream) → Unclosing x none
+none_unclosed : (x : Stream) → Unclosing x None
 none_unclosed x e = let z : false ≡ true = cc in false≢true z
 
-read_unclosed : (conf : Conf) (now : ℕ) (b : List ℕ) (x : Stream) (p : Parsed) → Unclosing x (call_of conf now b p)
+read_unclosed : (conf : Conf) (now : ℕ) (b : List ℕ) (x : Stream) (p : Result Record Refusal) → Unclosing x (call_of conf now b p)
 unfolding call_of
-read_unclosed conf now b x (Parsed.Read (Record.Adjust units)) e = let z : false ≡ true = cc in false≢true z
-read_unclosed conf now b x (Parsed.Read (Record.Data n)) e = let z : false ≡ true = cc in false≢true z
-read_unclosed conf now b x (Parsed.Read (Record.Extended n)) e = none_unclosed x e
-read_unclosed conf now b x (Parsed.Read Record.Eof) e = let z : false ≡ true = cc in false≢true z
-read_unclosed conf now b x (Parsed.Read Record.Close) e = let z : false ≡ true = cc in false≢true z
-read_unclosed conf now b x (Parsed.Refused y) e = none_unclosed x e
+read_unclosed conf now b x (Ok (Record.Adjust units)) e = let z : false ≡ true = cc in false≢true z
+read_unclosed conf now b x (Ok (Record.Data n)) e = let z : false ≡ true = cc in false≢true z
+read_unclosed conf now b x (Ok (Record.Extended n)) e = none_unclosed x e
+read_unclosed conf now b x (Ok Record.Eof) e = let z : false ≡ true = cc in false≢true z
+read_unclosed conf now b x (Ok Record.Close) e = let z : false ≡ true = cc in false≢true z
+read_unclosed conf now b x (Err y) e = none_unclosed x e
 
 closing_at : (conf : Conf) (x : Stream) (e : Entry) (r : Answer) (ds : List Done) (es : List EntryDone) → (Has (closing_call x) ds → Has (closing x) es)
     → Has (closing_call x) (cons_done (made conf e r) r ds) → Has (closing x) (record { entry = e; answer = r } ∷ es)
@@ -125,10 +125,10 @@ unfolding made
 closing_at conf x (call c) r ds es g (inl e) = inl (ap (λ (d : Done). record { entry = call d.call; answer = d.answer }) e)
 closing_at conf x (call c) r ds es g (inr h) = inr (g h)
 closing_at conf x (read_record now channel b) r ds es g h =
-    inr (g (unclosed _ r x ds (either (Unclosing x) (is_channel conf.limits) (call_of conf now b (read channel b)) none (read_unclosed conf now b x (read channel b)) (none_unclosed x)) h))
+    inr (g (unclosed _ r x ds (either (Unclosing x) (is_channel conf.limits) (call_of conf now b (read channel b)) None (read_unclosed conf now b x (read channel b)) (none_unclosed x)) h))
 closing_at conf x (write_record channel buffer) r ds es g h =
-    inr (g (unclosed _ r x ds (either (Unclosing x) (is_channel conf.limits && roomy conf buffer) _ none
-    (either (Unclosing x) (is_untaken r) none _ (none_unclosed x) (λ e. let z : false ≡ true = cc in false≢true z)) (none_unclosed x)) h))
+    inr (g (unclosed _ r x ds (either (Unclosing x) (is_channel conf.limits && roomy conf buffer) _ None
+    (either (Unclosing x) (is_untaken r) None _ (none_unclosed x) (λ e. let z : false ≡ true = cc in false≢true z)) (none_unclosed x)) h))
 
 closing_in : (conf : Conf) (x : Stream) (ds : List EntryDone) → Has (closing_call x) (dones_of conf ds) → Has (closing x) ds
 closing_in conf x [] h = h
@@ -168,7 +168,7 @@ module _ (conf : Conf) (now : ℕ) (bytes lengths : List ℕ) (op : Opens conf n
   to_plain es = same_account conf now bytes lengths op es ∙ plain_account conf now bytes lengths op (made_of es)
 
   terminal_call : (es : List Entry) (e : Entry) → is_terminal (answer_after conf now bytes lengths es e) ≡ true
-      → (c : Call) × (made conf e (answer_after conf now bytes lengths es e) ≡ some c) × (is_terminal (answer (state es) c) ≡ true)
+      → (c : Call) × (made conf e (answer_after conf now bytes lengths es e) ≡ Some c) × (is_terminal (answer (state es) c) ≡ true)
   terminal_call es e h =
       let q = at_terminal conf now bytes lengths op es e h in
       (q.0, q.3, sym (ap is_terminal (q.2 ∙ same_answer conf now bytes lengths op (made_of es) q.0)) ∙ h)
@@ -180,7 +180,7 @@ module _ (conf : Conf) (now : ℕ) (bytes lengths : List ℕ) (op : Opens conf n
       (subst⁻¹ (Has (closing_call y)) (same_dones conf es (Step.opened conf now bytes lengths) (good_open conf now bytes lengths op) ∙ same_run conf now bytes lengths op (made_of es)) m))
       (start_own _ conf now) x
 
-  final_at : (es : List Entry) (e : Entry) (ds : List Entry) (c : Call) → made conf e (answer_after conf now bytes lengths es e) ≡ some c → is_terminal (answer (state es) c) ≡ true
+  final_at : (es : List Entry) (e : Entry) (ds : List Entry) (c : Call) → made conf e (answer_after conf now bytes lengths es e) ≡ Some c → is_terminal (answer (state es) c) ≡ true
       → All (Same (plain es)) (plain (es ++ (e ∷ ds)))
   final_at es e ds c m h =
       let s : State = after_entries (Step.opened conf now bytes lengths) es in

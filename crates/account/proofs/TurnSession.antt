@@ -2,32 +2,27 @@
 -- that reports both streams untruncated. So what `Turn` asks can be met, and what it says is not empty. The first is of calls; its
 -- runner and stores are those of the session of 01's card. The second is of a channel: credit comes in a record read, and every
 -- message goes out in a record written; the program's status is any, and where no request tells it Terminal is left.
+use Rattle.std.specs.Prelude.{Option, Result, Some, None, Ok}
+use Rattle.runner.specs.declared.answer.Message.{Message}
+use Rattle.exec.specs.declared.Status.{Status}
+use Rattle.exec.specs.declared.Refusal.{Refusal}
 use mathlib.Core.Bool.{Bool, true, false, ◌&&◌, false≢true}
 use mathlib.Core.Path.{◌≡◌, refl, sym, ap, ◌∙◌}
 use mathlib.Core.List.{List, [], ◌∷◌, ◌++◌, map}
-use mathlib.Core.Option.{some}
 use Prim.Native.Nat.{ℕ, zero, suc, ◌≤◌}
 use native.Mathlib.Omega.{arith}
 use borrow.Author.Tests.{le-leb}
 use lib.IntN.{pos, negsuc}
 use lib.ListN.{length, take, drop}
-use Rattle.exec.specs.declared.LaunchResult.TheVariants as LaunchResult
-use Rattle.exec.specs.declared.MaybeCause.TheVariants as MaybeCause
-use Rattle.exec.specs.declared.MaybeDuration.TheVariants as MaybeDuration
-use Rattle.exec.specs.declared.MaybeLaunchFailure.TheVariants as MaybeLaunchFailure
-use Rattle.exec.specs.declared.MaybeStatus.{MaybeStatus}
 use Rattle.exec.specs.declared.Outcome.{Outcome}
 use Rattle.exec.specs.declared.Pool.TheVariants as Pool
-use Rattle.exec.specs.declared.Reply.TheVariants as Reply
 use Rattle.exec.specs.declared.Settlement.TheVariants as Settlement
-use Rattle.exec.specs.declared.Status.TheVariants as Status
 use Rattle.exec.specs.declared.Stream.{Stream}
 use Rattle.exec.specs.declared.Stream.TheVariants.{Stdout, Stderr}
 use Rattle.exec.specs.Key.{admits}
 use Rattle.exec.specs.Limits.{cost, bytes_with, bytes_window, limits_for}
 use Rattle.ring.specs.Ring.{wrap, ring_read, ring_from, ring_write}
 use Rattle.ring.specs.Runs.{copied}
-use Rattle.runner.specs.declared.answer.Message.TheVariants as Message
 use Rattle.runner.specs.Calls as Calls
 use Rattle.choice.specs.declared.Choice.TheVariants as Choice
 use Rattle.choice.specs.Order.{if_else, order}
@@ -38,7 +33,6 @@ use Rattle.runner.specs.Streams.{output_taken, output_next, output_store, credit
 use Rattle.octets.specs.Bytes.{be32_at, number_at}
 use Rattle.octets.specs.Text as Text
 use Rattle.codec.specs.Codec.{header, bytes_of, kinded, fitting, checked, read}
-use Rattle.channel.specs.declared.calls.Wrote.{Wrote}
 use Rattle.channel.specs.Calls as Channel
 use Rattle.channel.specs.Calls.{WriteAfter, is_channel, asked, is_left, told, wrote, wrote_buffer, sent_as, sent_buffer}
 use Rattle.exits.specs.Exit.{is_told, is_untold, request, ending}
@@ -66,12 +60,12 @@ use Rattle.account.proofs.Told.{tallied, taken_told}
 use Rattle.account.proofs.Turn.{turn}
 
 -- exited with 0
-abbrev pub zero_status : MaybeStatus
-zero_status = MaybeStatus.Some (Status.Exited (pos 0))
+abbrev pub zero_status : Option Status
+zero_status = Some (Status.Exited (pos 0))
 
 -- seven bytes of stdout through a ring of four; then the program closes both streams and exits
 abbrev pub calls : List Call
-calls = Call.launched LaunchResult.Started
+calls = Call.launched (Ok tt)
     ∷ Call.credit (record { id = 7; generation = 2 }) Pool.Stdout 3
     ∷ Call.output Stdout (97 ∷ 98 ∷ 99 ∷ 100 ∷ 101 ∷ [])
     ∷ message
@@ -93,11 +87,11 @@ abbrev pub entries : List Entry
 entries = map call calls
 
 -- nothing truncated
-abbrev pub whole_with : MaybeStatus → Outcome
+abbrev pub whole_with : Option Status → Outcome
 whole_with status = record {
   status = status;
-  cause = MaybeCause.None;
-  launch_failure = MaybeLaunchFailure.None;
+  cause = None;
+  launch_failure = None;
   stdout_truncated = false;
   stderr_truncated = false;
   reusable = true;
@@ -162,7 +156,7 @@ abbrev pub channel : Conf
 channel = record {
   key = record { id = 7; generation = 2 };
   limits = limits_for 4 (bytes_window 8) (bytes_window 8) true;
-  timers = record { timeout = MaybeDuration.None; grace = 10; settlement = 5 };
+  timers = record { timeout = None; grace = 10; settlement = 5 };
 }
 
 abbrev pub zeros : ℕ → List ℕ
@@ -177,8 +171,8 @@ written = write_record 1 (zeros 43)
 abbrev pub adjust : Entry
 adjust = read_record 0 1 (93 ∷ 0 ∷ 0 ∷ 0 ∷ 1 ∷ 0 ∷ 0 ∷ 0 ∷ 8 ∷ [])
 
-abbrev pub records : MaybeStatus → List Entry
-records status = call (Call.launched LaunchResult.Started)
+abbrev pub records : Option Status → List Entry
+records status = call (Call.launched (Ok tt))
     ∷ adjust
     ∷ call (Call.output Stdout (97 ∷ 98 ∷ 99 ∷ []))
     ∷ call (Call.output Stderr (120 ∷ 121 ∷ []))
@@ -222,8 +216,8 @@ answered = Call.Ok
 abbrev next_one : Call
 next_one = Call.next_message (0 ∷ 0 ∷ 0 ∷ 0 ∷ [])
 
-abbrev channel_calls : MaybeStatus → List Call
-channel_calls status = Call.launched LaunchResult.Started
+abbrev channel_calls : Option Status → List Call
+channel_calls status = Call.launched (Ok tt)
     ∷ Call.credit (record { id = 7; generation = 2 }) Pool.Output 8
     ∷ Call.output Stdout (97 ∷ 98 ∷ 99 ∷ [])
     ∷ Call.output Stderr (120 ∷ 121 ∷ [])
@@ -247,20 +241,20 @@ abbrev AllAsk : Conf → List Entry → List Call → Type 0
 AllAsk k [] [] = Unit
 AllAsk k [] (c ∷ cs) = ⊥
 AllAsk k (e ∷ es) [] = ⊥
-AllAsk k (e ∷ es) (c ∷ cs) = (made k e Call.Ok ≡ some c) × AllAsk k es cs
+AllAsk k (e ∷ es) (c ∷ cs) = (made k e Call.Ok ≡ Some c) × AllAsk k es cs
 
-records_ask : (status : MaybeStatus) → AllAsk channel (records status) (channel_calls status)
+records_ask : (status : Option Status) → AllAsk channel (records status) (channel_calls status)
 unfolding made call_of read kinded checked fitting number_at be32_at
 records_ask status = (refl, (refl, (refl, (refl, (refl, (refl, (refl, (refl, (refl, (refl, (refl, (refl, (refl, (refl, (refl, (refl, (refl, tt)))))))))))))))))
 
-abbrev ChannelComes : MaybeStatus → (bytes lengths : List ℕ) → Type 0
+abbrev ChannelComes : Option Status → (bytes lengths : List ℕ) → Type 0
 ChannelComes status bytes lengths =
     (answers_of (run (begun channel 0 bytes lengths) (channel_calls status)) ≡ answered)
     × (answer (after_all (begun channel 0 bytes lengths) (channel_calls status)) next_one ≡ Call.Says (Call.Terminal (whole_with status)))
     × (any_terminal (run (begun channel 0 bytes lengths) (channel_calls status)) ≡ false)
 
 -- only the first eight bytes of the store are written
-channel_computed : (status : MaybeStatus) (a0 a1 a2 a3 a4 a5 a6 a7 : ℕ) (rest lengths : List ℕ) → ChannelComes status (a0 ∷ a1 ∷ a2 ∷ a3 ∷ a4 ∷ a5 ∷ a6 ∷ a7 ∷ rest) lengths
+channel_computed : (status : Option Status) (a0 a1 a2 a3 a4 a5 a6 a7 : ℕ) (rest lengths : List ℕ) → ChannelComes status (a0 ∷ a1 ∷ a2 ∷ a3 ∷ a4 ∷ a5 ∷ a6 ∷ a7 ∷ rest) lengths
 unfolding next answer said admits cost wrap ring_read ring_from ring_write copied if_else close_runner_input pass_grace pass_timeout pass_settlement pass_give_up pass_abandonment fire ticked note_started note_launch launched_next note_exit note_exit_once exited_next settled_next is_ready outcome_of sendable_of order choose output_paid output_sent effect payload fresh output_taken output_next output_store credit_in credit_answer credit_next closed_next
 channel_computed status a0 a1 a2 a3 a4 a5 a6 a7 rest lengths = (refl, refl, refl)
 
@@ -276,7 +270,7 @@ named_eight P p (a0 ∷ a1 ∷ a2 ∷ a3 ∷ a4 ∷ a5 ∷ []) h = absurd (omega
 named_eight P p (a0 ∷ a1 ∷ a2 ∷ a3 ∷ a4 ∷ a5 ∷ a6 ∷ []) h = absurd (omega arith)
 named_eight P p (a0 ∷ a1 ∷ a2 ∷ a3 ∷ a4 ∷ a5 ∷ a6 ∷ a7 ∷ rest) h = p a0 a1 a2 a3 a4 a5 a6 a7 rest
 
-channel_plain : (status : MaybeStatus) (bytes lengths : List ℕ) → 16 ≤ length bytes → ChannelComes status bytes lengths
+channel_plain : (status : Option Status) (bytes lengths : List ℕ) → 16 ≤ length bytes → ChannelComes status bytes lengths
 channel_plain status bytes lengths h =
     named_eight (λ (b : List ℕ). ChannelComes status b lengths) (λ a0 a1 a2 a3 a4 a5 a6 a7 rest. channel_computed status a0 a1 a2 a3 a4 a5 a6 a7 rest lengths) bytes h
 
@@ -303,21 +297,21 @@ all_made conf (e ∷ es) (c ∷ cs) s g k h =
     let first = or_false_l (is_terminal (Step.answer s c)) (any_terminal (Step.run (Step.next s c) cs)) h in
     let rest = or_false_r (is_terminal (Step.answer s c)) (any_terminal (Step.run (Step.next s c) cs)) h in
     let m = made_so conf e c s g k.0 first in
-    let d : Does e (some c) s (next_entry s e) (answer_entry s e) = rw m at (does conf e s g) in
+    let d : Does e (Some c) s (next_entry s e) (answer_entry s e) = rw m at (does conf e s g) in
     let p = all_made conf es cs (next_entry s e) (good_entry conf e s g) k.1 (rw d.0 rest) in (
       rw (d.1, p.0, d.0) refl,
       p.1 ∙ ap (λ (t : State). Step.after t cs) d.0,
     )
 
 -- what becomes of Terminal: a status that is told goes out at the buffer's front, one that no request tells is left
-abbrev pub Closes : (untold : Bool) → MaybeStatus → WriteAfter → Type 0
+abbrev pub Closes : (untold : Bool) → Option Status → WriteAfter → Type 0
 Closes true status w = answers w ≡ Call.Refused 40
 Closes false status w =
-    (w.writing.wrote ≡ Wrote.Message (Message.Terminal (whole_with status)) (length (ending 1 status)))
+    (w.writing.wrote ≡ (Ok (Some ((Message.Terminal (whole_with status)), (length (ending 1 status))))))
     × (w.buffer ≡ ending 1 status ++ drop (length (ending 1 status)) (zeros 43))
 
-closes_by : (s : State) (status : MaybeStatus) (b met : Bool) (w : WriteAfter) → Writes s.runner 1 s.bytes (zeros 43) met w → met ≡ true → is_untold status ≡ b
-    → stop s.runner (bytes_do s.runner.limits s.bytes) ≡ Reply.Ok → ((n : ℕ) → choose s.runner n ≡ Choice.Terminal)
+closes_by : (s : State) (status : Option Status) (b met : Bool) (w : WriteAfter) → Writes s.runner 1 s.bytes (zeros 43) met w → met ≡ true → is_untold status ≡ b
+    → stop s.runner (bytes_do s.runner.limits s.bytes) ≡ Ok tt → ((n : ℕ) → choose s.runner n ≡ Choice.Terminal)
     → outcome_of s.runner ≡ whole_with status → s.runner.limits.chunk ≡ 4 → Closes b status w
 unfolding asked told wrote wrote_buffer sent_as sent_buffer is_left Calls.next_message said_for buffer_after
 closes_by s status b met w (elsewhere x) m u g c o k = absurd (false≢true m)
@@ -329,7 +323,7 @@ closes_by s status true met w (taken v h) m u g c o k =
     let z : is_untold status ≡ false = rw (g, c (length (take s.runner.limits.chunk (zeros 30))), o) at v in absurd (false≢true (sym z ∙ u))
 closes_by s status false met w (taken v h) m u g c o k = rw (g, c (length (take s.runner.limits.chunk (zeros 30))), o, k) (refl, refl)
 
-module _ (status : MaybeStatus) (bytes lengths : List ℕ) (h : 16 ≤ length bytes) where
+module _ (status : Option Status) (bytes lengths : List ℕ) (h : 16 ≤ length bytes) where
   pub channel_opens : Opens channel 0 bytes lengths
   unfolding Calls.«open» bytes_with
   channel_opens = rw (le-leb 16 (length bytes) h, le-leb 0 (length lengths) (omega arith)) refl
@@ -358,7 +352,7 @@ module _ (status : MaybeStatus) (bytes lengths : List ℕ) (h : 16 ≤ length by
   channel_closes b u =
       let s : State = after_entries begins (records status) in
       let f = good_at channel 0 bytes lengths channel_opens (records status) in
-      let g : stop s.runner (bytes_do s.runner.limits s.bytes) ≡ Reply.Ok = goes s next_one f.fine in
+      let g : stop s.runner (bytes_do s.runner.limits s.bytes) ≡ (Ok tt) = goes s next_one f.fine in
       let says : answer s next_one ≡ Call.Says (Call.Terminal (whole_with status)) =
       sym (answer_same s next_one f.fine) ∙ ap (λ (t : State). Step.answer t next_one) records_made.1
       ∙ same_answer channel 0 bytes lengths channel_opens (channel_calls status) next_one ∙ (channel_plain status bytes lengths h).1 in
@@ -374,7 +368,7 @@ module _ (status : MaybeStatus) (bytes lengths : List ℕ) (h : 16 ≤ length by
   -- it reports both streams untruncated
   pub channel_terminal : is_untold status ≡ false → answer_after channel 0 bytes lengths (records status) written ≡ Call.Says (Call.Terminal (whole_with status))
   unfolding answer_entry
-  channel_terminal u = ap (λ (x : Wrote). wrote_as x last.buffer) (channel_closes false u).0
+  channel_terminal u = ap (λ (x : (Result (Option (Message × ℕ)) Refusal)). wrote_as x last.buffer) (channel_closes false u).0
 
   -- these bytes were sent of each stream, in the records that carry them
   pub channel_sent : (sent_in Stdout (run_entries begins (records status)) ≡ 97 ∷ 98 ∷ 99 ∷ 100 ∷ 101 ∷ []) × (sent_in Stderr (run_entries begins (records status)) ≡ 120 ∷ 121 ∷ [])
@@ -400,6 +394,6 @@ unfolding ending request Text.bytes bytes_of header is_untold is_told
 zero_closes = (refl, refl, refl)
 
 -- and no request tells a code of −1
-pub negative_left : is_untold (MaybeStatus.Some (Status.Exited (negsuc 0))) ≡ true
+pub negative_left : is_untold (Some (Status.Exited (negsuc 0))) ≡ true
 unfolding is_untold is_told
 negative_left = refl

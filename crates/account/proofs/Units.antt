@@ -1,11 +1,15 @@
 -- The units of the input's window are never made up and never vanish.
+use Rattle.std.specs.Prelude.{Option, Result, Some, None, Ok, Err}
+use Rattle.exec.specs.declared.Admission.TheVariants.{Own, Stale}
+use Rattle.exec.specs.declared.Admission.{Admission}
+use Rattle.runner.specs.declared.answer.Request.{Request}
+use Rattle.exec.specs.declared.Receipt.{Receipt}
 use mathlib.Core.Bool.{Bool, true, false, cond, not, ◌&&◌, ◌||◌, and-true, not-and_self}
 use mathlib.Core.Path.{◌≡◌, sym, refl, ap, ◌∙◌, subst, subst⁻¹}
 use mathlib.Core.List.{List, [], ◌∷◌}
 use Prim.Native.Nat.{ℕ, ◌+◌, ◌-◌, ◌≤◌, min}
 use native.Mathlib.Omega.{arith}
 use lib.ListN.{length}
-use Rattle.exec.specs.declared.Admission.{Admission}
 use Rattle.exec.specs.declared.Cause.TheVariants.{Dropped, Reset, Disconnected}
 use Rattle.exec.specs.declared.Limits.{Limits}
 use Rattle.exec.specs.declared.Unit as Kinds
@@ -15,14 +19,10 @@ use Rattle.exec.specs.Limits.{cost}
 use Rattle.ring.specs.FrameLaws.{pop_most}
 use Rattle.inbox.specs.declared.Inbox.{Inbox}
 use Rattle.inbox.specs.Inbox.{new_inbox, inbox_held, pushed, freed_by, frames_popped, pop_inbox, pop_freed}
-use Rattle.exec.specs.declared.Received.{Received}
-use Rattle.exec.specs.declared.Received.TheVariants.{Refused}
 use Rattle.exec.specs.declared.Refusal.{Refusal}
 use Rattle.input.specs.declared.Input.{Input}
 use Rattle.input.specs.Input.{receive_answer, is_receipt, answered, receive_input, end_input, written_input}
-use Rattle.runner.specs.declared.answer.Request.TheVariants as Request
 use Rattle.choice.specs.declared.Choice.{Choice}
-use Rattle.runner.specs.declared.message.Wish.{Wish}
 use Rattle.runner.specs.declared.runner.Runner.{Runner}
 use Rattle.runner.specs.Life.{close_runner_input, ticked, cancel_next, launched_next, exited_next, settled_next, detach_next}
 use Rattle.runner.specs.Message.{choose, effect, output_sent, output_paid, wish, wish_effect}
@@ -62,10 +62,10 @@ pushed_held Frames n b = refl
 
 -- charged, and dropped where the answer is Late: the charge is lost
 module _ (l : Limits) (i : Input) (n : ℕ) where
-  abbrev Kept : Received → Type 0
+  abbrev Kept : Result Receipt Refusal → Type 0
   Kept x = receive_answer l i n ≡ x → units_in l (receive_input l i n) + cond (is_late (received_as x)) (cost l.input.unit n) 0 ≡ units_in l i
 
-  refused : (x : Refusal) → Kept (Refused x)
+  refused : (x : Refusal) → Kept (Err x)
   unfolding receive_input
   refused x e = rw e (omega arith)
 
@@ -77,13 +77,13 @@ module _ (l : Limits) (i : Input) (n : ℕ) where
       (λ p e. rw (e, pushed_held l.input.unit n i.inbox) (omega (arith, (paid l i n (ap is_receipt e)).enough)))
       refl
 
-received_units : (a : Admission) (r : Runner) (n : ℕ) (f : Bool) → r.flags.finished ≡ f
+received_units : (a : Result Admission Refusal) (r : Runner) (n : ℕ) (f : Bool) → r.flags.finished ≡ f
     → units_in r.limits (input_next a r n).input + late_cost f r.limits n (received_as (input_answer a r n)) ≡ units_in r.limits r.input
 unfolding input_next input_answer
-received_units (Admission.Refused x) r n f e = omega arith
-received_units Admission.Stale r n f e = omega arith
-received_units Admission.Own r n true e = rw e (omega arith)
-received_units Admission.Own r n false e =
+received_units (Err x) r n f e = omega arith
+received_units (Ok Stale) r n f e = omega arith
+received_units (Ok Own) r n true e = rw e (omega arith)
+received_units (Ok Own) r n false e =
     rw (e, and-true (is_late (received_as (receive_answer r.limits r.input n)))) (receive_by r.limits r.input n)
 
 -- ---- bytes to the workload
@@ -114,12 +114,12 @@ unfolding end_input
 ended_by l i true e = rw e refl
 ended_by l i false e = rw e refl
 
-end_units : (a : Admission) (r : Runner) (f : Bool) → r.flags.finished ≡ f → units_in r.limits (end_next a r).input ≡ units_in r.limits r.input
+end_units : (a : Result Admission Refusal) (r : Runner) (f : Bool) → r.flags.finished ≡ f → units_in r.limits (end_next a r).input ≡ units_in r.limits r.input
 unfolding end_next
-end_units (Admission.Refused x) r f e = refl
-end_units Admission.Stale r f e = refl
-end_units Admission.Own r true e = rw e refl
-end_units Admission.Own r false e = rw e (ended_by r.limits r.input r.input.peer_ended refl)
+end_units (Err x) r f e = refl
+end_units (Ok Stale) r f e = refl
+end_units (Ok Own) r true e = rw e refl
+end_units (Ok Own) r false e = rw e (ended_by r.limits r.input r.input.peer_ended refl)
 
 -- ---- messages and requests
 
@@ -133,13 +133,13 @@ said_units (Choice.End x) r = refl
 said_units (Choice.Output x n) r = refl
 said_units Choice.Terminal r = refl
 
-asked_units : (w : Wish) (r : Runner) → units_in r.limits (wish_effect w r).input ≡ units_in r.limits r.input
+asked_units : (w : Option Request) (r : Runner) → units_in r.limits (wish_effect w r).input ≡ units_in r.limits r.input
 unfolding wish_effect
-asked_units Wish.None r = refl
-asked_units (Wish.Request (Request.Terminate c)) r = refl
-asked_units (Wish.Request (Request.Discard x)) r = refl
-asked_units (Wish.Request Request.CloseInput) r = refl
-asked_units (Wish.Request Request.Settle) r = refl
+asked_units None r = refl
+asked_units (Some (Request.Terminate c)) r = refl
+asked_units (Some (Request.Discard x)) r = refl
+asked_units (Some Request.CloseInput) r = refl
+asked_units (Some Request.Settle) r = refl
 
 -- ---- a call, and a list of calls
 

@@ -1,9 +1,8 @@
 -- The account of each stream, from arguments and answers alone. What is due, open, hung up or settled is replayed from the
 -- arguments of open and of the calls, by 01's Time; nothing here reads a runner, and this file knows none.
-use Rattle.std.specs.Prelude.{Bool, true, false, cond, not, ◌&&◌, ◌||◌, List, [], ◌∷◌, ◌++◌, ℕ, ltb, length, take}
+use Rattle.std.specs.Prelude.{Bool, true, false, cond, not, ◌&&◌, ◌||◌, List, [], ◌∷◌, ◌++◌, ℕ, ltb, length, take, Option, Result, None, Err}
 use Rattle.exec.specs.declared.Admission.{Admission}
-use Rattle.exec.specs.declared.Deadline.{Deadline}
-use Rattle.exec.specs.declared.Deadline.TheVariants.{Never}
+use Rattle.exec.specs.declared.Refusal.{Refusal}
 use Rattle.exec.specs.declared.Settlement.{Settlement}
 use Rattle.exec.specs.declared.Stream.{Stream}
 use Rattle.exec.specs.Each.{Each, one, on_one, alike, both, every}
@@ -14,17 +13,17 @@ use Rattle.calls.specs.Call.{Conf, Done, Call, key, limits, credit, input, end_i
 -- Where the settlement stands, by what was reported and what time has passed.
 pub data Settling : Type 0 where
   Idle : Settling
-  Requested : Deadline → Settling
+  Requested : Option ℕ → Settling
   Settled : Settling
   Fenced : Settling
 
 -- What is replayed: the arguments of open, the times, and what was reported.
 pub record Replay : Type 0 where
   pub conf : Conf
-  pub timeout : Deadline
+  pub timeout : Option ℕ
   pub begun : Bool  -- the first of a due timeout, an Applied cancel or a detachment has come
-  pub give_up : Deadline
-  pub abandon : Deadline
+  pub give_up : Option ℕ
+  pub abandon : Option ℕ
   pub launch : Bool  -- the launch is reported
   pub gave_up : Bool
   pub left : Bool  -- abandonment ended the wait for a launch
@@ -59,7 +58,7 @@ on_tally x f a = mk a.rep (on_one x f a.tallies)
 -- ---- the replay with some of its fields set
 
 -- the four times
-abbrev pub with_times : (timeout : Deadline) (begun : Bool) (give_up abandon : Deadline) → Replay → Replay
+abbrev pub with_times : (timeout : Option ℕ) (begun : Bool) (give_up abandon : Option ℕ) → Replay → Replay
 with_times timeout begun give_up abandon r = record {
   conf = r.conf;
   timeout = timeout;
@@ -115,7 +114,7 @@ with_streams closed hung r = record {
 abbrev pub settling_r : Settling → Replay → Replay
 settling_r x r = with_work r.launch r.gave_up r.left r.exit x r.detached r
 
-abbrev pub give_up_r : Deadline → Replay → Replay
+abbrev pub give_up_r : Option ℕ → Replay → Replay
 give_up_r d r = with_times r.timeout r.begun d r.abandon r
 
 -- ---- Time
@@ -124,13 +123,13 @@ give_up_r d r = with_times r.timeout r.begun d r.abandon r
 unfoldable pub begin_if : (begun : Bool) → ℕ → Replay → Replay
 begin_if true now r = r
 begin_if false now r =
-    with_times Never true (then (after now r.conf.timers.grace) r.conf.timers.settlement) r.abandon r
+    with_times None true (then (after now r.conf.timers.grace) r.conf.timers.settlement) r.abandon r
 
 abbrev pub begin : ℕ → Replay → Replay
 begin now r = begin_if r.begun now r
 
 abbrev pub no_timeout_r : Replay → Replay
-no_timeout_r r = with_times Never r.begun r.give_up r.abandon r
+no_timeout_r r = with_times None r.begun r.give_up r.abandon r
 
 unfoldable pub timeout_r : (due : Bool) → ℕ → Replay → Replay
 timeout_r false now r = r
@@ -162,10 +161,10 @@ cleaned_r r = r.launch && r.exit && every r.closed && is_settled_r r.settling
 -- give-up does nothing if all is cleaned up; otherwise it closes and marks each stream still open, and fences settling
 unfoldable pub give_up_a : (due clean : Bool) → Account → Account
 give_up_a false clean a = a
-give_up_a true true a = mk (give_up_r Never a.rep) a.tallies
+give_up_a true true a = mk (give_up_r None a.rep) a.tallies
 give_up_a true false a =
     mk
-    (with_times a.rep.timeout a.rep.begun Never a.rep.abandon
+    (with_times a.rep.timeout a.rep.begun None a.rep.abandon
     (with_work a.rep.launch true a.rep.left true Fenced a.rep.detached
     (with_streams (alike true) a.rep.hung a.rep)))
     (both marked_unless a.rep.closed a.tallies)
@@ -188,7 +187,7 @@ unfoldable pub abandon_streams_a : (fenced : Bool) → Account → Account
 abandon_streams_a false a = a
 abandon_streams_a true a =
     mk
-    (with_times a.rep.timeout a.rep.begun a.rep.give_up Never
+    (with_times a.rep.timeout a.rep.begun a.rep.give_up None
     (with_streams (both (λ (c h : Bool). c || not h) a.rep.closed a.rep.hung) a.rep.hung a.rep))
     (both marked_unless (both ◌||◌ a.rep.closed a.rep.hung) a.tallies)
 
@@ -213,10 +212,10 @@ unfoldable pub tick_a : ℕ → Account → Account
 tick_a now a = tick5 now (tick4 now (tick3 now (tick1 now a)))
 
 -- a cancel ticks, and begins a termination unless one began: only under the execution's own key
-unfoldable pub cancel_a : Admission → ℕ → Account → Account
-cancel_a Admission.Own now a = let b = tick_a now a in mk (begin now b.rep) b.tallies
-cancel_a Admission.Stale now a = a
-cancel_a (Admission.Refused x) now a = a
+unfoldable pub cancel_a : Result Admission Refusal → ℕ → Account → Account
+cancel_a (Result.Ok Admission.Own) now a = let b = tick_a now a in mk (begin now b.rep) b.tallies
+cancel_a (Result.Ok Admission.Stale) now a = a
+cancel_a (Err x) now a = a
 
 -- a detachment ticks, begins a termination, and sets give-up to now + settlement if that is earlier or none is set
 abbrev pub detached_r : ℕ → Replay → Replay
@@ -341,8 +340,8 @@ start c now = mk (record {
   conf = c;
   timeout = timeout_at c.timers.timeout now;
   begun = false;
-  give_up = Never;
-  abandon = Never;
+  give_up = None;
+  abandon = None;
   launch = false;
   gave_up = false;
   left = false;

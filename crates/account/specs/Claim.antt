@@ -1,9 +1,8 @@
 -- Demand 3, for every list of calls from a runner just opened.
-use Rattle.std.specs.Prelude.{Bool, true, false, ◌||◌, ◌≡◌, List, [], ◌∷◌, ◌++◌, ℕ, suc, ◌+◌, ◌^◌, ◌≤◌, ◌<◌, eqb}
+use Rattle.std.specs.Prelude.{Bool, true, false, ◌||◌, ◌≡◌, List, [], ◌∷◌, ◌++◌, ℕ, suc, ◌+◌, ◌^◌, ◌≤◌, ◌<◌, eqb, Result}
 use Rattle.exec.specs.declared.Cause.{Cause}
 use Rattle.exec.specs.declared.Key.{Key}
 use Rattle.exec.specs.declared.Outcome.{Outcome}
-use Rattle.exec.specs.declared.Reply.TheVariants as Reply
 use Rattle.exec.specs.declared.Stream.{Stream}
 use Rattle.exec.specs.Outcome.{is_truncated}
 use Rattle.runner.specs.Calls as Calls
@@ -126,7 +125,7 @@ is_stop Nothing = false
 
 -- open is answered ok
 abbrev pub Opens : Conf → ℕ → (bytes lengths : List ℕ) → Type 0
-Opens conf now bytes lengths = (Calls.«open» conf.key conf.limits conf.timers now bytes lengths).reply ≡ Reply.Ok
+Opens conf now bytes lengths = (Calls.«open» conf.key conf.limits conf.timers now bytes lengths).reply ≡ Result.Ok tt
 
 -- DEMAND 3, for a runner that open answered ok, stores of any content, and every list of calls
 pub record Demand3 (conf : Conf) (now : ℕ) (bytes lengths : List ℕ) : Type 0 where

@@ -1,7 +1,8 @@
 -- Demand 3's bound after every call that ticks, not only after tick itself, and after every record that makes such a call.
-use Rattle.std.specs.Prelude.{true, ◌≡◌, List, ◌∷◌, ◌++◌, ℕ, ◌+◌, ◌^◌, ◌≤◌, ◌<◌}
-use Rattle.std.proofs.Math.Option.{Option, none, some}
+use Rattle.std.specs.Prelude.{true, ◌≡◌, List, ◌∷◌, ◌++◌, ℕ, ◌+◌, ◌^◌, ◌≤◌, ◌<◌, Option, Result, Some, None, Ok, Err}
+use Rattle.exec.specs.declared.Admission.TheVariants.{Own, Stale}
 use Rattle.exec.specs.declared.Admission.{Admission}
+use Rattle.exec.specs.declared.Refusal.{Refusal}
 use Rattle.exec.specs.declared.Cause.{Cause}
 use Rattle.exec.specs.declared.Key.{Key}
 use Rattle.exec.specs.Key.{admits}
@@ -11,44 +12,44 @@ use Rattle.account.specs.Claim.{messages}
 use Rattle.account.specs.Records.{Entry, call, next_entry, answer_entry, after_entries, run_entries, made, calls_of, any_terminal_in}
 
 -- a cancellation ticks only for the execution's own key
-abbrev pub own_tick : Admission → ℕ → Option ℕ
-own_tick Admission.Own now = some now
-own_tick Admission.Stale now = none
-own_tick (Admission.Refused x) now = none
+abbrev pub own_tick : Result Admission Refusal → ℕ → Option ℕ
+own_tick (Ok Own) now = Some now
+own_tick (Ok Stale) now = None
+own_tick (Err x) now = None
 
 -- the instant of a call's tick
 abbrev pub tick_of : Conf → Call → Option ℕ
-tick_of conf key = none
-tick_of conf limits = none
-tick_of conf (credit k p u) = none
-tick_of conf (input k b) = none
-tick_of conf (end_input k) = none
+tick_of conf key = None
+tick_of conf limits = None
+tick_of conf (credit k p u) = None
+tick_of conf (input k b) = None
+tick_of conf (end_input k) = None
 tick_of conf (cancel now k c) = own_tick (admits conf.key k) now
-tick_of conf (launched x) = none
-tick_of conf (read_allowance x) = none
-tick_of conf (output x b) = none
-tick_of conf (discarded x m) = none
-tick_of conf (output_closed x) = none
-tick_of conf (output_failed x) = none
-tick_of conf (output_hung_up x) = none
-tick_of conf pending_input = none
-tick_of conf (input_written m) = none
-tick_of conf input_closed = none
-tick_of conf (exited now x) = some now
-tick_of conf (settled x) = none
-tick_of conf (dropped now) = some now
-tick_of conf (reset now) = some now
-tick_of conf (disconnect now) = some now
-tick_of conf (tick now) = some now
-tick_of conf deadline = none
-tick_of conf next_request = none
-tick_of conf (next_message buffer) = none
-tick_of conf is_finished = none
-tick_of conf is_detached = none
-tick_of conf awaits_settlement = none
-tick_of conf memory_bound = none
-tick_of conf buffered = none
-tick_of conf high_water = none
+tick_of conf (launched x) = None
+tick_of conf (read_allowance x) = None
+tick_of conf (output x b) = None
+tick_of conf (discarded x m) = None
+tick_of conf (output_closed x) = None
+tick_of conf (output_failed x) = None
+tick_of conf (output_hung_up x) = None
+tick_of conf pending_input = None
+tick_of conf (input_written m) = None
+tick_of conf input_closed = None
+tick_of conf (exited now x) = Some now
+tick_of conf (settled x) = None
+tick_of conf (dropped now) = Some now
+tick_of conf (reset now) = Some now
+tick_of conf (disconnect now) = Some now
+tick_of conf (tick now) = Some now
+tick_of conf deadline = None
+tick_of conf next_request = None
+tick_of conf (next_message buffer) = None
+tick_of conf is_finished = None
+tick_of conf is_detached = None
+tick_of conf awaits_settlement = None
+tick_of conf memory_bound = None
+tick_of conf buffered = None
+tick_of conf high_water = None
 
 -- after a cancel Applied at t, Terminal has come by the fifth message asked for, by call or by record, after an entry whose call
 -- ticks at or past t + grace + settlement: a call, or a CLOSE that is read, which disconnects
@@ -59,5 +60,5 @@ LateAny conf now bytes lengths =
     let before = after_entries cancelled ds in
     answer_entry (after_entries (opened conf now bytes lengths) cs) (call (cancel t k c)) ≡ Applied
     → t + conf.timers.grace + conf.timers.settlement < 2 ^ 64 → t + conf.timers.grace + conf.timers.settlement ≤ n
-    → made conf e (answer_entry before e) ≡ some ticks → tick_of conf ticks ≡ some n → 5 ≤ messages (calls_of conf (run_entries (next_entry before e) es))
+    → made conf e (answer_entry before e) ≡ Some ticks → tick_of conf ticks ≡ Some n → 5 ≤ messages (calls_of conf (run_entries (next_entry before e) es))
     → any_terminal_in (run_entries (opened conf now bytes lengths) (cs ++ (call (cancel t k c) ∷ (ds ++ (e ∷ es))))) ≡ true

@@ -1,23 +1,19 @@
 -- Demand 3 whole: lists that mix the runner's calls with channel records read into it and written from it. Each record stands
 -- in the list as the call that it makes, told from the arguments of open, its own, and its answer; one that is refused first
 -- makes none.
-use Rattle.std.specs.Prelude.{Bool, true, false, cond, ◌&&◌, ◌||◌, ◌≡◌, List, [], ◌∷◌, ◌++◌, ℕ, ◌+◌, ◌-◌, ◌^◌, ◌≤◌, ◌<◌, leb, eqb, length, take, drop}
-use Rattle.std.proofs.Math.Option.{Option, none, some}
+use Rattle.std.specs.Prelude.{Bool, true, false, cond, ◌&&◌, ◌||◌, ◌≡◌, List, [], ◌∷◌, ◌++◌, ℕ, ◌+◌, ◌-◌, ◌^◌, ◌≤◌, ◌<◌, leb, eqb, length, take, drop, Option, Result, Some, None, Ok, Err}
+use Rattle.runner.specs.declared.answer.Message.{Message}
+use Rattle.codec.specs.declared.Record.{Record}
+use Rattle.exec.specs.declared.Receipt.{Receipt}
+use Rattle.exec.specs.declared.Refusal.{Refusal}
 use Rattle.exec.specs.declared.Cause.{Cause}
 use Rattle.exec.specs.declared.Key.{Key}
 use Rattle.exec.specs.declared.Outcome.{Outcome}
 use Rattle.exec.specs.declared.Pool.TheVariants as Pool
-use Rattle.exec.specs.declared.Receipt.TheVariants as Receipt
 use Rattle.exec.specs.declared.Stream.{Stream}
 use Rattle.exec.specs.Outcome.{is_truncated}
 use Rattle.exec.specs.Refusal.{number}
 use Rattle.runner.specs.declared.answer.Message as Messages
-use Rattle.runner.specs.declared.answer.Message.TheVariants as Message
-use Rattle.channel.specs.declared.calls.Answer as Answers
-use Rattle.channel.specs.declared.calls.Answer.TheVariants as Reads
-use Rattle.channel.specs.declared.calls.Wrote.{Wrote}
-use Rattle.codec.specs.declared.Parsed.{Parsed}
-use Rattle.codec.specs.declared.Record.TheVariants as Record
 use Rattle.channel.specs.Calls as Channel
 use Rattle.channel.specs.Calls.{is_channel, room}
 use Rattle.codec.specs.Codec.{read}
@@ -51,12 +47,12 @@ next_entry s (read_record now channel b) = record {
 next_entry s (write_record channel buffer) = on_runner (Channel.write_record s.runner channel s.bytes buffer).writing.runner s
 
 -- a record read answers as the call that it makes
-abbrev pub read_as : Answers.Answer → Answer
-read_as (Reads.Receipt Receipt.Applied) = Call.Applied
-read_as (Reads.Receipt Receipt.Stale) = Call.Stale
-read_as (Reads.Receipt Receipt.Late) = Call.Late
-read_as Reads.Ok = Call.Ok
-read_as (Reads.Refused x) = Call.Refused (number x)
+abbrev pub read_as : Result (Option Receipt) Refusal → Answer
+read_as (Ok (Some Receipt.Applied)) = Call.Applied
+read_as (Ok (Some Receipt.Stale)) = Call.Stale
+read_as (Ok (Some Receipt.Late)) = Call.Late
+read_as (Ok None) = Call.Ok
+read_as (Err x) = Call.Refused (number x)
 
 -- the message of a record that was written, of whole bytes: the payload of an Output is the last of them
 abbrev pub message_in : Messages.Message → (whole : ℕ) (buffer : List ℕ) → Answer
@@ -67,10 +63,10 @@ message_in (Message.End x) whole buffer = Call.Says (Call.End x)
 message_in Message.InputClosed whole buffer = Call.Says Call.InputClosed
 message_in (Message.Terminal o) whole buffer = Call.Says (Call.Terminal o)
 
-abbrev pub wrote_as : Wrote → (buffer : List ℕ) → Answer
-wrote_as Wrote.None buffer = Call.Nothing
-wrote_as (Wrote.Message m whole) buffer = message_in m whole buffer
-wrote_as (Wrote.Refused x) buffer = Call.Refused (number x)
+abbrev pub wrote_as : (Result (Option (Message × ℕ)) Refusal) → (buffer : List ℕ) → Answer
+wrote_as (Ok None) buffer = Call.Nothing
+wrote_as (Ok (Some (m, whole))) buffer = message_in m whole buffer
+wrote_as (Err x) buffer = Call.Refused (number x)
 
 unfoldable pub answer_entry : State → Entry → Answer
 answer_entry s (call c) = answer s c
@@ -90,13 +86,13 @@ run_entries s (e ∷ es) = record { entry = e; answer = answer_entry s e } ∷ r
 -- ---- the calls of a list
 
 -- the call that a record's bytes make: 93 credit on pool Output, 94 input, 96 end_input, 97 disconnect
-unfoldable pub call_of : Conf → (now : ℕ) → (bytes : List ℕ) → Parsed → Option Call
-call_of conf now b (Parsed.Read (Record.Adjust units)) = some (Call.credit conf.key Pool.Output units)
-call_of conf now b (Parsed.Read (Record.Data n)) = some (Call.input conf.key (drop 9 b))
-call_of conf now b (Parsed.Read (Record.Extended n)) = none
-call_of conf now b (Parsed.Read Record.Eof) = some (Call.end_input conf.key)
-call_of conf now b (Parsed.Read Record.Close) = some (Call.disconnect now)
-call_of conf now b (Parsed.Refused x) = none
+unfoldable pub call_of : Conf → (now : ℕ) → (bytes : List ℕ) → Result Record Refusal → Option Call
+call_of conf now b (Ok (Record.Adjust units)) = Some (Call.credit conf.key Pool.Output units)
+call_of conf now b (Ok (Record.Data n)) = Some (Call.input conf.key (drop 9 b))
+call_of conf now b (Ok (Record.Extended n)) = None
+call_of conf now b (Ok Record.Eof) = Some (Call.end_input conf.key)
+call_of conf now b (Ok Record.Close) = Some (Call.disconnect now)
+call_of conf now b (Err x) = None
 
 -- a record is written into a buffer of at least chunk + 13 bytes, and 43
 abbrev pub roomy : Conf → (buffer : List ℕ) → Bool
@@ -122,16 +118,16 @@ is_untaken Call.Nothing = false
 
 -- the call that an entry makes, where it is answered so
 unfoldable pub made : Conf → Entry → Answer → Option Call
-made conf (call c) a = some c
-made conf (read_record now channel b) a = cond (is_channel conf.limits) (call_of conf now b (read channel b)) none
+made conf (call c) a = Some c
+made conf (read_record now channel b) a = cond (is_channel conf.limits) (call_of conf now b (read channel b)) None
 made conf (write_record channel buffer) a =
     cond (is_channel conf.limits && roomy conf buffer)
-    (cond (is_untaken a) none (some (Call.next_message (take conf.limits.chunk (drop 13 buffer)))))
-    none
+    (cond (is_untaken a) None (Some (Call.next_message (take conf.limits.chunk (drop 13 buffer)))))
+    None
 
 abbrev pub cons_call : Option Call → List Call → List Call
-cons_call none cs = cs
-cons_call (some c) cs = c ∷ cs
+cons_call None cs = cs
+cons_call (Some c) cs = c ∷ cs
 
 abbrev pub calls_of : Conf → List EntryDone → List Call
 calls_of conf [] = []
@@ -139,8 +135,8 @@ calls_of conf (d ∷ ds) = cons_call (made conf d.entry d.answer) (calls_of conf
 
 -- the calls made, each with its entry's answer
 abbrev pub cons_done : Option Call → Answer → List Done → List Done
-cons_done none a ds = ds
-cons_done (some c) a ds = record { call = c; answer = a } ∷ ds
+cons_done None a ds = ds
+cons_done (Some c) a ds = record { call = c; answer = a } ∷ ds
 
 abbrev pub dones_of : Conf → List EntryDone → List Done
 dones_of conf [] = []
@@ -200,7 +196,7 @@ pub record Whole (conf : Conf) (now : ℕ) (bytes lengths : List ℕ) : Type 0 w
   -- from open on no entry is refused by 10, 11 or 12
   pub ranged : (es : List Entry) (e : Entry) → is_stop (answer_entry (after_entries (opened conf now bytes lengths) es) e) ≡ false
   -- an entry that makes no call is refused by a number of its own, and leaves runner and stores as they were
-  pub refused : (es : List Entry) (e : Entry) → made conf e (answer_entry (after_entries (opened conf now bytes lengths) es) e) ≡ none
+  pub refused : (es : List Entry) (e : Entry) → made conf e (answer_entry (after_entries (opened conf now bytes lengths) es) e) ≡ None
       → (next_entry (after_entries (opened conf now bytes lengths) es) e ≡ after_entries (opened conf now bytes lengths) es)
       × ((n : ℕ) × (answer_entry (after_entries (opened conf now bytes lengths) es) e ≡ Call.Refused n) × (among n (of_entry e) ≡ true))
   -- a write answered 40 leaves the Terminal with the runner: next_message gives it, into any buffer, and its status is one that no

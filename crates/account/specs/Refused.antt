@@ -1,19 +1,16 @@
 -- Demand 1: a refusal carries its number and leaves state, stores and buffers unchanged. Over EVERY state, whether a list of
 -- calls from open reaches it or not. Stale and Late are answers and no refusals: Stale changes nothing either, a Late input is
 -- charged. Of the lines of a card crate `grammar` tells.
-use Rattle.std.specs.Prelude.{true, cond, ◌&&◌, ◌||◌, ◌≡◌, List, [], ◌∷◌, ℕ}
-use Rattle.exec.specs.declared.MaybeStatus.{MaybeStatus}
+use Rattle.std.specs.Prelude.{true, cond, ◌&&◌, ◌||◌, ◌≡◌, List, [], ◌∷◌, ℕ, Option, Err}
+use Rattle.exec.specs.declared.Status.{Status}
 use Rattle.exec.specs.declared.Refusal.{Refusal}
 use Rattle.exec.specs.Limits.{is_valid}
 use Rattle.exec.specs.Refusal.{number}
 use Rattle.runner.specs.Calls as Calls
 use Rattle.runner.specs.Range.{bytes_do, lengths_do}
-use Rattle.codec.specs.declared.Parsed.TheVariants as Parsed
 use Rattle.codec.specs.declared.Record.{Record}
-use Rattle.codec.specs.declared.Written.TheVariants as Written
 use Rattle.codec.specs.Codec as Codec
 use Rattle.codec.specs.Codec.{WrittenAfter}
-use Rattle.exits.specs.declared.Told.TheVariants as Told
 use Rattle.exits.specs.Exit as Exit
 use Rattle.channel.specs.Calls as Channel
 use Rattle.calls.specs.Call as Call
@@ -30,7 +27,7 @@ open_answer conf now bytes lengths = replied (Calls.«open» conf.key conf.limit
 
 -- a writer that refuses does so by one of the numbers, and leaves the buffer as it was
 abbrev pub Unwritten : List ℕ → WrittenAfter → (buffer : List ℕ) → Type 0
-Unwritten numbers w buffer = (x : Refusal) → w.answer ≡ Written.Refused x → (among (number x) numbers ≡ true) × (w.buffer ≡ buffer)
+Unwritten numbers w buffer = (x : Refusal) → w.answer ≡ Err x → (among (number x) numbers ≡ true) × (w.buffer ≡ buffer)
 
 -- DEMAND 1, of refusals: for every state, call or record, and number
 pub record Refusals : Type 0 where
@@ -60,7 +57,7 @@ pub record Refusals : Type 0 where
   -- what writes the bytes of a record, without a runner
   pub write_kept : (channel : ℕ) (rec : Record) (payload buffer : List ℕ) → Unwritten (20 ∷ 25 ∷ []) (Codec.write channel rec payload buffer) buffer
   pub lay_kept : (channel : ℕ) (rec : Record) (buffer : List ℕ) → Unwritten (25 ∷ []) (Codec.lay channel rec buffer) buffer
-  pub close_kept : (channel : ℕ) (status : MaybeStatus) (buffer : List ℕ) → Unwritten (25 ∷ 40 ∷ []) (Exit.close channel status buffer) buffer
+  pub close_kept : (channel : ℕ) (status : Option Status) (buffer : List ℕ) → Unwritten (25 ∷ 40 ∷ []) (Exit.close channel status buffer) buffer
   -- and what reads them, which changes nothing
-  pub read_number : (channel : ℕ) (bytes : List ℕ) (x : Refusal) → Codec.read channel bytes ≡ Parsed.Refused x → among (number x) (20 ∷ 21 ∷ 22 ∷ 23 ∷ []) ≡ true
-  pub request_number : (channel : ℕ) (bytes : List ℕ) (x : Refusal) → Exit.read channel bytes ≡ Told.Refused x → among (number x) (20 ∷ 21 ∷ 22 ∷ 41 ∷ []) ≡ true
+  pub read_number : (channel : ℕ) (bytes : List ℕ) (x : Refusal) → Codec.read channel bytes ≡ Err x → among (number x) (20 ∷ 21 ∷ 22 ∷ 23 ∷ []) ≡ true
+  pub request_number : (channel : ℕ) (bytes : List ℕ) (x : Refusal) → Exit.read channel bytes ≡ Err x → among (number x) (20 ∷ 21 ∷ 22 ∷ 41 ∷ []) ≡ true

@@ -1,21 +1,14 @@
 -- What a call leaves and answers: the definition that the code's promise cites, and nothing else; and lists of calls.
-use Rattle.std.specs.Prelude.{List, [], ◌∷◌, ℕ, zero, suc, take}
-use Rattle.exec.specs.declared.Receipt.TheVariants as Receipt
-use Rattle.exec.specs.declared.Received.{Received}
-use Rattle.exec.specs.declared.Reply.{Reply}
+use Rattle.std.specs.Prelude.{List, [], ◌∷◌, ℕ, take, Option, Result, Some, None, Ok, Err, Bool}
+use Rattle.runner.specs.declared.answer.Message.{Message}
+use Rattle.runner.specs.declared.answer.Request.{Request}
+use Rattle.exec.specs.declared.Key.{Key}
+use Rattle.exec.specs.declared.Limits.{Limits}
+use Rattle.exec.specs.declared.Receipt.{Receipt}
+use Rattle.exec.specs.declared.Refusal.{Refusal}
 use Rattle.exec.specs.Refusal.{number}
-use Rattle.runner.specs.declared.answer.Asked.{Asked}
-use Rattle.runner.specs.declared.answer.Count.{Count}
-use Rattle.runner.specs.declared.answer.KeyAnswer.{KeyAnswer}
-use Rattle.runner.specs.declared.answer.LimitsAnswer.{LimitsAnswer}
 use Rattle.runner.specs.declared.answer.Message as Messages
-use Rattle.runner.specs.declared.answer.Message.TheVariants as Message
 use Rattle.runner.specs.declared.answer.Request as Requests
-use Rattle.runner.specs.declared.answer.Request.TheVariants as Request
-use Rattle.runner.specs.declared.answer.Said.{Said}
-use Rattle.runner.specs.declared.answer.Taken.{Taken}
-use Rattle.runner.specs.declared.answer.Truth.{Truth}
-use Rattle.runner.specs.declared.answer.When.{When}
 use Rattle.runner.specs.declared.runner.Runner.{Runner}
 use Rattle.runner.specs.Calls as Calls
 use Rattle.calls.specs.Call as Call
@@ -29,39 +22,39 @@ pub record State : Type 0 where
 
 -- ---- 01's number or value of each answer
 
-abbrev pub replied : Reply → Answer
-replied Reply.Ok = Call.Ok
-replied (Reply.Refused x) = Call.Refused (number x)
+-- what a call gives, told as an answer: a value by its own, a refusal by its number
+abbrev pub answered : {A : Type 0} → (A → Answer) → Result A Refusal → Answer
+answered told (Ok x) = told x
+answered told (Err x) = Call.Refused (number x)
 
-abbrev pub received_as : Received → Answer
-received_as (Received.Receipt Receipt.Applied) = Call.Applied
-received_as (Received.Receipt Receipt.Stale) = Call.Stale
-received_as (Received.Receipt Receipt.Late) = Call.Late
-received_as (Received.Refused x) = Call.Refused (number x)
+abbrev pub replied : Result (Unit {0}) Refusal → Answer
+replied = answered (λ x. Call.Ok)
 
-abbrev pub took : Taken → Answer
-took (Taken.Bytes n) = Call.Taken n
-took (Taken.Refused x) = Call.Refused (number x)
+abbrev pub receipt_of : Receipt → Answer
+receipt_of Receipt.Applied = Call.Applied
+receipt_of Receipt.Stale = Call.Stale
+receipt_of Receipt.Late = Call.Late
 
-abbrev pub counts : Count → Answer
-counts (Count.Is n) = Call.Value n
-counts (Count.Refused x) = Call.Refused (number x)
+abbrev pub received_as : Result Receipt Refusal → Answer
+received_as = answered receipt_of
 
-abbrev pub holds : Truth → Answer
-holds (Truth.Is b) = Call.Truth b
-holds (Truth.Refused x) = Call.Refused (number x)
+abbrev pub took : Result ℕ Refusal → Answer
+took = answered Call.Taken
 
-abbrev pub fires : When → Answer
-fires (When.Is d) = Call.Time d
-fires (When.Refused x) = Call.Refused (number x)
+abbrev pub counts : Result ℕ Refusal → Answer
+counts = answered Call.Value
 
-abbrev pub its_key : KeyAnswer → Answer
-its_key (KeyAnswer.Is k) = Call.IsKey k
-its_key (KeyAnswer.Refused x) = Call.Refused (number x)
+abbrev pub holds : Result Bool Refusal → Answer
+holds = answered Call.Truth
 
-abbrev pub its_limits : LimitsAnswer → Answer
-its_limits (LimitsAnswer.Is l) = Call.AreLimits l
-its_limits (LimitsAnswer.Refused x) = Call.Refused (number x)
+abbrev pub fires : Result (Option ℕ) Refusal → Answer
+fires = answered Call.Time
+
+abbrev pub its_key : Result Key Refusal → Answer
+its_key = answered Call.IsKey
+
+abbrev pub its_limits : Result Limits Refusal → Answer
+its_limits = answered Call.AreLimits
 
 abbrev pub request_of : Requests.Request → Answer
 request_of (Request.Terminate c) = Call.Asks (Call.Terminate c)
@@ -69,10 +62,12 @@ request_of (Request.Discard x) = Call.Asks (Call.Discard x)
 request_of Request.CloseInput = Call.Asks Call.CloseInput
 request_of Request.Settle = Call.Asks Call.Settle
 
-abbrev pub asks : Asked → Answer
-asks Asked.None = Call.Nothing
-asks (Asked.Request q) = request_of q
-asks (Asked.Refused x) = Call.Refused (number x)
+abbrev pub maybe_request_of : Option Request → Answer
+maybe_request_of None = Call.Nothing
+maybe_request_of (Some q) = request_of q
+
+abbrev pub asks : Result (Option Request) Refusal → Answer
+asks = answered maybe_request_of
 
 -- the payload of an Output is the first length bytes of the buffer that the call left
 abbrev pub message_of : Messages.Message → (buffer : List ℕ) → Answer
@@ -83,15 +78,15 @@ message_of (Message.End x) buffer = Call.Says (Call.End x)
 message_of Message.InputClosed buffer = Call.Says Call.InputClosed
 message_of (Message.Terminal o) buffer = Call.Says (Call.Terminal o)
 
-abbrev pub says : Said → (buffer : List ℕ) → Answer
-says Said.None buffer = Call.Nothing
-says (Said.Message m) buffer = message_of m buffer
-says (Said.Refused x) buffer = Call.Refused (number x)
+abbrev pub maybe_message_of : Option Message → (buffer : List ℕ) → Answer
+maybe_message_of None buffer = Call.Nothing
+maybe_message_of (Some m) buffer = message_of m buffer
 
--- pending_input's refusal is its number, 0 where there is none
-abbrev pub waits : (refusal : ℕ) (bytes : List ℕ) → Answer
-waits zero bytes = Call.Pending bytes
-waits (suc n) bytes = Call.Refused (suc n)
+abbrev pub says : Result (Option Message) Refusal → (buffer : List ℕ) → Answer
+says said buffer = answered (λ m. maybe_message_of m buffer) said
+
+abbrev pub waits : Result (List ℕ) Refusal → Answer
+waits = answered Call.Pending
 
 -- ---- a call
 
@@ -157,8 +152,7 @@ answer s (Call.discarded x n) = replied (Calls.discarded s.runner x n).reply
 answer s (Call.output_closed x) = replied (Calls.output_closed s.runner x).reply
 answer s (Call.output_failed x) = replied (Calls.output_failed s.runner x).reply
 answer s (Call.output_hung_up x) = replied (Calls.output_hung_up s.runner x).reply
-answer s Call.pending_input =
-    waits (Calls.pending_input s.runner s.bytes).refusal (Calls.pending_input s.runner s.bytes).pending
+answer s Call.pending_input = waits (Calls.pending_input s.runner s.bytes)
 answer s (Call.input_written n) = replied (Calls.input_written s.runner n s.lengths).noting.reply
 answer s Call.input_closed = replied (Calls.input_closed s.runner).reply
 answer s (Call.exited now x) = replied (Calls.exited s.runner now x).reply

@@ -1,30 +1,25 @@
 // The answers of a session card: what a line is answered, and that answer as a line of text in a lent area.
 #![tactic(auto)]
 
-ghost use Rattle.std.specs.Prelude.{◌+◌, ◌≤◌, length};
-ghost use Rattle.exec.specs.declared.Received.TheVariants as Received;
+ghost use Rattle.std.specs.Prelude.{List, ℕ, ◌+◌, ◌≤◌, length};
+ghost use Rattle.calls.specs.Call as Call;
 ghost use Rattle.account.specs.Step.{
-  replied,
-  received_as,
+  answered,
+  receipt_of,
   took,
-  counts,
-  holds,
-  fires,
-  asks,
-  says,
   request_of,
+  maybe_request_of,
   message_of,
+  maybe_message_of,
 };
 ghost use Rattle.syntax.specs.Answers.{answer_text, line_text};
 ghost use Rattle.printing.specs.Written.{Wrote};
+ghost use Rattle.printing.specs.Adding.{HasRoom, Adds, answer_most};
 ghost use Rattle.answering.specs.Answering.{answer_is, AnswerIs};
 
-use exec::{Deadline, Receipt, Received, Reply};
-use printing::{
-    alone, put_byte, put_number, put_outcome, put_output, put_time, wide, with_cause, with_first,
-    with_flag, with_number, with_stream,
-};
-use runner::answer::{Asked, Count, Message, Request, Said, Taken, Truth, When};
+use exec::{Receipt, Refusal};
+use printing::{Field, Text, name_of};
+use runner::answer::{Message, Request};
 
 // What a line is answered. The bytes of a pending and of an Output stand at the start of `work`.
 #[derive(Clone, Copy)]
@@ -33,11 +28,12 @@ pub enum Answer {
     Applied,
     Stale,
     Late,
-    Refused(u32),
+    // (No Err: a refused line is answered as any other, and the session goes on.)
+    Refused(Refusal),
     Taken(usize),
     Pending(usize),
     Value(usize),
-    Time(Deadline),
+    Time(Option<u64>),
     Truth(bool),
     Asks(Request),
     Says(Message),
@@ -46,149 +42,172 @@ pub enum Answer {
 
 // ---- what the runner's calls answer
 
-pub fn replied(reply: Reply) -> Answer
-    ensures { AnswerIs result (λ w. replied reply) }
-{
-    match reply {
-        Reply::Ok => Answer::Ok,
-        Reply::Refused(x) => Answer::Refused(x.number()),
+// What a call that is not refused gives, and what it is answered. (`From` alone would not do: it promises a relation, of which a
+// caller would have to go by the cases of a Result once more.)
+pub trait IntoAnswer: Copy {
+    ghost told: { Self → (work : List ℕ) → Call.Answer };
+
+    fn into_answer(self) -> Answer
+        ensures { AnswerIs result (told self) };
+}
+
+impl IntoAnswer for () {
+    ghost told = { λ x w. Call.Ok };
+
+    fn into_answer(self) -> Answer {
+        Answer::Ok
     }
 }
 
-fn receipt(receipt: Receipt) -> Answer
-    ensures { AnswerIs result (λ w. received_as (Received.Receipt receipt)) }
-{
-    match receipt {
-        Receipt::Applied => Answer::Applied,
-        Receipt::Stale => Answer::Stale,
-        Receipt::Late => Answer::Late,
+impl IntoAnswer for Receipt {
+    ghost told = { λ x w. receipt_of x };
+
+    fn into_answer(self) -> Answer {
+        match self {
+            Receipt::Applied => Answer::Applied,
+            Receipt::Stale => Answer::Stale,
+            Receipt::Late => Answer::Late,
+        }
     }
 }
 
-pub fn received(received: Received) -> Answer
-    ensures { AnswerIs result (λ w. received_as received) }
-{
-    match received {
-        Received::Receipt(x) => receipt(x),
-        Received::Refused(x) => Answer::Refused(x.number()),
+impl IntoAnswer for usize {
+    ghost told = { λ n w. Call.Value n };
+
+    fn into_answer(self) -> Answer {
+        Answer::Value(self)
     }
 }
 
-pub fn took(taken: Taken) -> Answer
+impl IntoAnswer for bool {
+    ghost told = { λ b w. Call.Truth b };
+
+    fn into_answer(self) -> Answer {
+        Answer::Truth(self)
+    }
+}
+
+impl IntoAnswer for Option<u64> {
+    ghost told = { λ d w. Call.Time d };
+
+    fn into_answer(self) -> Answer {
+        Answer::Time(self)
+    }
+}
+
+impl IntoAnswer for Option<Request> {
+    ghost told = { λ q w. maybe_request_of q };
+
+    fn into_answer(self) -> Answer {
+        match self {
+            None => Answer::Nothing,
+            Some(q) => Answer::Asks(q),
+        }
+    }
+}
+
+impl IntoAnswer for Option<Message> {
+    ghost told = { maybe_message_of };
+
+    fn into_answer(self) -> Answer {
+        match self {
+            None => Answer::Nothing,
+            Some(m) => Answer::Says(m),
+        }
+    }
+}
+
+impl<T: IntoAnswer> From<Result<T, Refusal>> for Answer {
+    ghost from_gives = { λ x a. AnswerIs a (λ w. answered (λ v. T.told v w) x) };
+
+    fn from(given: Result<T, Refusal>) -> Self {
+        match given {
+            Ok(x) => x.into_answer(),
+            Err(x) => Answer::Refused(x),
+        }
+    }
+}
+
+// (Not by the trait: there a number is a value.)
+pub fn taken(taken: Result<usize, Refusal>) -> Answer
     ensures { AnswerIs result (λ w. took taken) }
 {
     match taken {
-        Taken::Bytes(n) => Answer::Taken(n),
-        Taken::Refused(x) => Answer::Refused(x.number()),
-    }
-}
-
-pub fn counted(count: Count) -> Answer
-    ensures { AnswerIs result (λ w. counts count) }
-{
-    match count {
-        Count::Is(n) => Answer::Value(n),
-        Count::Refused(x) => Answer::Refused(x.number()),
-    }
-}
-
-pub fn told(truth: Truth) -> Answer
-    ensures { AnswerIs result (λ w. holds truth) }
-{
-    match truth {
-        Truth::Is(b) => Answer::Truth(b),
-        Truth::Refused(x) => Answer::Refused(x.number()),
-    }
-}
-
-pub fn fires(when: When) -> Answer
-    ensures { AnswerIs result (λ w. fires when) }
-{
-    match when {
-        When::Is(d) => Answer::Time(d),
-        When::Refused(x) => Answer::Refused(x.number()),
-    }
-}
-
-pub fn asked(asked: Asked) -> Answer
-    ensures { AnswerIs result (λ w. asks asked) }
-{
-    match asked {
-        Asked::None => Answer::Nothing,
-        Asked::Request(q) => Answer::Asks(q),
-        Asked::Refused(x) => Answer::Refused(x.number()),
-    }
-}
-
-pub fn said(said: Said) -> Answer
-    ensures { AnswerIs result (λ w. says said w) }
-{
-    match said {
-        Said::None => Answer::Nothing,
-        Said::Message(m) => Answer::Says(m),
-        Said::Refused(x) => Answer::Refused(x.number()),
+        Ok(n) => Answer::Taken(n),
+        Err(x) => Answer::Refused(x),
     }
 }
 
 // ---- an answer
 
 #[tactic(auto, unfolding(syntax::specs::Words::bytes, syntax::specs::Answers::answer_text))]
-fn put_request(request: Request, out: &mut [u8], at: usize) -> usize
-    requires { at + 131106 ≤ length out.old }
-    ensures { Wrote 131106 out.old out.new at result (answer_text (request_of request)) }
+fn put_request(request: Request, out: &mut Text<'_>)
+    requires { HasRoom answer_most out.old }
+    ensures { Adds answer_most out.old out.new (answer_text (request_of request)) }
 {
     match request {
-        Request::Terminate(x) => with_cause(b"Terminate", x, out, at),
-        Request::Discard(x) => with_stream(b"Discard", x, out, at),
-        Request::CloseInput => alone(b"CloseInput", out, at),
-        Request::Settle => alone(b"Settle", out, at),
+        Request::Terminate(x) => out.with(b"Terminate", x),
+        Request::Discard(x) => out.with(b"Discard", x),
+        Request::CloseInput => out.alone(b"CloseInput"),
+        Request::Settle => out.alone(b"Settle"),
     }
 }
 
 #[tactic(auto, unfolding(syntax::specs::Words::bytes, syntax::specs::Answers::answer_text))]
-fn put_message(message: Message, work: &[u8], out: &mut [u8], at: usize) -> usize
-    requires { (length work.now ≤ 65536) × (at + 131106 ≤ length out.old) }
-    ensures { Wrote 131106 out.old out.new at result (answer_text (message_of message work.now)) }
+fn put_message(message: Message, work: &[u8], out: &mut Text<'_>)
+    requires { (length work.now ≤ 65536) × HasRoom answer_most out.old }
+    ensures { Adds answer_most out.old out.new (answer_text (message_of message work.now)) }
 {
     match message {
-        Message::Credit(n) => with_number(b"Credit", wide(n), out, at),
-        Message::Started => alone(b"Started", out, at),
-        Message::Output(x, n) => put_output(x, n, work, out, at),
-        Message::End(x) => with_stream(b"End", x, out, at),
-        Message::InputClosed => alone(b"InputClosed", out, at),
-        Message::Terminal(o) => put_outcome(o, out, at),
+        Message::Credit(n) => out.with(b"Credit", n),
+        Message::Started => out.alone(b"Started"),
+        Message::Output(x, n) => out.with_first(name_of(x), n, work),
+        Message::End(x) => out.with(b"End", x),
+        Message::InputClosed => out.alone(b"InputClosed"),
+        Message::Terminal(o) => o.put(out),
     }
 }
 
 #[tactic(auto, unfolding(syntax::specs::Words::bytes, syntax::specs::Answers::answer_text))]
-fn put_answer(answer: Answer, work: &[u8], out: &mut [u8], at: usize) -> usize
-    requires { (length work.now ≤ 65536) × (at + 131106 ≤ length out.old) }
-    ensures { Wrote 131106 out.old out.new at result (answer_text (answer_is answer work.now)) }
+fn put_answer(answer: Answer, work: &[u8], out: &mut Text<'_>)
+    requires { (length work.now ≤ 65536) × HasRoom answer_most out.old }
+    ensures { Adds answer_most out.old out.new (answer_text (answer_is answer work.now)) }
 {
     match answer {
-        Answer::Ok => alone(b"ok", out, at),
-        Answer::Applied => alone(b"Applied", out, at),
-        Answer::Stale => alone(b"Stale", out, at),
-        Answer::Late => alone(b"Late", out, at),
-        Answer::Refused(n) => with_number(b"refused", wide(n), out, at),
-        Answer::Taken(n) => with_number(b"taken", n as u64, out, at),
-        Answer::Pending(n) => with_first(b"pending", n, work, out, at),
-        Answer::Value(n) => with_number(b"value", n as u64, out, at),
-        Answer::Time(t) => put_time(t, out, at),
-        Answer::Truth(b) => with_flag(b"value", b, out, at),
-        Answer::Asks(q) => put_request(q, out, at),
-        Answer::Says(m) => put_message(m, work, out, at),
-        Answer::Nothing => alone(b"none", out, at),
+        Answer::Ok => out.alone(b"ok"),
+        Answer::Applied => out.alone(b"Applied"),
+        Answer::Stale => out.alone(b"Stale"),
+        Answer::Late => out.alone(b"Late"),
+        Answer::Refused(x) => out.with(b"refused", x.number()),
+        Answer::Taken(n) => out.with(b"taken", n),
+        Answer::Pending(n) => out.with_first(b"pending", n, work),
+        Answer::Value(n) => out.with(b"value", n),
+        Answer::Time(None) => out.alone(b"none"),
+        Answer::Time(Some(t)) => out.with(b"value", t),
+        Answer::Truth(b) => out.with(b"value", b),
+        Answer::Asks(q) => put_request(q, out),
+        Answer::Says(m) => put_message(m, work, out),
+        Answer::Nothing => out.alone(b"none"),
     }
 }
 
-// The line of an answer, with its end, and the index behind it.
+// The line of an answer, with its end.
+fn put_line(line: u64, answer: Answer, work: &[u8], out: &mut Text<'_>)
+    requires { (length work.now ≤ 65536) × HasRoom 131200 out.old }
+    ensures { Adds 131200 out.old out.new (line_text line (answer_is answer work.now)) }
+{
+    line.put(out);
+    out.put_byte(b',');
+    put_answer(answer, work, out);
+    out.put_byte(b'\n');
+}
+
+// The same in a lent area, from index `at` on; and the index behind it.
 pub fn write_line(line: u64, answer: Answer, work: &[u8], out: &mut [u8], at: usize) -> usize
     requires { (length work.now ≤ 65536) × (at + 131200 ≤ length out.old) }
     ensures { Wrote 131200 out.old out.new at result (line_text line (answer_is answer work.now)) }
 {
-    let m = put_number(line, out, at);
-    let m2 = put_byte(44, out, m);
-    let m3 = put_answer(answer, work, out, m2);
-    put_byte(10, out, m3)
+    let mut text = Text { area: out, end: at };
+    put_line(line, answer, work, &mut text);
+    text.end
 }

@@ -10,12 +10,9 @@
 #![tactic(auto)]
 
 use credit::sender::Credit;
-use exec::{
-    Cause, Deadline, Key, LaunchResult, Limits, MaybeStatus, Receipt, Received, Reply, Timers,
-    Window,
-};
+use exec::{Cause, Key, Limits, Receipt, Refusal, Timers, Window};
 use inbox::receiver::Granted;
-use runner::answer::{Message, Said, Taken, When};
+use runner::answer::Message;
 use runner::runner::Runner;
 
 // So many steps of arithmetic, each on the result of the last: the work between two turns.
@@ -33,28 +30,28 @@ pub fn add(a: u64, b: u64) -> u64 {
 
 // What an answer adds to the sum.
 
-pub fn of_received(received: Received) -> u64 {
+pub fn of_received(received: Result<Receipt, Refusal>) -> u64 {
     match received {
-        Received::Receipt(receipt) => match receipt {
+        Ok(receipt) => match receipt {
             Receipt::Applied => 1,
             Receipt::Stale => 2,
             Receipt::Late => 3,
         },
-        Received::Refused(_) => 4,
+        Err(_) => 4,
     }
 }
 
-pub fn of_reply(reply: Reply) -> u64 {
+pub fn of_reply(reply: Result<(), Refusal>) -> u64 {
     match reply {
-        Reply::Ok => 1,
-        Reply::Refused(_) => 4,
+        Ok(()) => 1,
+        Err(_) => 4,
     }
 }
 
-pub fn of_taken(taken: Taken) -> u64 {
+pub fn of_taken(taken: Result<usize, Refusal>) -> u64 {
     match taken {
-        Taken::Bytes(n) => n as u64,
-        Taken::Refused(_) => 4,
+        Ok(n) => n as u64,
+        Err(_) => 4,
     }
 }
 
@@ -69,19 +66,19 @@ pub fn of_message(message: Message) -> u64 {
     }
 }
 
-pub fn of_said(said: Said) -> u64 {
+pub fn of_said(said: Result<Option<Message>, Refusal>) -> u64 {
     match said {
-        Said::None => 1,
-        Said::Message(message) => of_message(message),
-        Said::Refused(_) => 4,
+        Ok(None) => 1,
+        Ok(Some(message)) => of_message(message),
+        Err(_) => 4,
     }
 }
 
 // Whether a deadline is the one expected.
-fn of_deadline(deadline: Deadline, due: u64) -> u64 {
+fn of_deadline(deadline: Option<u64>, due: u64) -> u64 {
     match deadline {
-        Deadline::Never => 2,
-        Deadline::At(at) => {
+        None => 2,
+        Some(at) => {
             if at == due {
                 return 1;
             }
@@ -90,10 +87,10 @@ fn of_deadline(deadline: Deadline, due: u64) -> u64 {
     }
 }
 
-pub fn of_when(when: When, due: u64) -> u64 {
+pub fn of_when(when: Result<Option<u64>, Refusal>, due: u64) -> u64 {
     match when {
-        When::Is(deadline) => of_deadline(deadline, due),
-        When::Refused(_) => 4,
+        Ok(deadline) => of_deadline(deadline, due),
+        Err(_) => 4,
     }
 }
 
@@ -106,7 +103,7 @@ pub fn key() -> Key {
 pub fn running(limits: Limits, timeout: u64, store: &[u8], lengths: &[u32], units: u32) -> Runner {
     let timers = Timers::new(1000, 1000).timeout(timeout);
     let mut r = Runner::open(key(), limits, timers, 0, store, lengths).runner;
-    r = r.launched(LaunchResult::Started).runner;
+    r = r.launched(Ok(())).runner;
     r.flags.started_message = false;
     let agreed = limits.input;
     let granted = Granted {
@@ -139,7 +136,7 @@ pub fn in_frames(chunk: u32, window: u32) -> Limits {
 // library whose loop ticks exports it beside the loop.
 pub fn rest(r: Runner, now: u64) -> u64 {
     let cancelled = r.cancel(now, key(), Cause::Cancelled).runner;
-    let exited = cancelled.exited(now, MaybeStatus::None).runner;
+    let exited = cancelled.exited(now, None).runner;
     let noting = exited.disconnect(now);
     let reply = noting.reply;
     of_reply(reply)

@@ -4,8 +4,7 @@
 use bench::{
     add, in_bytes, key, of_received, of_reply, of_said, of_taken, of_when, rest, running, work,
 };
-use exec::{Pool, Stream};
-use runner::answer::Taken;
+use exec::{Pool, Refusal, Stream};
 
 // Time, input that the workload takes, output that it writes, the messages until none waits (Credit, Output, none), the peer's
 // credit for that output, and the next deadline.
@@ -34,8 +33,7 @@ pub extern "C" fn bench_adapter(
         let received = hearing.received;
         sum = add(sum, of_received(received));
         r = hearing.runner;
-        let mut refusal = 0;
-        let waiting = r.pending_input(store, &mut refusal).len();
+        let waiting = r.pending_input(store).map_or(0, |bytes| bytes.len());
         sum = add(sum, waiting as u64);
         r = r.input_written(lengths, waiting).runner;
         let taking = r.output(Stream::Stdout, store, bytes);
@@ -60,10 +58,10 @@ pub extern "C" fn bench_adapter(
 }
 
 // The units of stdout's window that a turn's output takes.
-fn spent(taken: Taken) -> u32 {
+fn spent(taken: Result<usize, Refusal>) -> u32 {
     match taken {
-        Taken::Bytes(n) => (n % 4294967296) as u32,
-        Taken::Refused(_) => 0,
+        Ok(n) => (n % 4294967296) as u32,
+        Err(_) => 0,
     }
 }
 

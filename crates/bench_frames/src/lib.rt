@@ -26,8 +26,7 @@ pub extern "C" fn bench_frames(
             sum = add(sum, of_received(received));
             r = hearing.runner;
         }
-        let mut refusal = 0;
-        let waiting = r.pending_input(store, &mut refusal).len();
+        let waiting = r.pending_input(store).map_or(0, |bytes| bytes.len());
         sum = add(sum, waiting as u64);
         let written = r.input_written(lengths, waiting).runner;
         let saying = written.next_message(store, buffer);

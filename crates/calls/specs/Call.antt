@@ -1,13 +1,11 @@
 -- The runner's calls after open, and what they answer: 01's words, numbers and values. Nothing here knows the runner.
-use Rattle.std.specs.Prelude.{Bool, true, false, ◌≡◌, refl, List, ℕ}
+use Rattle.std.specs.Prelude.{Bool, true, false, ◌≡◌, refl, List, ℕ, Option, Result, Some, None}
 use Rattle.std.proofs.lemmas.Bool.{false≢true}
-use Rattle.std.proofs.Math.Option.{Option, none, some}
+use Rattle.exec.specs.declared.LaunchFailure.{LaunchFailure}
+use Rattle.exec.specs.declared.Status.{Status}
 use Rattle.exec.specs.declared.Cause.{Cause}
-use Rattle.exec.specs.declared.Deadline.{Deadline}
 use Rattle.exec.specs.declared.Key.{Key}
-use Rattle.exec.specs.declared.LaunchResult.{LaunchResult}
 use Rattle.exec.specs.declared.Limits.{Limits}
-use Rattle.exec.specs.declared.MaybeStatus.{MaybeStatus}
 use Rattle.exec.specs.declared.Outcome.{Outcome}
 use Rattle.exec.specs.declared.Pool.{Pool}
 use Rattle.exec.specs.declared.Settlement.{Settlement}
@@ -28,7 +26,7 @@ pub data Call : Type 0 where
   input : Key → (bytes : List ℕ) → Call
   end_input : Key → Call
   cancel : (now : ℕ) → Key → Cause → Call
-  launched : LaunchResult → Call
+  launched : Result (Unit {0}) LaunchFailure → Call
   read_allowance : Stream → Call
   output : Stream → (bytes : List ℕ) → Call
   discarded : Stream → (bytes : ℕ) → Call
@@ -38,7 +36,7 @@ pub data Call : Type 0 where
   pending_input : Call
   input_written : (bytes : ℕ) → Call
   input_closed : Call
-  exited : (now : ℕ) → MaybeStatus → Call
+  exited : (now : ℕ) → Option Status → Call
   settled : Settlement → Call
   dropped : (now : ℕ) → Call
   reset : (now : ℕ) → Call
@@ -56,37 +54,37 @@ pub data Call : Type 0 where
 
 -- a call's own time
 abbrev pub time_of : Call → Option ℕ
-time_of key = none
-time_of limits = none
-time_of (credit k p u) = none
-time_of (input k b) = none
-time_of (end_input k) = none
-time_of (cancel now k c) = some now
-time_of (launched x) = none
-time_of (read_allowance x) = none
-time_of (output x b) = none
-time_of (discarded x n) = none
-time_of (output_closed x) = none
-time_of (output_failed x) = none
-time_of (output_hung_up x) = none
-time_of pending_input = none
-time_of (input_written n) = none
-time_of input_closed = none
-time_of (exited now x) = some now
-time_of (settled x) = none
-time_of (dropped now) = some now
-time_of (reset now) = some now
-time_of (disconnect now) = some now
-time_of (tick now) = some now
-time_of deadline = none
-time_of next_request = none
-time_of (next_message b) = none
-time_of is_finished = none
-time_of is_detached = none
-time_of awaits_settlement = none
-time_of memory_bound = none
-time_of buffered = none
-time_of high_water = none
+time_of key = None
+time_of limits = None
+time_of (credit k p u) = None
+time_of (input k b) = None
+time_of (end_input k) = None
+time_of (cancel now k c) = Some now
+time_of (launched x) = None
+time_of (read_allowance x) = None
+time_of (output x b) = None
+time_of (discarded x n) = None
+time_of (output_closed x) = None
+time_of (output_failed x) = None
+time_of (output_hung_up x) = None
+time_of pending_input = None
+time_of (input_written n) = None
+time_of input_closed = None
+time_of (exited now x) = Some now
+time_of (settled x) = None
+time_of (dropped now) = Some now
+time_of (reset now) = Some now
+time_of (disconnect now) = Some now
+time_of (tick now) = Some now
+time_of deadline = None
+time_of next_request = None
+time_of (next_message b) = None
+time_of is_finished = None
+time_of is_detached = None
+time_of awaits_settlement = None
+time_of memory_bound = None
+time_of buffered = None
+time_of high_water = None
 
 -- a message, an Output with its payload
 pub data Message : Type 0 where
@@ -112,7 +110,7 @@ pub data Answer : Type 0 where
   Taken : (count : ℕ) → Answer
   Pending : (bytes : List ℕ) → Answer
   Value : ℕ → Answer
-  Time : Deadline → Answer
+  Time : Option ℕ → Answer
   Truth : Bool → Answer
   Asks : Request → Answer
   Says : Message → Answer

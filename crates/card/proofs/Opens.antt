@@ -1,8 +1,8 @@
 -- A runner that is open stays open, so that places one after the other are the last.
+use Rattle.std.specs.Prelude.{Option, Some, None}
 use mathlib.Core.Bool.{Bool, true, false, cond, true≢false}
 use mathlib.Core.Path.{◌≡◌, refl, sym}
 use mathlib.Core.List.{List, [], ◌∷◌}
-use mathlib.Core.Option.{Option, none, some}
 use lib.Dec.{eqb, leb}
 use lib.ListN.{length}
 use Prim.Native.Nat.{ℕ}
@@ -27,8 +27,8 @@ either false x y h k = k
 
 later_open : (c : Option Call) (s : State) → is_open (later c s).stage ≡ true
 unfolding later
-later_open none s = refl
-later_open (some c) s = refl
+later_open None s = refl
+later_open (Some c) s = refl
 
 answer_open : (x : Feed.Stage) (line : List ℕ) → is_open x ≡ true → is_open (answer_of x line).stage ≡ true
 unfolding answer_of answered too_long

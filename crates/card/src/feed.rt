@@ -33,7 +33,10 @@ fn line_end(piece: &[u8], from: usize) -> usize
     requires { from ≤ length piece.now }
     ensures { (result ≡ from + line_length (drop from piece.now)) × (result ≤ length piece.now) }
 {
-    from + search::find(&piece[from..piece.len()], 10)
+    match search::find(&piece[from..], b'\n') {
+        Some(at) => from + at,
+        None => piece.len(),
+    }
 }
 
 impl Card {

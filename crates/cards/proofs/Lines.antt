@@ -1,9 +1,9 @@
 -- Lines behind the first one: each is answered as its call is, or by 30 where it makes none.
+use Rattle.std.specs.Prelude.{Option, Some, None}
 use mathlib.Core.Bool.{true, false, true≢false}
 use mathlib.Core.Path.{◌≡◌, refl, sym, ap, ◌∙◌}
 use mathlib.Core.List.{List, [], ◌∷◌, ◌++◌, map}
 use mathlib.Core.Logic.{inl, inr}
-use mathlib.Core.Option.{Option, none, some}
 use Prim.Native.Nat.{ℕ}
 use Rattle.calls.specs.Call as Call
 use Rattle.calls.specs.Call.{Call, Answer, Done}
@@ -25,12 +25,12 @@ Follow s [] = Unit
 Follow s (l ∷ ls) = Follows s l × Follow (next_by s l.call) ls
 
 after_cons : (o : Option Call) (s : State) (cs : List Call) → after s (cons_call o cs) ≡ after (next_by s o) cs
-after_cons none s cs = refl
-after_cons (some c) s cs = refl
+after_cons None s cs = refl
+after_cons (Some c) s cs = refl
 
 cons_append : (o : Option Call) (xs ys : List Call) → cons_call o (xs ++ ys) ≡ cons_call o xs ++ ys
-cons_append none xs ys = refl
-cons_append (some c) xs ys = refl
+cons_append None xs ys = refl
+cons_append (Some c) xs ys = refl
 
 -- from a stage with a runner on
 pub follow : (s : State) (ls : List (List ℕ)) → Follow s (lines_from (Running s) ls)
@@ -53,8 +53,8 @@ dones s [] f = refl
 dones s (l ∷ ls) f = by l.call l.answer f.0 (dones (next_by s l.call) ls f.1)
   where
     by : (o : Option Call) (a : Answer) → a ≡ answer_by s o → dones_of ls ≡ run (next_by s o) (calls_of ls) → cons_done o a (dones_of ls) ≡ run s (cons_call o (calls_of ls))
-    by none a e h = h
-    by (some c) a e h = rw (e, h) refl
+    by None a e h = h
+    by (Some c) a e h = rw (e, h) refl
 
 -- lines one after the other
 pub calls_append : (xs ys : List Line) → calls_of (xs ++ ys) ≡ calls_of xs ++ calls_of ys
@@ -66,28 +66,28 @@ parts s [] ys f = (tt, f)
 parts s (l ∷ xs) ys f = let p = parts (next_by s l.call) xs ys f.1 in ((f.0, p.0), rw (after_cons l.call s (calls_of xs)) p.1)
 
 -- one that is no call, and one that is
-pub no_call : (s : State) (l : Line) → Follows s l → l.call ≡ none → l.answer ≡ Call.Refused 30
+pub no_call : (s : State) (l : Line) → Follows s l → l.call ≡ None → l.answer ≡ Call.Refused 30
 no_call s l f e = rw e at f
 
-pub its_call : (s : State) (l : Line) (c : Call) → Follows s l → l.call ≡ some c → l.answer ≡ answer s c
+pub its_call : (s : State) (l : Line) (c : Call) → Follows s l → l.call ≡ Some c → l.answer ≡ answer s c
 its_call s l c f e = rw e at f
 
 pub data Said (s : State) (l : Line) : Type 0 where
-  bad : l.call ≡ none → l.answer ≡ Call.Refused 30 → Said s l
-  made : (c : Call) → l.call ≡ some c → l.answer ≡ answer s c → Said s l
+  bad : l.call ≡ None → l.answer ≡ Call.Refused 30 → Said s l
+  made : (c : Call) → l.call ≡ Some c → l.answer ≡ answer s c → Said s l
 
 pub said : (s : State) (l : Line) → Follows s l → Said s l
 said s l f = by l.call refl
   where
     by : (o : Option Call) → l.call ≡ o → Said s l
-    by none e = bad e (no_call s l f e)
-    by (some c) e = made c e (its_call s l c f e)
+    by None e = bad e (no_call s l f e)
+    by (Some c) e = made c e (its_call s l c f e)
 
 -- Terminal answers a call
-pub terminal_call : (s : State) (l : Line) → Follows s l → is_terminal l.answer ≡ true → (c : Call) × (l.call ≡ some c) × (l.answer ≡ answer s c)
+pub terminal_call : (s : State) (l : Line) → Follows s l → is_terminal l.answer ≡ true → (c : Call) × (l.call ≡ Some c) × (l.answer ≡ answer s c)
 terminal_call s l f h = by (said s l f)
   where
-    by : Said s l → (c : Call) × (l.call ≡ some c) × (l.answer ≡ answer s c)
+    by : Said s l → (c : Call) × (l.call ≡ Some c) × (l.answer ≡ answer s c)
     by (made c e a) = (c, e, a)
     by (bad e a) = absurd (true≢false (sym h ∙ ap is_terminal a))
 

@@ -1,9 +1,9 @@
 -- A card that opens a runner: its lines follow the runner, so that demand 3 and the turn, of the list of their calls, hold of them.
+use Rattle.std.specs.Prelude.{Option, Some, None}
 use mathlib.Core.Bool.{true, false, ◌||◌}
 use mathlib.Core.Path.{◌≡◌, refl, sym, ap, ◌∙◌, subst}
 use mathlib.Core.List.{List, [], ◌∷◌, ◌++◌}
 use mathlib.Core.Logic.{◌⊎◌, inl, inr}
-use mathlib.Core.Option.{Option, none, some}
 use Prim.Native.Nat.{ℕ}
 use native.Mathlib.Omega.{arith}
 use lib.Dec.{eqb}
@@ -99,7 +99,7 @@ module _ (o : Opening) (op : Opens o.conf o.now (zeros 65536) (zeros 1024)) wher
   -- a line that is answered by Terminal, as an entry
   record Ends (xs : List Line) (l : Line) : Type 0 where
     pub c : Call
-    pub is : l.call ≡ some c
+    pub is : l.call ≡ Some c
     pub before : run_entries s (entered (calls_of xs)) ≡ entries_of (dones_of xs)
     pub says : TurnClaim.answer_after o.conf o.now (zeros 65536) (zeros 1024) (entered (calls_of xs)) (call c) ≡ l.answer
 
@@ -162,17 +162,17 @@ over_lines : (ls : List (List ℕ)) (xs ys : List Line) (l : Line) → lines_fro
 over_lines [] [] ys l e = let z : ◌≡◌ {A = ℕ} 0 1 = cc in absurd (omega arith)
 over_lines [] (a ∷ xs) ys l e = let z : ◌≡◌ {A = ℕ} 0 1 = cc in absurd (omega arith)
 over_lines (x ∷ ls) [] ys l e =
-    let h : record { call = none; answer = (answer_of Over x).answer } ∷ lines_from (answer_of Over x).stage ls ≡ l ∷ ys = e in
-    let k : record { call = none; answer = (answer_of Over x).answer } ≡ l = cc in sym (ap (λ (m : Line). m.answer) k) ∙ ap (λ (a : Answered). a.answer) (refused_lines.over x)
+    let h : record { call = None; answer = (answer_of Over x).answer } ∷ lines_from (answer_of Over x).stage ls ≡ l ∷ ys = e in
+    let k : record { call = None; answer = (answer_of Over x).answer } ≡ l = cc in sym (ap (λ (m : Line). m.answer) k) ∙ ap (λ (a : Answered). a.answer) (refused_lines.over x)
 over_lines (x ∷ ls) (a ∷ xs) ys l e =
-    let h : record { call = none; answer = (answer_of Over x).answer } ∷ lines_from (answer_of Over x).stage ls ≡ a ∷ (xs ++ (l ∷ ys)) = e in
+    let h : record { call = None; answer = (answer_of Over x).answer } ∷ lines_from (answer_of Over x).stage ls ≡ a ∷ (xs ++ (l ∷ ys)) = e in
     let k : lines_from (answer_of Over x).stage ls ≡ xs ++ (l ∷ ys) = cc in over_lines ls xs ys l (rw (refused_lines.over x) at k)
 
 -- WHAT THE LINES OF ANY CARD ARE REFUSED BY
 pub numbers : (card : List ℕ) → Numbers card
 numbers card xs ys l n e h = by (lines_in card) xs e
   where
-    first : (line : List ℕ) (later : List (List ℕ)) → l ≡ record { call = none; answer = (answer_of First line).answer } → among n of_cards ≡ true
+    first : (line : List ℕ) (later : List (List ℕ)) → l ≡ record { call = None; answer = (answer_of First line).answer } → among n of_cards ≡ true
     first line later k = of_first n (refused_lines.unopened line n (sym (ap (λ (m : Line). m.answer) k) ∙ h)).1
 
     behind : (line : List ℕ) (later : List (List ℕ)) (zs : List Line) → lines_from (answer_of First line).stage later ≡ zs ++ (l ∷ ys)
@@ -193,5 +193,5 @@ numbers card xs ys l n e h = by (lines_in card) xs e
     by : (ls : List (List ℕ)) (zs : List Line) → lines_from First ls ≡ zs ++ (l ∷ ys) → among n of_cards ≡ true
     by [] [] k = let z : ◌≡◌ {A = ℕ} 0 1 = cc in absurd (omega arith)
     by [] (a ∷ zs) k = let z : ◌≡◌ {A = ℕ} 0 1 = cc in absurd (omega arith)
-    by (line ∷ later) [] k = first line later (let q : record { call = none; answer = (answer_of First line).answer } ∷ lines_from (answer_of First line).stage later ≡ l ∷ ys = k in cc)
-    by (line ∷ later) (a ∷ zs) k = behind line later zs (let q : record { call = none; answer = (answer_of First line).answer } ∷ lines_from (answer_of First line).stage later ≡ a ∷ (zs ++ (l ∷ ys)) = k in cc)
+    by (line ∷ later) [] k = first line later (let q : record { call = None; answer = (answer_of First line).answer } ∷ lines_from (answer_of First line).stage later ≡ l ∷ ys = k in cc)
+    by (line ∷ later) (a ∷ zs) k = behind line later zs (let q : record { call = None; answer = (answer_of First line).answer } ∷ lines_from (answer_of First line).stage later ≡ a ∷ (zs ++ (l ∷ ys)) = k in cc)

@@ -1,15 +1,12 @@
 -- Two cards, computed. Of one the times fall: opened at 1000 by one counter, it is cancelled at 20 and ticked at 19 and at 35 by another.
 -- On the other the turn is taken.
+use Rattle.std.specs.Prelude.{Option, Some, None, Ok}
 use mathlib.Core.Bool.{cond}
 use mathlib.Core.Path.{◌≡◌, refl, sym, ap, ◌∙◌}
 use mathlib.Core.List.{List, [], ◌∷◌, ◌++◌, map}
-use mathlib.Core.Option.{Option, none, some}
 use Prim.Native.Nat.{ℕ, ◌≤◌}
 use native.Mathlib.Omega.{arith}
 use Rattle.exec.specs.declared.Cause.TheVariants as Cause
-use Rattle.exec.specs.declared.Deadline.TheVariants.{At}
-use Rattle.exec.specs.declared.LaunchResult.TheVariants as LaunchResult
-use Rattle.exec.specs.declared.MaybeDuration.{MaybeDuration}
 use Rattle.exec.specs.declared.Stream.TheVariants.{Stdout, Stderr}
 use Rattle.exec.specs.Key.{new_key, admits}
 use Rattle.choice.specs.Order.{if_else, order}
@@ -45,15 +42,15 @@ use Rattle.cards.specs.Runs.{StartsOk, just_opened}
 
 abbrev calls_in : List (List ℕ) → List (Option Call)
 calls_in [] = []
-calls_in (l ∷ ls) = cond (is_short l) (line_call l) none ∷ calls_in ls
+calls_in (l ∷ ls) = cond (is_short l) (line_call l) None ∷ calls_in ls
 
-as_calls : (ls : List (List ℕ)) (cs : List Call) (s : State) → calls_in ls ≡ map some cs → answers_from (Running s) ls ≡ Session.answers_of (Step.run s cs)
+as_calls : (ls : List (List ℕ)) (cs : List Call) (s : State) → calls_in ls ≡ map Some cs → answers_from (Running s) ls ≡ Session.answers_of (Step.run s cs)
 as_calls [] [] s e = refl
 as_calls [] (c ∷ cs) s e = let z : ◌≡◌ {A = ℕ} 0 1 = cc in absurd (omega arith)
 as_calls (l ∷ ls) [] s e = let z : ◌≡◌ {A = ℕ} 0 1 = cc in absurd (omega arith)
 as_calls (l ∷ ls) (c ∷ cs) s e =
-    let h : cond (is_short l) (line_call l) none ≡ some c = cc in
-    let t : calls_in ls ≡ map some cs = cc in rw (later_line s l, h) (ap (λ (rest : List Answer). Step.answer s c ∷ rest) (as_calls ls cs (Step.next s c) t))
+    let h : cond (is_short l) (line_call l) None ≡ Some c = cc in
+    let t : calls_in ls ≡ map Some cs = cc in rw (later_line s l, h) (ap (λ (rest : List Answer). Step.answer s c ∷ rest) (as_calls ls cs (Step.next s c) t))
 
 -- ---- a card whose times fall
 
@@ -73,7 +70,7 @@ lines = bytes "message,16"
 
 abbrev made : List Call
 made = message
-    ∷ Call.launched LaunchResult.Started
+    ∷ Call.launched (Ok tt)
     ∷ Call.cancel 20 (new_key 7 2) Cause.Cancelled
     ∷ Call.tick 19
     ∷ Call.deadline
@@ -85,7 +82,7 @@ made = message
     ∷ message
     ∷ []
 
-are_calls : calls_in lines ≡ map some made
+are_calls : calls_in lines ≡ map Some made
 unfolding calls zeros
 are_calls = refl
 
@@ -94,7 +91,7 @@ answers = Call.Says (Call.Credit 8)
     ∷ Call.Ok
     ∷ Call.Applied
     ∷ Call.Ok
-    ∷ Call.Time (At 30)
+    ∷ Call.Time (Some 30)
     ∷ Call.Ok
     ∷ Call.Says Call.Started
     ∷ Call.Says Call.InputClosed
@@ -103,19 +100,19 @@ answers = Call.Says (Call.Credit 8)
     ∷ Call.Says (Call.Terminal cut_short)
     ∷ []
 
-computed : (bs lengths : List ℕ) → Session.answers_of (run (begun (timed MaybeDuration.None) 1000 bs lengths) made) ≡ answers
+computed : (bs lengths : List ℕ) → Session.answers_of (run (begun (timed None) 1000 bs lengths) made) ≡ answers
 unfolding next answer said admits if_else close_runner_input end_grace give_up abandon_launch abandon_open_streams begin_termination pass_grace terminate pass_timeout pass_settlement give_up_unless_clean pass_give_up drop_launch drop_streams pass_abandonment fire ticked cancelled cancel_answer cancel_next note_started note_launch launched_next is_ready outcome_of deadline_of sendable_of order choose output_paid output_sent effect payload fresh sent
 computed bs lengths = refl
 
 abbrev opening : Opening
-opening = record { conf = timed MaybeDuration.None; now = 1000 }
+opening = record { conf = timed None; now = 1000 }
 
 first : answer_of First (bytes "open,1000,7,2,4,B,8,B,8,0,never,10,5") ≡ record { stage = Running (just_opened opening); answer = Call.Ok }
 unfolding calls timeout open_of is_open opening_of limits_of timers_of
 first =
     let line = bytes "open,1000,7,2,4,B,8,B,8,0,never,10,5" in
-    let e : line_open line ≡ some opening = refl in
-    every_card.opens line opening refl (line_says line opening e) (opens MaybeDuration.None 1000)
+    let e : line_open line ≡ Some opening = refl in
+    every_card.opens line opening refl (line_says line opening e) (opens None 1000)
 
 -- its first line is answered ok
 pub starts : StartsOk (lines_in (bytes "open,1000,7,2,4,B,8,B,8,0,never,10,5\nmessage,16\nlaunched,0,-,-\ncancel,20,7,2,Cancelled\ntick,19\ndeadline\ntick,35\nmessage,16\nmessage,16\nmessage,16\nmessage,16\nmessage,16"))
@@ -130,7 +127,7 @@ prints_answers =
     (by_line _).printed
     ∙ ap (λ (a : Answered). text_from 0 (a.answer ∷ answers_from a.stage lines)) first
     ∙ ap (λ (rest : List Answer). text_from 0 (Call.Ok ∷ rest))
-    (as_calls lines made (just_opened opening) are_calls ∙ ap Session.answers_of (same_run (timed MaybeDuration.None) 1000 (zeros 65536) (zeros 1024) (opens MaybeDuration.None 1000) made) ∙ computed (zeros 65536) (zeros 1024))
+    (as_calls lines made (just_opened opening) are_calls ∙ ap Session.answers_of (same_run (timed None) 1000 (zeros 65536) (zeros 1024) (opens None 1000) made) ∙ computed (zeros 65536) (zeros 1024))
 
 -- ---- a card on which the turn is taken
 
@@ -155,7 +152,7 @@ rows = bytes "launched,0,-,-"
     ∷ bytes "message,16"
     ∷ []
 
-rows_calls : calls_in rows ≡ map some (TurnSession.calls ++ (message ∷ []))
+rows_calls : calls_in rows ≡ map Some (TurnSession.calls ++ (message ∷ []))
 unfolding rows calls zeros
 rows_calls = refl
 

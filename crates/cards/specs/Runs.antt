@@ -1,6 +1,5 @@
 -- A card that opens a runner makes one of demand 3's lists, and prints its answers: so demand 3 and the turn hold of what is printed.
-use Rattle.std.specs.Prelude.{true, false, ◌≡◌, List, [], ◌∷◌, ◌++◌, ℕ, ◌+◌, ◌^◌, ◌≤◌, ◌<◌}
-use Rattle.std.proofs.Math.Option.{none, some}
+use Rattle.std.specs.Prelude.{true, false, ◌≡◌, List, [], ◌∷◌, ◌++◌, ℕ, ◌+◌, ◌^◌, ◌≤◌, ◌<◌, Some, None}
 use mathlib.Core.List.{map}
 use Rattle.exec.specs.declared.Cause.{Cause}
 use Rattle.exec.specs.declared.Key.{Key}
@@ -66,11 +65,11 @@ pub record Demand (o : Opening) (lines : List Line) : Type 0 where
   pub marks : (xs ys : List Line) (l : Line) (u : Outcome) → lines ≡ xs ++ (l ∷ ys) → l.answer ≡ Call.Says (Call.Terminal u)
       → (x : Stream) → is_truncated u x ≡ cut (tally_of x (account_after o xs))
   -- an Applied cancel is the first of the three events
-  pub first : (xs ys : List Line) (l : Line) (t : ℕ) (k : Key) (c : Cause) → lines ≡ xs ++ (l ∷ ys) → l.call ≡ some (Call.cancel t k c) → l.answer ≡ Call.Applied
+  pub first : (xs ys : List Line) (l : Line) (t : ℕ) (k : Key) (c : Cause) → lines ≡ xs ++ (l ∷ ys) → l.call ≡ Some (Call.cancel t k c) → l.answer ≡ Call.Applied
       → (tick_a t (account_after o xs)).rep.begun ≡ false
   -- and Terminal has come by the fifth message asked for after a tick at or past t + grace + settlement
   pub late : (xs ys zs : List Line) (l m : Line) (t n : ℕ) (k : Key) (c : Cause) → lines ≡ xs ++ (l ∷ (ys ++ (m ∷ zs)))
-      → l.call ≡ some (Call.cancel t k c) → l.answer ≡ Call.Applied → m.call ≡ some (Call.tick n)
+      → l.call ≡ Some (Call.cancel t k c) → l.answer ≡ Call.Applied → m.call ≡ Some (Call.tick n)
       → t + o.conf.timers.grace + o.conf.timers.settlement < 2 ^ 64 → t + o.conf.timers.grace + o.conf.timers.settlement ≤ n → 5 ≤ messages (calls_of zs)
       → any_terminal (dones_of lines) ≡ true
   -- no line is refused by 10, 11 or 12, nor by any number but these
@@ -113,11 +112,11 @@ pub record CardRuns (card printed : List ℕ) : Type 0 where
   pub later : List (List ℕ)
   pub split : lines_in card ≡ line ∷ later
   pub opening : Opening
-  pub reads : line_open line ≡ some opening
+  pub reads : line_open line ≡ Some opening
   pub opens : Opens opening.conf opening.now (zeros 65536) (zeros 1024)
   -- the others: what is printed is ok and, line by line, their answers
   pub rest : List Line
-  pub lines : lines_from First (lines_in card) ≡ record { call = none; answer = Call.Ok } ∷ rest
+  pub lines : lines_from First (lines_in card) ≡ record { call = None; answer = Call.Ok } ∷ rest
   pub text : printed ≡ text_from 0 (Call.Ok ∷ answers_of rest)
   -- their calls are those that they say, whatever the times
   pub called : map (λ (l : Line). l.call) rest ≡ map call_said later
@@ -125,7 +124,7 @@ pub record CardRuns (card printed : List ℕ) : Type 0 where
   pub answers : dones_of rest ≡ run (just_opened opening) (calls_of rest)
   pub leaves : (ended (feeds start card).session).stage ≡ Running (after (just_opened opening) (calls_of rest))
   -- and a line that makes no call is 30
-  pub uncalled : (xs ys : List Line) (l : Line) → rest ≡ xs ++ (l ∷ ys) → l.call ≡ none → l.answer ≡ Call.Refused 30
+  pub uncalled : (xs ys : List Line) (l : Line) → rest ≡ xs ++ (l ∷ ys) → l.call ≡ None → l.answer ≡ Call.Refused 30
   -- so demand 3 and the turn hold of what is printed, up to any line
   pub demand : (ls ms : List Line) → rest ≡ ls ++ ms → Demand opening ls
   pub turn : (ls ms : List Line) → rest ≡ ls ++ ms → Turn ls

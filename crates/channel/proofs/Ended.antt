@@ -1,5 +1,5 @@
 -- The ways of a write, what the record of a Terminal tells, and that a Terminal that is left stays with the runner.
-use Rattle.std.specs.Prelude.{Bool, cond, not, ◌&&◌, List, ℕ, ◌^◌, ◌<◌, leb, length, take, drop}
+use Rattle.std.specs.Prelude.{Bool, cond, not, ◌&&◌, List, ℕ, ◌^◌, ◌<◌, leb, length, take, drop, Result, Some, Ok, Err}
 use Rattle.std.proofs.Math.Bool.{true, false}
 use Rattle.std.proofs.lemmas.Bool.{false≢true}
 use Rattle.std.proofs.Math.Path.{◌≡◌, refl, sym, ap, subst⁻¹}
@@ -7,7 +7,6 @@ use Rattle.std.proofs.Common.{subst, ◌∙◌, arith, leb-true, leb-false}
 use Rattle.exec.specs.declared.Outcome.{Outcome}
 use Rattle.exec.specs.declared.Refusal.{Refusal}
 use Rattle.exec.specs.declared.Refusal.TheVariants.{NoLimits, StoreShort, StateOutOfRange, NotAChannel, UntoldStatus}
-use Rattle.exec.specs.declared.Reply.{Reply}
 use Rattle.exec.specs.Limits.{is_valid}
 use Rattle.exec.specs.Refusal.{number}
 use Rattle.choice.specs.declared.Choice.{Choice}
@@ -19,7 +18,6 @@ use Rattle.runner.specs.Message.{choose, said_for}
 use Rattle.runner.specs.Range.{in_range, bytes_do, stop}
 use Rattle.runner.specs.TerminalLaws.{still}
 use Rattle.exits.specs.Exit.{is_untold, ending}
-use Rattle.channel.specs.declared.calls.Wrote.{Wrote}
 use Rattle.channel.specs.Calls.{WriteAfter, write_after, is_channel, admitted, has_ended, sent_as, sent_buffer, wrote, wrote_buffer, told, asked, is_left, unwritten, sent, room, roomy_write, admitted_write, write_record}
 use Rattle.exits.proofs.Ended.{ended_reads}
 use Rattle.channel.specs.Ended.{Writes, elsewhere, short, left, taken, number_of, Still, Ending, EndsAs}
@@ -28,7 +26,7 @@ use Rattle.channel.specs.Ended.{Writes, elsewhere, short, left, taken, number_of
 
 module _ (r : Runner) (channel : ℕ) (store b : List ℕ) where
   write_by : (channels roomy isleft : Bool) → is_channel r.limits ≡ channels → leb (room r.limits) (length b) ≡ roomy → is_left (asked r store b).saying.said ≡ isleft
-      → Writes r channel store b (channels && roomy) (admitted_write (cond channels Reply.Ok (Reply.Refused NotAChannel)) r channel store b)
+      → Writes r channel store b (channels && roomy) (admitted_write (cond channels (Ok tt) (Err NotAChannel)) r channel store b)
   unfolding admitted_write roomy_write sent
   write_by false roomy isleft c e u = elsewhere c
   write_by true false isleft c e u = rw e (short c (leb-false (room r.limits) (length b) e))
@@ -36,13 +34,13 @@ module _ (r : Runner) (channel : ℕ) (store b : List ℕ) where
   write_by true true false c e u = rw (e, u) (taken u (leb-true (room r.limits) (length b) e))
 
   -- of a runner in range with its stores
-  pub writes : stop r (bytes_do r.limits store) ≡ Reply.Ok
+  pub writes : stop r (bytes_do r.limits store) ≡ Ok tt
       → Writes r channel store b (is_channel r.limits && leb (room r.limits) (length b)) (write_record r channel store b)
   unfolding write_record admitted
   writes g = rw g (write_by (is_channel r.limits) (leb (room r.limits) (length b)) (is_left (asked r store b).saying.said) refl refl refl)
 
   -- and of any other
-  pub stopped : (x : Refusal) → stop r (bytes_do r.limits store) ≡ Reply.Refused x → write_record r channel store b ≡ write_after (unwritten x r) b
+  pub stopped : (x : Refusal) → stop r (bytes_do r.limits store) ≡ Err x → write_record r channel store b ≡ write_after (unwritten x r) b
   unfolding write_record admitted admitted_write
   stopped x g = rw g refl
 
@@ -78,7 +76,8 @@ said_number (Choice.End x) r channel ended = refl
 said_number (Choice.Output x n) r channel ended = refl
 said_number Choice.Terminal r channel ended = refl
 
-stop_number : (i v s : Bool) (x : Refusal) → cond (not i) (Reply.Refused StateOutOfRange) (cond (not v) (Reply.Refused NoLimits) (cond (not s) (Reply.Refused StoreShort) Reply.Ok)) ≡ Reply.Refused x
+stop_number : (i v s : Bool) (x : Refusal)
+    → ◌≡◌ {A = Result (Unit {0}) Refusal} (cond (not i) (Err StateOutOfRange) (cond (not v) (Err NoLimits) (cond (not s) (Err StoreShort) (Ok tt)))) (Err x)
     → number x < 40
 stop_number false v s x e = let q : number StateOutOfRange ≡ number x = cc in omega arith
 stop_number true false s x e = let q : number NoLimits ≡ number x = cc in omega arith
@@ -86,14 +85,14 @@ stop_number true true false x e = let q : number StoreShort ≡ number x = cc in
 stop_number true true true x e = let z : ◌≡◌ {A = ℕ} 0 1 = cc in absurd (omega arith)
 
 module _ (r : Runner) (channel : ℕ) (store b : List ℕ) where
-  still_left : stop r (bytes_do r.limits store) ≡ Reply.Ok → is_left (asked r store b).saying.said ≡ true
+  still_left : stop r (bytes_do r.limits store) ≡ Ok tt → is_left (asked r store b).saying.said ≡ true
       → write_record r channel store b ≡ write_after (unwritten UntoldStatus r) b → Still r channel store b
   unfolding asked Calls.next_message said_for
   still_left g u e =
       let p = choice_left (choose r (length (take r.limits.chunk (drop 13 b)))) r (rw g at u) in
       record { kept = e; said = λ part. rw (g, still r _ (length part) p.0) refl; untold = p.1 }
 
-  by_writes : stop r (bytes_do r.limits store) ≡ Reply.Ok → (met : Bool) (w : WriteAfter) → Writes r channel store b met w → write_record r channel store b ≡ w
+  by_writes : stop r (bytes_do r.limits store) ≡ Ok tt → (met : Bool) (w : WriteAfter) → Writes r channel store b met w → write_record r channel store b ≡ w
       → number_of w.writing.wrote ≡ 40 → Still r channel store b
   unfolding asked told Calls.next_message
   by_writes g met w (elsewhere c) e h = absurd (omega arith)
@@ -104,16 +103,16 @@ module _ (r : Runner) (channel : ℕ) (store b : List ℕ) where
       absurd (omega arith)
 
   -- A WRITE REFUSED BY 40 CHANGES NOTHING, AND NEXT_MESSAGE STILL GIVES THE TERMINAL
-  pub untold_still : (write_record r channel store b).writing.wrote ≡ Wrote.Refused UntoldStatus → Still r channel store b
+  pub untold_still : (write_record r channel store b).writing.wrote ≡ Err UntoldStatus → Still r channel store b
   unfolding stop
   untold_still h = by (stop r (bytes_do r.limits store)) refl
     where
       n : number_of (write_record r channel store b).writing.wrote ≡ 40
       n = ap number_of h
 
-      by : (met : Reply) → stop r (bytes_do r.limits store) ≡ met → Still r channel store b
-      by Reply.Ok g = by_writes g _ _ (writes r channel store b g) refl n
-      by (Reply.Refused x) g =
+      by : (met : Result (Unit {0}) Refusal) → stop r (bytes_do r.limits store) ≡ met → Still r channel store b
+      by (Ok tt) g = by_writes g _ _ (writes r channel store b g) refl n
+      by (Err x) g =
           let z : number x ≡ 40 = sym (ap (λ (w : WriteAfter). number_of w.writing.wrote) (stopped r channel store b x g)) ∙ n in
           absurd (omega (arith, stop_number (in_range r) (is_valid r.limits) (bytes_do r.limits store) x g))
 
@@ -133,7 +132,7 @@ module _ (r : Runner) (channel : ℕ) (known : channel < 2 ^ 32) where
       let q = ended_reads channel (outcome_of r).status (drop (length (ending channel (outcome_of r).status)) b) known u in
       record { told = u; size = refl; tells = q.0; closes = q.1 }
 
-  ends : (store b : List ℕ) → stop r (bytes_do r.limits store) ≡ Reply.Ok → (met : Bool) (w : WriteAfter) → Writes r channel store b met w
+  ends : (store b : List ℕ) → stop r (bytes_do r.limits store) ≡ Ok tt → (met : Bool) (w : WriteAfter) → Writes r channel store b met w
       → EndsAs channel w.buffer w.writing.wrote
   unfolding asked told Calls.next_message
   ends store b g met w (elsewhere c) = tt
@@ -144,11 +143,11 @@ module _ (r : Runner) (channel : ℕ) (known : channel < 2 ^ 32) where
   ends_so : (store b : List ℕ) → EndsAs channel (write_record r channel store b).buffer (write_record r channel store b).writing.wrote
   ends_so store b = by (stop r (bytes_do r.limits store)) refl
     where
-      by : (met : Reply) → stop r (bytes_do r.limits store) ≡ met → EndsAs channel (write_record r channel store b).buffer (write_record r channel store b).writing.wrote
-      by Reply.Ok g = ends store b g _ _ (writes r channel store b g)
-      by (Reply.Refused x) g = subst⁻¹ (λ (w : WriteAfter). EndsAs channel w.buffer w.writing.wrote) (stopped r channel store b x g) tt
+      by : (met : Result (Unit {0}) Refusal) → stop r (bytes_do r.limits store) ≡ met → EndsAs channel (write_record r channel store b).buffer (write_record r channel store b).writing.wrote
+      by (Ok tt) g = ends store b g _ _ (writes r channel store b g)
+      by (Err x) g = subst⁻¹ (λ (w : WriteAfter). EndsAs channel w.buffer w.writing.wrote) (stopped r channel store b x g) tt
 
   -- THE RECORD OF A TERMINAL TELLS ITS STATUS, AND THEN CLOSES
-  pub terminal_reads : (store b : List ℕ) (o : Outcome) (n : ℕ) → (write_record r channel store b).writing.wrote ≡ Wrote.Message (Message.Terminal o) n
+  pub terminal_reads : (store b : List ℕ) (o : Outcome) (n : ℕ) → (write_record r channel store b).writing.wrote ≡ (Ok (Some (Message.Terminal o, n)))
       → Ending channel o n (write_record r channel store b).buffer
   terminal_reads store b o n e = subst (EndsAs channel (write_record r channel store b).buffer) e (ends_so store b)

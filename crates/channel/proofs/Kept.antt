@@ -1,5 +1,5 @@
 -- What a write keeps of the buffer: the free bytes reach to `room`, and all behind them are kept, whatever is written.
-use Rattle.std.specs.Prelude.{Bool, cond, ◌≡◌}
+use Rattle.std.specs.Prelude.{Bool, cond, ◌≡◌, Option, Result, Ok, Err}
 use Rattle.std.proofs.Math.Bool.{true, false}
 use mathlib.Core.List.{List, ◌++◌, append_assoc}
 use Rattle.std.proofs.Math.Path.{refl, ap}
@@ -7,8 +7,8 @@ use Rattle.std.proofs.Common.{sym, ◌∙◌, arith, drop_at, drop-drop}
 use Prim.Native.Nat.{ℕ, ◌+◌, ◌-◌, ◌≤◌, min}
 use Rattle.std.proofs.Math.ListN.{length, take, drop, length-append, length-drop}
 use Rattle.std.proofs.Math.Seq.{length-take-le}
-use Rattle.exec.specs.declared.MaybeStatus.{MaybeStatus}
-use Rattle.exec.specs.declared.Reply.{Reply}
+use Rattle.exec.specs.declared.Status.{Status}
+use Rattle.exec.specs.declared.Refusal.{Refusal}
 use Rattle.exec.specs.declared.Stream.{Stream}
 use Rattle.exec.specs.declared.Stream.TheVariants.{Stdout, Stderr}
 use Rattle.exec.specs.Limits.{pool_of}
@@ -66,12 +66,12 @@ module _ (r : Runner) (b : List ℕ) (roomy : room r.limits ≤ length b) where
       beyond (header channel rec ++ take (size rec) (drop 13 p)) p (start rec + size rec) (room r.limits)
       (simp length-append (omega (arith, header_length channel rec, n))) (omega (arith, start_most rec))
 
-  ending_beyond : (channel : ℕ) (status : MaybeStatus) (p : List ℕ)
+  ending_beyond : (channel : ℕ) (status : Option Status) (p : List ℕ)
       → drop (room r.limits) (ending channel status ++ drop (length (ending channel status)) p) ≡ drop (room r.limits) p
   ending_beyond channel status p =
       beyond (ending channel status) p (length (ending channel status)) (room r.limits) refl (omega (arith, ending_bound channel status))
 
-  module _ (channel : ℕ) (store : List ℕ) (ended : Bool) (good : stop r (bytes_do r.limits store) ≡ Reply.Ok) where
+  module _ (channel : ℕ) (store : List ℕ) (ended : Bool) (good : stop r (bytes_do r.limits store) ≡ Ok tt) where
     part : List ℕ
     part = take chunk (drop 13 b)
 
@@ -108,7 +108,7 @@ module _ (r : Runner) (b : List ℕ) (roomy : room r.limits ≤ length b) where
     said_beyond Choice.Terminal e = ending_beyond channel (outcome_of r).status (part_back chunk b part) ∙ part_beyond part lent
 
 module _ (r : Runner) (channel : ℕ) (store b : List ℕ) where
-  kept_by : stop r (bytes_do r.limits store) ≡ Reply.Ok → (met : Bool) (w : WriteAfter) → Writes r channel store b met w
+  kept_by : stop r (bytes_do r.limits store) ≡ Ok tt → (met : Bool) (w : WriteAfter) → Writes r channel store b met w
       → drop (room r.limits) w.buffer ≡ drop (room r.limits) b
   unfolding asked told Calls.next_message chunk part
   kept_by g met w (elsewhere c) = refl
@@ -120,6 +120,6 @@ module _ (r : Runner) (channel : ℕ) (store b : List ℕ) where
   pub beyond_kept : drop (room r.limits) (write_record r channel store b).buffer ≡ drop (room r.limits) b
   beyond_kept = by (stop r (bytes_do r.limits store)) refl
     where
-      by : (met : Reply) → stop r (bytes_do r.limits store) ≡ met → drop (room r.limits) (write_record r channel store b).buffer ≡ drop (room r.limits) b
-      by Reply.Ok g = kept_by g _ _ (writes r channel store b g)
-      by (Reply.Refused x) g = ap (λ (w : WriteAfter). drop (room r.limits) w.buffer) (stopped r channel store b x g)
+      by : (met : Result (Unit {0}) Refusal) → stop r (bytes_do r.limits store) ≡ met → drop (room r.limits) (write_record r channel store b).buffer ≡ drop (room r.limits) b
+      by (Ok tt) g = kept_by g _ _ (writes r channel store b g)
+      by (Err x) g = ap (λ (w : WriteAfter). drop (room r.limits) w.buffer) (stopped r channel store b x g)

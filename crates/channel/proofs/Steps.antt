@@ -1,16 +1,16 @@
 -- Laws of the record calls' code, over plain variables: there is too much to compute at the calls' own places.
 use Rattle.std.proofs.Common.{Bool, true, false, cond, ◌≡◌, refl, sym, ap, ◌∙◌, List, ◌++◌, ℕ, ◌+◌, ◌^◌, ◌≤◌, ◌<◌, arith, length, take, drop, length-append, length-take, length-drop, take-append-drop, drop-drop}
-use Rattle.std.specs.Prelude.{not, min}
+use Rattle.std.specs.Prelude.{not, min, Result, Ok, Err}
+use Rattle.exec.specs.declared.Refusal.{Refusal}
 use Rattle.exec.specs.declared.Limits.{Limits}
 use Rattle.exec.specs.declared.Refusal.TheVariants.{NoLimits, StoreShort, StateOutOfRange, UntoldStatus}
-use Rattle.exec.specs.declared.Reply.{Reply}
 use Rattle.exec.specs.Limits.{is_valid, pool_of}
 use Rattle.runner.specs.declared.answer.Message.{Message}
 use Rattle.runner.specs.declared.answer.Saying.{Saying}
 use Rattle.choice.specs.declared.Choice.{Choice}
 use Rattle.runner.specs.declared.runner.Runner.{Runner}
 use Rattle.runner.specs.Calls as Calls
-use Rattle.runner.specs.Calls.{limits_by, message_by}
+use Rattle.runner.specs.Calls.{unless, message_by}
 use Rattle.runner.specs.Message.{MessageAfter, message_after, choose, said_for, sendable_of}
 use Rattle.runner.specs.MessageLaws.{chosen, least}
 use Rattle.runner.specs.Range.{in_range, bytes_do, stop}
@@ -25,14 +25,14 @@ use Rattle.channel.specs.CallLaws.{admitted_limits, admitted_by, Narrow, Roomy, 
 -- ---- what is met before a record
 
 -- by the tests
-abbrev met : (range valid stores : Bool) → Reply
+abbrev met : (range valid stores : Bool) → Result (Unit {0}) Refusal
 met range valid stores =
-    cond (not range) (Reply.Refused StateOutOfRange)
-    (cond (not valid) (Reply.Refused NoLimits) (cond (not stores) (Reply.Refused StoreShort) Reply.Ok))
+    cond (not range) (Err StateOutOfRange)
+    (cond (not valid) (Err NoLimits) (cond (not stores) (Err StoreShort) (Ok tt)))
 
 -- the runner's limits tell whether it is in range and has limits
 admitted_as : (range valid enough : Bool) (l : Limits)
-    → admitted_by (limits_by (met range valid true) l) enough ≡ on_channel (met range valid enough) l
+    → admitted_by (unless (met range valid true) l) enough ≡ on_channel (met range valid enough) l
 unfolding admitted_by admitted_limits
 admitted_as true true true l = refl
 admitted_as true true false l = refl
@@ -83,9 +83,9 @@ module _ (r : Runner) (store buffer : List ℕ) (narrow : r.limits.chunk < 2 ^ 3
       part : List ℕ
       part = take r.limits.chunk (drop 13 buffer)
 
-      at : (x : Reply) → is_left (message_by x r store part).saying.said ≡ false → Sayable (message_by x r store part).saying.said (length buffer)
-      at Reply.Ok l = said_within (length part) (choose r (length part)) (simp (length-take, length-drop) (omega arith)) refl l
-      at (Reply.Refused x) l = tt
+      at : (x : Result (Unit {0}) Refusal) → is_left (message_by x r store part).saying.said ≡ false → Sayable (message_by x r store part).saying.said (length buffer)
+      at (Ok tt) l = said_within (length part) (choose r (length part)) (simp (length-take, length-drop) (omega arith)) refl l
+      at (Err x) l = tt
 
 -- a part that comes back as long as it was lent leaves the buffer's length
 part_kept : (b part : List ℕ) (k : ℕ) → length part ≡ length (take k (drop 13 b)) → length (take 13 b ++ (part ++ drop k (drop 13 b))) ≡ length b

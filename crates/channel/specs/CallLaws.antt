@@ -1,15 +1,13 @@
 -- Laws of the record calls: what their inner functions ask and give (a record that was read is whole, a message's bytes fit its
 -- record), and that the buffer is kept where no message waits or one is left.
-use Rattle.std.specs.Prelude.{Bool, true, false, cond, List, ◌++◌, ◌≡◌, refl, ℕ, ◌+◌, ◌-◌, ◌^◌, ◌≤◌, ◌<◌, leb, length, take, drop}
+use Rattle.std.specs.Prelude.{Bool, true, false, cond, List, ◌++◌, ◌≡◌, refl, ℕ, ◌+◌, ◌-◌, ◌^◌, ◌≤◌, ◌<◌, leb, length, take, drop, Option, Result, Some, None, Ok, Err}
 use Rattle.std.proofs.lemmas.Bool.{false≢true}
-use Rattle.std.proofs.Common.{sym, ap, ◌∙◌, arith, length-drop, take-append-drop, take_all, drop-drop}
+use Rattle.std.proofs.Common.{sym, ap, ◌∙◌, arith, leb-true, length-drop, take-append-drop, take_all, drop-drop}
+use Rattle.exec.specs.declared.Refusal.{Refusal}
 use Rattle.exec.specs.declared.Limits.{Limits}
-use Rattle.exec.specs.declared.Refusal.TheVariants.{StoreShort, NotAChannel}
-use Rattle.exec.specs.declared.Reply.{Reply}
+use Rattle.exec.specs.declared.Refusal.TheVariants.{StoreShort, NotAChannel, BufferShort}
 use Rattle.exec.specs.declared.Stream.{Stream}
-use Rattle.runner.specs.declared.answer.LimitsAnswer.{LimitsAnswer}
 use Rattle.runner.specs.declared.answer.Message.{Message}
-use Rattle.runner.specs.declared.answer.Said.{Said}
 use Rattle.choice.specs.declared.Choice.{Choice}
 use Rattle.runner.specs.declared.runner.Runner.{Runner}
 use Rattle.runner.specs.Calls as Calls
@@ -17,36 +15,41 @@ use Rattle.runner.specs.Calls.{message_by}
 use Rattle.runner.specs.Message.{choose, said_for, buffer_after}
 use Rattle.runner.specs.Range.{bytes_do, stop}
 use Rattle.channel.specs.declared.calls.Sending.{Sending}
-use Rattle.channel.specs.declared.calls.Wrote.TheVariants as Wrote
-use Rattle.codec.specs.declared.Parsed.{Parsed}
-use Rattle.channel.specs.Calls.{is_channel, admitted, has_ended, wrote, wrote_buffer, part_back, told, asked, is_left, sent, room, roomy_write, admitted_write, write_record}
+use Rattle.channel.specs.Calls.{WriteAfter, write_after, unwritten, parsed_read, admitted_read, is_channel, admitted, has_ended, wrote, wrote_buffer, part_back, told, asked, is_left, sent, room, roomy_write, admitted_write, write_record}
 use Rattle.codec.specs.declared.Record.{Record}
 use Rattle.codec.specs.declared.Record.TheVariants.{Data}
-use Rattle.codec.specs.declared.Written.{Written}
 use Rattle.codec.specs.Codec.{start, size, read}
 use Rattle.codec.proofs.RoundTrip.{read_is}
 use Rattle.exits.specs.Exit.{is_untold}
 
 -- admission by what the runner tells of its limits
-unfoldable pub admitted_limits : Limits → (enough : Bool) → Reply
-admitted_limits l enough = cond enough (cond (is_channel l) Reply.Ok (Reply.Refused NotAChannel)) (Reply.Refused StoreShort)
+unfoldable pub admitted_limits : Limits → (enough : Bool) → Result (Unit {0}) Refusal
+admitted_limits l enough = cond enough (cond (is_channel l) (Ok tt) (Err NotAChannel)) (Err StoreShort)
 
-unfoldable pub admitted_by : LimitsAnswer → (enough : Bool) → Reply
-admitted_by (LimitsAnswer.Is l) enough = admitted_limits l enough
-admitted_by (LimitsAnswer.Refused x) enough = Reply.Refused x
+unfoldable pub admitted_by : Result Limits Refusal → (enough : Bool) → Result (Unit {0}) Refusal
+admitted_by (Ok l) enough = admitted_limits l enough
+admitted_by (Err x) enough = Err x
+
+-- the record that is read where records are admitted
+unfoldable pub accepted : Result (Unit {0}) Refusal → Result Record Refusal → Result Record Refusal
+accepted (Ok tt) p = p
+accepted (Err x) p = Err x
+
+pub read_by : (a : Result (Unit {0}) Refusal) (r : Runner) (at channel : ℕ) (s store lengths : List ℕ)
+    → admitted_read a r at channel s store lengths ≡ parsed_read (accepted a (read channel s)) r at s store lengths
+unfolding admitted_read parsed_read accepted
+read_by (Ok tt) r at channel s store lengths = refl
+read_by (Err x) r at channel s store lengths = refl
 
 -- the header of a record that was read is there
-unfoldable pub Whole : Parsed → List ℕ → Type 0
-Whole (Parsed.Read rec) s = start rec ≤ length s
-Whole (Parsed.Refused x) s = Unit
+pub read_whole : (channel : ℕ) (s : List ℕ) (rec : Record) → read channel s ≡ Ok rec → start rec ≤ length s
+read_whole channel s rec e = omega (arith, (read_is channel s rec e).whole)
 
-pub read_whole : (channel : ℕ) (s : List ℕ) → Whole (read channel s) s
-unfolding Whole
-read_whole channel s = at (read channel s) refl
-  where
-    at : (p : Parsed) → read channel s ≡ p → Whole p s
-    at (Parsed.Read rec) e = omega (arith, (read_is channel s rec e).whole)
-    at (Parsed.Refused x) e = tt
+pub accepted_whole : (a : Result (Unit {0}) Refusal) (channel : ℕ) (s : List ℕ) (rec : Record) → accepted a (read channel s) ≡ Ok rec
+    → start rec ≤ length s
+unfolding accepted
+accepted_whole (Ok tt) channel s rec e = read_whole channel s rec e
+accepted_whole (Err x) channel s rec e = let z : ◌≡◌ {A = ℕ} 0 1 = cc in absurd (omega arith)
 
 -- so the payload of a 94 stands behind its header
 pub behind : (rec : Record) (n : ℕ) (s : List ℕ) → rec ≡ Data n → start rec ≤ length s → 9 ≤ length s
@@ -82,15 +85,38 @@ RoomyFor (Message.End x) room = 13 ≤ room
 RoomyFor Message.InputClosed room = Unit
 RoomyFor (Message.Terminal outcome) room = (43 ≤ room) × (is_untold outcome.status ≡ false)
 
-unfoldable pub Sayable : Said → (room : ℕ) → Type 0
-Sayable Said.None room = Unit
-Sayable (Said.Message m) room = Narrow m × RoomyFor m room
-Sayable (Said.Refused x) room = Unit
+unfoldable pub Sayable : Result (Option Message) Refusal → (room : ℕ) → Type 0
+Sayable (Ok None) room = Unit
+Sayable (Ok (Some m)) room = Narrow m × RoomyFor m room
+Sayable (Err x) room = Unit
 
--- how many bytes were written
-abbrev pub count : Written → ℕ
-count (Written.Bytes n) = n
-count (Written.Refused x) = 0
+-- the room is asked for where records are admitted
+unfoldable pub readied : Result (Unit {0}) Refusal → (roomy : Bool) → Result (Unit {0}) Refusal
+readied (Ok tt) roomy = cond roomy (Ok tt) (Err BufferShort)
+readied (Err x) roomy = Err x
+
+unfoldable pub ready_write : Result (Unit {0}) Refusal → Runner → (channel : ℕ) → (store buffer : List ℕ) → WriteAfter
+ready_write (Ok tt) r channel store buffer = sent r channel store buffer
+ready_write (Err x) r channel store buffer = write_after (unwritten x r) buffer
+
+pub write_by : (a : Result (Unit {0}) Refusal) (r : Runner) (channel : ℕ) (store b : List ℕ)
+    → admitted_write a r channel store b ≡ ready_write (readied a (leb (room r.limits) (length b))) r channel store b
+unfolding admitted_write roomy_write readied ready_write
+write_by (Ok tt) r channel store b = by (leb (room r.limits) (length b))
+  where
+    by : (roomy : Bool) → cond roomy (sent r channel store b) (write_after (unwritten BufferShort r) b) ≡ ready_write (cond roomy (Ok tt) (Err BufferShort)) r channel store b
+    by true = refl
+    by false = refl
+write_by (Err x) r channel store b = refl
+
+pub ready_room : (a : Result (Unit {0}) Refusal) (n m : ℕ) → readied a (leb n m) ≡ Ok tt → n ≤ m
+unfolding readied
+ready_room (Ok tt) n m e = by (leb n m) refl e
+  where
+    by : (roomy : Bool) → leb n m ≡ roomy → cond roomy (Ok tt) (Err BufferShort) ≡ Ok tt → n ≤ m
+    by true t h = leb-true n m t
+    by false t h = let z : ◌≡◌ {A = ℕ} 0 1 = cc in absurd (omega arith)
+ready_room (Err x) n m e = let z : ◌≡◌ {A = ℕ} 0 1 = cc in absurd (omega arith)
 
 -- ---- no message, or one that is left
 
@@ -101,7 +127,7 @@ part_kept k b =
     ∙ ap (λ (x : List ℕ). take 13 b ++ x) (take-append-drop k (drop 13 b))
     ∙ take-append-drop 13 b
 
-some_message : (m : Message) (n : ℕ) → Wrote.Message m n ≡ Wrote.None → ⊥
+some_message : (m : Message) (n : ℕ) → ◌≡◌ {A = Result (Option (Message × ℕ)) Refusal} (Ok (Some (m, n))) (Ok None) → ⊥
 some_message m n e = let z : ◌≡◌ {A = ℕ} 0 1 = cc in omega arith
 
 -- only a Terminal is left, and it leaves the part that is lent as it was
@@ -115,9 +141,9 @@ left_choice (Choice.End x) r store part e = refl
 left_choice (Choice.Output x n) r store part e = absurd (false≢true e)
 left_choice Choice.Terminal r store part e = refl
 
-left_by : (met : Reply) (r : Runner) (store part : List ℕ) → is_left (message_by met r store part).saying.said ≡ true → (message_by met r store part).buffer ≡ part
-left_by Reply.Ok r store part e = left_choice (choose r (length part)) r store part e
-left_by (Reply.Refused x) r store part e = refl
+left_by : (met : Result (Unit {0}) Refusal) (r : Runner) (store part : List ℕ) → is_left (message_by met r store part).saying.said ≡ true → (message_by met r store part).buffer ≡ part
+left_by (Ok tt) r store part e = left_choice (choose r (length part)) r store part e
+left_by (Err x) r store part e = refl
 
 pub left_kept : (r : Runner) (store b : List ℕ) → is_left (asked r store b).saying.said ≡ true → part_back r.limits.chunk b (asked r store b).buffer ≡ b
 unfolding asked Calls.next_message
@@ -125,7 +151,7 @@ left_kept r store b e =
     ap (part_back r.limits.chunk b) (left_by (stop r (bytes_do r.limits store)) r store (take r.limits.chunk (drop 13 b)) e)
     ∙ part_kept r.limits.chunk b
 
-none_said : (c : Choice) (r : Runner) (channel k : ℕ) (ended : Bool) (store b : List ℕ) → wrote channel ended (said_for c r) ≡ Wrote.None
+none_said : (c : Choice) (r : Runner) (channel k : ℕ) (ended : Bool) (store b : List ℕ) → wrote channel ended (said_for c r) ≡ Ok None
     → wrote_buffer channel ended (said_for c r) (part_back k b (buffer_after c r store (take k (drop 13 b)))) ≡ b
 unfolding said_for buffer_after wrote wrote_buffer
 none_said Choice.None r channel k ended store b e = part_kept k b
@@ -136,35 +162,35 @@ none_said (Choice.End x) r channel k ended store b e = absurd (some_message _ _ 
 none_said (Choice.Output x n) r channel k ended store b e = absurd (some_message _ _ e)
 none_said Choice.Terminal r channel k ended store b e = absurd (some_message _ _ e)
 
-none_told : (met : Reply) (r : Runner) (channel : ℕ) (ended : Bool) (store b : List ℕ)
-    → wrote channel ended (message_by met r store (take r.limits.chunk (drop 13 b))).saying.said ≡ Wrote.None
+none_told : (met : Result (Unit {0}) Refusal) (r : Runner) (channel : ℕ) (ended : Bool) (store b : List ℕ)
+    → wrote channel ended (message_by met r store (take r.limits.chunk (drop 13 b))).saying.said ≡ Ok None
     → wrote_buffer channel ended (message_by met r store (take r.limits.chunk (drop 13 b))).saying.said
     (part_back r.limits.chunk b (message_by met r store (take r.limits.chunk (drop 13 b))).buffer) ≡ b
 unfolding wrote_buffer
-none_told Reply.Ok r channel ended store b e =
+none_told (Ok tt) r channel ended store b e =
     none_said (choose r (length (take r.limits.chunk (drop 13 b)))) r channel r.limits.chunk ended store b e
-none_told (Reply.Refused x) r channel ended store b e = part_kept r.limits.chunk b
+none_told (Err x) r channel ended store b e = part_kept r.limits.chunk b
 
 none_sent : (left : Bool) (r : Runner) (channel : ℕ) (store b : List ℕ) → is_left (asked r store b).saying.said ≡ left
-    → (sent r channel store b).writing.wrote ≡ Wrote.None → (sent r channel store b).buffer ≡ b
+    → (sent r channel store b).writing.wrote ≡ Ok None → (sent r channel store b).buffer ≡ b
 unfolding sent asked told Calls.next_message
 none_sent true r channel store b l e = rw l refl
 none_sent false r channel store b l e = rw l (none_told (stop r (bytes_do r.limits store)) r channel (has_ended r) store b (rw l at e))
 
 none_roomy : (roomy : Bool) (r : Runner) (channel : ℕ) (store b : List ℕ) → leb (room r.limits) (length b) ≡ roomy
-    → (roomy_write r channel store b).writing.wrote ≡ Wrote.None → (roomy_write r channel store b).buffer ≡ b
+    → (roomy_write r channel store b).writing.wrote ≡ Ok None → (roomy_write r channel store b).buffer ≡ b
 unfolding roomy_write
 none_roomy true r channel store b h e = rw h (none_sent (is_left (asked r store b).saying.said) r channel store b refl (rw h at e))
 none_roomy false r channel store b h e = rw h refl
 
-none_admitted : (a : Reply) (r : Runner) (channel : ℕ) (store b : List ℕ)
-    → (admitted_write a r channel store b).writing.wrote ≡ Wrote.None → (admitted_write a r channel store b).buffer ≡ b
+none_admitted : (a : Result (Unit {0}) Refusal) (r : Runner) (channel : ℕ) (store b : List ℕ)
+    → (admitted_write a r channel store b).writing.wrote ≡ Ok None → (admitted_write a r channel store b).buffer ≡ b
 unfolding admitted_write
-none_admitted Reply.Ok r channel store b e = none_roomy (leb (room r.limits) (length b)) r channel store b refl e
-none_admitted (Reply.Refused x) r channel store b e = refl
+none_admitted (Ok tt) r channel store b e = none_roomy (leb (room r.limits) (length b)) r channel store b refl e
+none_admitted (Err x) r channel store b e = refl
 
 -- WHERE NO MESSAGE WAITS, THE WHOLE RECORD BUFFER IS KEPT
 pub none_kept : (r : Runner) (channel : ℕ) (store b : List ℕ)
-    → (write_record r channel store b).writing.wrote ≡ Wrote.None → (write_record r channel store b).buffer ≡ b
+    → (write_record r channel store b).writing.wrote ≡ Ok None → (write_record r channel store b).buffer ≡ b
 unfolding write_record
 none_kept r channel store b e = none_admitted (admitted r (bytes_do r.limits store)) r channel store b e

@@ -1,12 +1,11 @@
 -- The two record calls on a runner, each whole: 12, 10, 11 and 13 first, then the record's own refusals, which all change
 -- nothing, and then the call that the record makes. A record read makes one of the runner's calls; a record written is a message.
-use Rattle.std.specs.Prelude.{Bool, true, false, cond, ◌&&◌, List, ◌++◌, ℕ, ◌+◌, max, leb, length, take, drop}
+use Rattle.std.specs.Prelude.{Bool, true, false, cond, ◌&&◌, List, ◌++◌, ℕ, ◌+◌, max, leb, length, take, drop, Option, Result, Some, None, Ok, Err}
+use Rattle.exec.specs.declared.Receipt.{Receipt}
 use Rattle.exec.specs.declared.Limits.{Limits}
 use Rattle.exec.specs.declared.Pool.TheVariants as Pool
-use Rattle.exec.specs.declared.Received.{Received}
 use Rattle.exec.specs.declared.Refusal.{Refusal}
 use Rattle.exec.specs.declared.Refusal.TheVariants.{NotAChannel, NotInbound, BufferShort, UntoldStatus}
-use Rattle.exec.specs.declared.Reply.{Reply}
 use Rattle.exec.specs.declared.Stream.{Stream}
 use Rattle.exec.specs.declared.Stream.TheVariants.{Stdout, Stderr}
 use Rattle.exec.specs.declared.Unit as Units
@@ -14,7 +13,6 @@ use Rattle.exec.specs.declared.Unit.TheVariants.{Bytes, Frames}
 use Rattle.runner.specs.declared.answer.Hearing.{Hearing}
 use Rattle.runner.specs.declared.answer.Message.{Message}
 use Rattle.runner.specs.declared.answer.Noting.{Noting}
-use Rattle.runner.specs.declared.answer.Said.{Said}
 use Rattle.runner.specs.declared.answer.Saying.{Saying}
 use Rattle.runner.specs.declared.runner.Runner.{Runner}
 use Rattle.runner.specs.Calls as Calls
@@ -23,12 +21,9 @@ use Rattle.runner.specs.Message.{MessageAfter}
 use Rattle.runner.specs.Range.{bytes_do, stop}
 use Rattle.exec.specs.Stream.{any_stream}
 use Rattle.runner.specs.State.{out_of}
-use Rattle.channel.specs.declared.calls.Answer.{Answer}
 use Rattle.channel.specs.declared.calls.Reading.{Reading}
 use Rattle.channel.specs.declared.calls.Sending.{Sending}
 use Rattle.channel.specs.declared.calls.Writing.{Writing}
-use Rattle.channel.specs.declared.calls.Wrote.{Wrote}
-use Rattle.codec.specs.declared.Parsed.{Parsed}
 use Rattle.codec.specs.declared.Record.{Record}
 use Rattle.codec.specs.declared.Record.TheVariants.{Adjust, Data, Extended, Eof, Close}
 use Rattle.codec.specs.Codec.{start, size, read, laid_record}
@@ -44,11 +39,11 @@ is_bytes Frames = false
 abbrev pub is_channel : Limits → Bool
 is_channel l = (l.shared && is_bytes l.input.unit) && is_bytes l.output.unit
 
-abbrev pub on_channel : Reply → Limits → Reply
-on_channel Reply.Ok l = cond (is_channel l) Reply.Ok (Reply.Refused NotAChannel)
-on_channel (Reply.Refused x) l = Reply.Refused x
+abbrev pub on_channel : Result (Unit {0}) Refusal → Limits → Result (Unit {0}) Refusal
+on_channel (Ok tt) l = cond (is_channel l) (Ok tt) (Err NotAChannel)
+on_channel (Err x) l = Err x
 
-unfoldable pub admitted : Runner → (stores : Bool) → Reply
+unfoldable pub admitted : Runner → (stores : Bool) → Result (Unit {0}) Refusal
 admitted r stores = on_channel (stop r stores) r.limits
 
 -- ---- a record read
@@ -62,13 +57,13 @@ pub record ReadAfter : Type 0 where
 abbrev pub read_after : Reading → (bytes lengths : List ℕ) → ReadAfter
 read_after x bytes lengths = record { reading = x; bytes = bytes; lengths = lengths }
 
-abbrev pub heard_as : Received → Answer
-heard_as (Received.Receipt x) = Answer.Receipt x
-heard_as (Received.Refused x) = Answer.Refused x
+abbrev pub heard_as : Result Receipt Refusal → Result (Option Receipt) Refusal
+heard_as (Ok x) = (Ok (Some x))
+heard_as (Err x) = Err x
 
-abbrev pub noted_as : Reply → Answer
-noted_as Reply.Ok = Answer.Ok
-noted_as (Reply.Refused x) = Answer.Refused x
+abbrev pub noted_as : Result (Unit {0}) Refusal → Result (Option Receipt) Refusal
+noted_as (Ok tt) = Ok None
+noted_as (Err x) = Err x
 
 abbrev pub heard : Hearing → Reading
 heard h = record { runner = h.runner; answer = heard_as h.received }
@@ -77,7 +72,7 @@ abbrev pub noted : Noting → Reading
 noted n = record { runner = n.runner; answer = noted_as n.reply }
 
 abbrev pub unread : Refusal → Runner → Reading
-unread x r = record { runner = r; answer = Answer.Refused x }
+unread x r = record { runner = r; answer = Err x }
 
 -- the call that a record makes under the runner's own key: 93 credit on pool Output, 94 input, 96 end_input, 97 disconnect
 unfoldable pub made : Record → Runner → (at : ℕ) → (s store lengths : List ℕ) → ReadAfter
@@ -89,13 +84,13 @@ made (Extended n) r at s store lengths = read_after (unread NotInbound r) store 
 made Eof r at s store lengths = read_after (heard (Calls.end_input r r.key)) store lengths
 made Close r at s store lengths = read_after (noted (Calls.disconnect r at)) store lengths
 
-unfoldable pub parsed_read : Parsed → Runner → (at : ℕ) → (s store lengths : List ℕ) → ReadAfter
-parsed_read (Parsed.Read rec) r at s store lengths = made rec r at s store lengths
-parsed_read (Parsed.Refused x) r at s store lengths = read_after (unread x r) store lengths
+unfoldable pub parsed_read : Result Record Refusal → Runner → (at : ℕ) → (s store lengths : List ℕ) → ReadAfter
+parsed_read (Ok rec) r at s store lengths = made rec r at s store lengths
+parsed_read (Err x) r at s store lengths = read_after (unread x r) store lengths
 
-unfoldable pub admitted_read : Reply → Runner → (at channel : ℕ) → (s store lengths : List ℕ) → ReadAfter
-admitted_read Reply.Ok r at channel s store lengths = parsed_read (read channel s) r at s store lengths
-admitted_read (Reply.Refused x) r at channel s store lengths = read_after (unread x r) store lengths
+unfoldable pub admitted_read : Result (Unit {0}) Refusal → Runner → (at channel : ℕ) → (s store lengths : List ℕ) → ReadAfter
+admitted_read (Ok tt) r at channel s store lengths = parsed_read (read channel s) r at s store lengths
+admitted_read (Err x) r at channel s store lengths = read_after (unread x r) store lengths
 
 -- the record s, read at an instant for a channel
 unfoldable pub read_record : Runner → (at channel : ℕ) → (s store lengths : List ℕ) → ReadAfter
@@ -140,15 +135,15 @@ sent_buffer channel Sending.Nothing buffer = buffer
 sent_buffer channel (Sending.Record rec) buffer = laid_record channel rec buffer
 sent_buffer channel (Sending.Ending status) buffer = ending channel status ++ drop (length (ending channel status)) buffer
 
-unfoldable pub wrote : (channel : ℕ) (ended : Bool) → Said → Wrote
-wrote channel ended Said.None = Wrote.None
-wrote channel ended (Said.Message m) = Wrote.Message m (length_of channel (sent_as ended m))
-wrote channel ended (Said.Refused x) = Wrote.Refused x
+unfoldable pub wrote : (channel : ℕ) (ended : Bool) → Result (Option Message) Refusal → (Result (Option (Message × ℕ)) Refusal)
+wrote channel ended (Ok None) = Ok None
+wrote channel ended (Ok (Some m)) = (Ok (Some (m, (length_of channel (sent_as ended m)))))
+wrote channel ended (Err x) = Err x
 
-unfoldable pub wrote_buffer : (channel : ℕ) (ended : Bool) → Said → List ℕ → List ℕ
-wrote_buffer channel ended Said.None buffer = buffer
-wrote_buffer channel ended (Said.Message m) buffer = sent_buffer channel (sent_as ended m) buffer
-wrote_buffer channel ended (Said.Refused x) buffer = buffer
+unfoldable pub wrote_buffer : (channel : ℕ) (ended : Bool) → Result (Option Message) Refusal → List ℕ → List ℕ
+wrote_buffer channel ended (Ok None) buffer = buffer
+wrote_buffer channel ended (Ok (Some m)) buffer = sent_buffer channel (sent_as ended m) buffer
+wrote_buffer channel ended (Err x) buffer = buffer
 
 -- the buffer whose part from byte 13, exactly chunk long, came back as the part given
 abbrev pub part_back : (chunk : ℕ) → (buffer part : List ℕ) → List ℕ
@@ -171,13 +166,13 @@ is_left_message Message.InputClosed = false
 is_left_message (Message.Terminal outcome) = is_untold outcome.status
 
 -- a Terminal whose status no request tells is left with the runner
-unfoldable pub is_left : Said → Bool
-is_left Said.None = false
-is_left (Said.Message m) = is_left_message m
-is_left (Said.Refused x) = false
+unfoldable pub is_left : Result (Option Message) Refusal → Bool
+is_left (Ok None) = false
+is_left (Ok (Some m)) = is_left_message m
+is_left (Err x) = false
 
 abbrev pub unwritten : Refusal → Runner → Writing
-unwritten x r = record { runner = r; wrote = Wrote.Refused x }
+unwritten x r = record { runner = r; wrote = Err x }
 
 -- 40, and nothing changes; else the message is taken and told
 unfoldable pub sent : Runner → (channel : ℕ) → (store buffer : List ℕ) → WriteAfter
@@ -197,9 +192,9 @@ roomy_write r channel store buffer =
     (sent r channel store buffer)
     (write_after (unwritten BufferShort r) buffer)
 
-unfoldable pub admitted_write : Reply → Runner → (channel : ℕ) → (store buffer : List ℕ) → WriteAfter
-admitted_write Reply.Ok r channel store buffer = roomy_write r channel store buffer
-admitted_write (Reply.Refused x) r channel store buffer = write_after (unwritten x r) buffer
+unfoldable pub admitted_write : Result (Unit {0}) Refusal → Runner → (channel : ℕ) → (store buffer : List ℕ) → WriteAfter
+admitted_write (Ok tt) r channel store buffer = roomy_write r channel store buffer
+admitted_write (Err x) r channel store buffer = write_after (unwritten x r) buffer
 
 -- the next record for a channel
 unfoldable pub write_record : Runner → (channel : ℕ) → (store buffer : List ℕ) → WriteAfter

@@ -1,18 +1,16 @@
 -- The twelve edges of 01 as one table, each computed from the definitions: (1) to (10) on the runner's calls, from open on, and
 -- (11) and (12) on the records. An edge's own words stand above it.
-use Rattle.std.specs.Prelude.{◌≡◌, refl, true, false, List, [], ◌∷◌, ℕ, zero, suc, ◌-◌, ◌^◌}
+use Rattle.std.specs.Prelude.{◌≡◌, refl, true, false, List, [], ◌∷◌, ℕ, zero, suc, ◌-◌, ◌^◌, Option, Result, Some, None, Ok, Err}
 use Rattle.std.proofs.Common.{arith}
+use Rattle.runner.specs.declared.answer.Message.{Message}
+use Rattle.exec.specs.declared.Receipt.{Receipt}
 use Rattle.exec.specs.declared.Cause.TheVariants.{Cancelled}
-use Rattle.exec.specs.declared.Deadline.TheVariants.{Never, At}
 use Rattle.exec.specs.declared.Key.{Key}
 use Rattle.exec.specs.declared.Limits.{Limits}
 use Rattle.exec.specs.declared.Pool.{Pool}
 use Rattle.exec.specs.declared.Pool.TheVariants.{Stdout, Output}
 use Rattle.exec.specs.declared.Receipt.TheVariants.{Applied, Stale, Late}
-use Rattle.exec.specs.declared.Received.{Received}
-use Rattle.exec.specs.declared.Received.TheVariants.{Receipt, Refused}
 use Rattle.exec.specs.declared.Refusal.{Refusal}
-use Rattle.exec.specs.declared.Reply.{Reply}
 use Rattle.exec.specs.declared.Timers.{Timers}
 use Rattle.exec.specs.Key.{new_key, admits}
 use Rattle.exec.specs.Limits.{bytes_window, frames_window, limits_for, shared_output, cost, bytes_with}
@@ -26,19 +24,16 @@ use Rattle.input.specs.Input as Input
 use Rattle.output.specs.Output.{output_fits}
 use Rattle.runner.specs.declared.answer.Hearing.{Hearing}
 use Rattle.runner.specs.declared.answer.Message.TheVariants as Messages
-use Rattle.runner.specs.declared.answer.When.{When}
 use Rattle.runner.specs.declared.runner.Runner.{Runner}
 use Rattle.runner.specs.Calls as Calls
-use Rattle.runner.specs.Calls.{WrittenAfter, pending_after}
+use Rattle.runner.specs.Calls.{WrittenAfter}
 use Rattle.choice.specs.Order.{if_else, order}
 use Rattle.runner.specs.Life as Life
 use Rattle.runner.specs.Message as Message
 use Rattle.runner.specs.Range as Range
 use Rattle.runner.specs.Streams as Streams
 use Rattle.runner.specs.Streams.{InputAfter, input_after}
-use Rattle.codec.specs.declared.Parsed.TheVariants as Parsed
 use Rattle.codec.specs.declared.Record.TheVariants.{Adjust, Data}
-use Rattle.channel.specs.declared.calls.Wrote.{Wrote}
 use Rattle.channel.specs.Calls as Channel
 use Rattle.channel.specs.Calls.{room}
 use Rattle.octets.specs.Bytes.{be32_at, number_at}
@@ -78,7 +73,7 @@ unfolding opened Calls.next_message Message.choose order if_else Message.effect
 granted l = (Calls.next_message (opened l) (zeros 16) []).saying.runner
 
 -- what the peer's message leaves, and its answer
-abbrev heard : Runner → Received → Hearing
+abbrev heard : Runner → Result Receipt Refusal → Hearing
 heard r x = record { runner = r; received = x }
 
 -- input under the runner's own key, lent stores of zeros
@@ -88,7 +83,7 @@ sent r bytes = Calls.input r own bytes (zeros 16) (zeros 2)
 
 -- what it leaves where it is refused: state and stores are kept
 abbrev kept : Runner → Refusal → InputAfter
-kept r x = input_after (heard r (Refused x)) (zeros 16) (zeros 2)
+kept r x = input_after (heard r (Err x)) (zeros 16) (zeros 2)
 
 abbrev abcd : List ℕ
 abcd = 97 ∷ 98 ∷ 99 ∷ 100 ∷ []
@@ -104,12 +99,12 @@ keyed k = Calls.credit (opened in_bytes) k Stdout 3
     ∷ Calls.cancel (opened in_bytes) 20 k Cancelled
     ∷ []
 
-abbrev each : Received → List Hearing
+abbrev each : Result Receipt Refusal → List Hearing
 each x = heard (opened in_bytes) x ∷ heard (opened in_bytes) x ∷ heard (opened in_bytes) x ∷ heard (opened in_bytes) x ∷ []
 
-edge1 : (keyed (new_key 7 1) ≡ each (Receipt Stale))
-    × (keyed (new_key 7 3) ≡ each (Refused Refusal.Key))
-    × (keyed (new_key 8 2) ≡ each (Refused Refusal.Key))
+edge1 : (keyed (new_key 7 1) ≡ each (Ok Stale))
+    × (keyed (new_key 7 3) ≡ each (Err Refusal.Key))
+    × (keyed (new_key 8 2) ≡ each (Err Refusal.Key))
 unfolding keyed
 edge1 = (refl, refl, refl)
 
@@ -121,9 +116,9 @@ credited r p units = Calls.credit r own p units
 abbrev full : Runner
 full = (credited (opened in_bytes) Stdout 8).runner
 
-edge2 : ((credited (opened in_bytes) Stdout 8).received ≡ Receipt Applied)
-    × (credited full Stdout 1 ≡ heard full (Refused Refusal.Credit))
-    × (credited full Stdout 0 ≡ heard full (Refused Refusal.Credit))
+edge2 : ((credited (opened in_bytes) Stdout 8).received ≡ Ok Applied)
+    × (credited full Stdout 1 ≡ heard full (Err Refusal.Credit))
+    × (credited full Stdout 0 ≡ heard full (Err Refusal.Credit))
 unfolding credited
 edge2 = (refl, refl, refl)
 
@@ -147,7 +142,7 @@ unfolding granted Calls.input_closed Life.close_runner_input
 closed = (Calls.input_closed (granted in_bytes)).runner
 
 edge5 : (closed.input.window.open ≡ 8)
-    × ((sent closed abcd).hearing.received ≡ Receipt Late)
+    × ((sent closed abcd).hearing.received ≡ Ok Late)
     × ((sent closed abcd).hearing.runner.input.window.open ≡ 4)
 unfolding closed sent
 edge5 = (refl, refl, refl)
@@ -165,37 +160,37 @@ written = Calls.input_written frame2.hearing.runner 4 frame2.lengths
 
 edge6 : (frame2.hearing.runner.input.window.returnable ≡ 0)
     × (written.noting.runner.input.window.returnable ≡ 1)
-    × (Calls.pending_input written.noting.runner frame2.bytes ≡ pending_after (5 ∷ []) 0)
+    × (Calls.pending_input written.noting.runner frame2.bytes ≡ Ok (5 ∷ []))
 unfolding written Calls.pending_input Streams.pending_of Input.pending_input front
 edge6 = (refl, refl, refl)
 
 -- (7) "Shared: Stdout is Pool"
-edge7 : credited (opened (shared_output in_bytes)) Stdout 3 ≡ heard (opened (shared_output in_bytes)) (Refused Refusal.Pool)
+edge7 : credited (opened (shared_output in_bytes)) Stdout 3 ≡ heard (opened (shared_output in_bytes)) (Err Refusal.Pool)
 unfolding credited
 edge7 = refl
 
 -- (8) "Unshared: Output is Pool"
-edge8 : credited (opened in_bytes) Output 3 ≡ heard (opened in_bytes) (Refused Refusal.Pool)
+edge8 : credited (opened in_bytes) Output 3 ≡ heard (opened in_bytes) (Err Refusal.Pool)
 unfolding credited
 edge8 = refl
 
 -- (9) "2^64 − 2 plus 1 is a time, plus 2 none": the timeout of a runner opened then
-timed : ℕ → When
+timed : ℕ → Result (Option ℕ) Refusal
 unfolding opened Calls.deadline Life.deadline_of
 timed timeout = Calls.deadline (Calls.«open» own in_bytes (with_timeout timers timeout) (2 ^ 64 - 2) (zeros 16) []).runner
 
-edge9 : (timed 1 ≡ When.Is (At (2 ^ 64 - 1))) × (timed 2 ≡ When.Is Never)
+edge9 : (timed 1 ≡ Ok (Some (2 ^ 64 - 1))) × (timed 2 ≡ Ok None)
 unfolding timed
 edge9 = (refl, refl)
 
 -- (10) "Chunk 4, Frames 2: 16 bytes and 2 lengths do, 15 give 11"; so does one length
-opened_with : (bytes lengths : ℕ) → Reply
+opened_with : (bytes lengths : ℕ) → Result (Unit {0}) Refusal
 unfolding Calls.«open» bytes_with
 opened_with bytes lengths = (Calls.«open» own in_frames timers 0 (zeros bytes) (zeros lengths)).reply
 
-edge10 : (opened_with 16 2 ≡ Reply.Ok)
-    × (opened_with 15 2 ≡ Reply.Refused Refusal.StoreShort)
-    × (opened_with 16 1 ≡ Reply.Refused Refusal.StoreShort)
+edge10 : (opened_with 16 2 ≡ Ok tt)
+    × (opened_with 15 2 ≡ Err Refusal.StoreShort)
+    × (opened_with 16 1 ≡ Err Refusal.StoreShort)
     × (number Refusal.StoreShort ≡ 11)
 unfolding opened_with
 edge10 = (refl, refl, refl, refl)
@@ -204,7 +199,7 @@ edge10 = (refl, refl, refl, refl)
 abbrev adjust : List ℕ
 adjust = 93 ∷ 0 ∷ 0 ∷ 0 ∷ 5 ∷ 0 ∷ 0 ∷ 0 ∷ 8 ∷ []
 
-edge11 : (bytes_of 5 (Adjust 8) [] ≡ adjust) × (read 5 adjust ≡ Parsed.Read (Adjust 8))
+edge11 : (bytes_of 5 (Adjust 8) [] ≡ adjust) × (read 5 adjust ≡ Ok (Adjust 8))
 unfolding bytes_of header read kinded checked fitting number_at be32_at
 edge11 = (refl, refl)
 
@@ -212,7 +207,7 @@ edge11 = (refl, refl)
 abbrev ab : List ℕ
 ab = 94 ∷ 0 ∷ 0 ∷ 0 ∷ 5 ∷ 0 ∷ 0 ∷ 0 ∷ 2 ∷ 97 ∷ 98 ∷ []
 
-edge12 : (bytes_of 5 (Data 2) (97 ∷ 98 ∷ []) ≡ ab) × (read 5 ab ≡ Parsed.Read (Data 2))
+edge12 : (bytes_of 5 (Data 2) (97 ∷ 98 ∷ []) ≡ ab) × (read 5 ab ≡ Ok (Data 2))
 unfolding bytes_of header read kinded checked fitting number_at be32_at
 edge12 = (refl, refl)
 
@@ -233,22 +228,22 @@ abbrev beyond : Runner
 beyond = overwritten.noting.runner
 
 foreign : (frame44.lengths ≡ 4 ∷ 4 ∷ [])
-    × (overwritten.noting.reply ≡ Reply.Ok)
+    × (overwritten.noting.reply ≡ Ok tt)
     × (beyond.input.inbox.frames ≡ 1)
     × (beyond.input.inbox.length ≡ 6)
-    × (Calls.tick beyond 0 ≡ record { runner = beyond; reply = Reply.Refused Refusal.StateOutOfRange })
+    × (Calls.tick beyond 0 ≡ record { runner = beyond; reply = Err Refusal.StateOutOfRange })
     × (number Refusal.StateOutOfRange ≡ 12)
 unfolding written Calls.tick Range.stop
 foreign = (refl, refl, refl, refl, refl, refl)
 
 -- ---- what the codec refuses is refused so, of every runner that is not refused before; so 98 inbound is still 21
 
-pub unread : (r : Runner) (at channel : ℕ) (s store lengths : List ℕ) (x : Refusal) → Channel.admitted r (Calls.stores_do r store lengths) ≡ Reply.Ok
-    → read channel s ≡ Parsed.Refused x → Channel.read_record r at channel s store lengths ≡ Channel.read_after (Channel.unread x r) store lengths
+pub unread : (r : Runner) (at channel : ℕ) (s store lengths : List ℕ) (x : Refusal) → Channel.admitted r (Calls.stores_do r store lengths) ≡ Ok tt
+    → read channel s ≡ Err x → Channel.read_record r at channel s store lengths ≡ Channel.read_after (Channel.unread x r) store lengths
 unfolding Channel.read_record Channel.admitted_read Channel.parsed_read
 unread r at channel s store lengths x g e = rw (g, e) refl
 
-pub inbound : (r : Runner) (at channel : ℕ) (s store lengths : List ℕ) → Channel.admitted r (Calls.stores_do r store lengths) ≡ Reply.Ok
+pub inbound : (r : Runner) (at channel : ℕ) (s store lengths : List ℕ) → Channel.admitted r (Calls.stores_do r store lengths) ≡ Ok tt
     → Channel.read_record r at channel (98 ∷ s) store lengths ≡ Channel.read_after (Channel.unread Refusal.UnknownKind r) store lengths
 inbound r at channel s store lengths g = unread r at channel (98 ∷ s) store lengths Refusal.UnknownKind g (kind_over channel 98 s (omega arith))
 
@@ -263,10 +258,10 @@ roomed = (refl, refl, refl)
 on_channel : Limits
 on_channel = limits_for 4 (bytes_window 8) (bytes_window 8) true
 
-wrotes : (bytes : ℕ) → Wrote
+wrotes : (bytes : ℕ) → (Result (Option (Message × ℕ)) Refusal)
 unfolding opened Calls.next_message Message.choose order if_else Message.effect Message.said_for Channel.write_record Channel.admitted Channel.admitted_write Channel.roomy_write Channel.sent Channel.asked Channel.is_left Channel.told Channel.wrote Channel.sent_as on_channel
 wrotes bytes = (Channel.write_record (opened on_channel) 5 (zeros 16) (zeros bytes)).writing.wrote
 
-short : (wrotes 42 ≡ Wrote.Refused Refusal.BufferShort) × (wrotes 43 ≡ Wrote.Message (Messages.Credit 8) 9) × (number Refusal.BufferShort ≡ 25)
+short : (wrotes 42 ≡ Err Refusal.BufferShort) × (wrotes 43 ≡ (Ok (Some (Messages.Credit 8, 9)))) × (number Refusal.BufferShort ≡ 25)
 unfolding wrotes
 short = (refl, refl, refl)

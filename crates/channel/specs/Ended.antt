@@ -1,21 +1,19 @@
 -- How a session ends on a channel: what the record of a Terminal tells, and a Terminal that is left with the runner.
-use Rattle.std.specs.Prelude.{Bool, List, ℕ, ◌-◌, ◌≤◌, ◌<◌, length, take, drop}
+use Rattle.std.specs.Prelude.{Bool, List, ℕ, ◌-◌, ◌≤◌, ◌<◌, length, take, drop, Option, Result, Some, None, Ok, Err}
 use Rattle.std.proofs.Math.Bool.{true, false}
 use Rattle.std.proofs.Math.Path.{◌≡◌}
+use Rattle.exec.specs.declared.Refusal.{Refusal}
 use Rattle.exec.specs.declared.Outcome.{Outcome}
 use Rattle.exec.specs.declared.Refusal.TheVariants.{NotAChannel, BufferShort, UntoldStatus}
 use Rattle.exec.specs.Refusal.{number}
 use Rattle.runner.specs.declared.answer.Message.{Message}
-use Rattle.runner.specs.declared.answer.Said.{Said}
 use Rattle.runner.specs.declared.runner.Runner.{Runner}
 use Rattle.runner.specs.Calls as Calls
 use Rattle.runner.specs.Life.{outcome_of}
-use Rattle.codec.specs.declared.Parsed.TheVariants as Parsed
 use Rattle.codec.specs.declared.Record.TheVariants.{Close}
 use Rattle.codec.specs.Codec.{read}
 use Rattle.exits.specs.Exit.{is_untold, ending}
 use Rattle.exits.specs.RoundTrip.{Tells}
-use Rattle.channel.specs.declared.calls.Wrote.{Wrote}
 use Rattle.channel.specs.Calls.{WriteAfter, write_after, is_channel, has_ended, part_back, told, asked, is_left, unwritten, room, write_record}
 
 -- ---- the ways of a write
@@ -34,15 +32,15 @@ pub data Writes (r : Runner) (channel : ℕ) (store b : List ℕ) : Bool → Wri
 -- ---- a Terminal that is left
 
 -- the number of an answer that is a refusal
-abbrev pub number_of : Wrote → ℕ
-number_of Wrote.None = 0
-number_of (Wrote.Message m n) = 0
-number_of (Wrote.Refused x) = number x
+abbrev pub number_of : (Result (Option (Message × ℕ)) Refusal) → ℕ
+number_of (Ok None) = 0
+number_of (Ok (Some (m, n))) = 0
+number_of (Err x) = number x
 
 -- nothing changed, and next_message says it into a buffer of any length
 pub record Still (r : Runner) (channel : ℕ) (store b : List ℕ) : Type 0 where
   pub kept : write_record r channel store b ≡ write_after (unwritten UntoldStatus r) b
-  pub said : (part : List ℕ) → (Calls.next_message r store part).saying.said ≡ Said.Message (Message.Terminal (outcome_of r))
+  pub said : (part : List ℕ) → (Calls.next_message r store part).saying.said ≡ (Ok (Some (Message.Terminal (outcome_of r))))
   pub untold : is_untold (outcome_of r).status ≡ true
 
 -- ---- a Terminal that is told
@@ -52,15 +50,15 @@ pub record Ending (channel : ℕ) (o : Outcome) (n : ℕ) (b : List ℕ) : Type 
   pub told : is_untold o.status ≡ false
   pub size : n ≡ length (ending channel o.status)
   pub tells : Tells channel o.status (take (n - 5) b)
-  pub closes : read channel (take 5 (drop (n - 5) b)) ≡ Parsed.Read Close
+  pub closes : read channel (take 5 (drop (n - 5) b)) ≡ Ok Close
 
 -- the outcome that an answer has, if it is a Terminal, and its length
-abbrev pub EndsAs : (channel : ℕ) (b : List ℕ) → Wrote → Type 0
-EndsAs channel b Wrote.None = Unit
-EndsAs channel b (Wrote.Message (Message.Credit units) n) = Unit
-EndsAs channel b (Wrote.Message Message.Started n) = Unit
-EndsAs channel b (Wrote.Message (Message.Output x k) n) = Unit
-EndsAs channel b (Wrote.Message (Message.End x) n) = Unit
-EndsAs channel b (Wrote.Message Message.InputClosed n) = Unit
-EndsAs channel b (Wrote.Message (Message.Terminal o) n) = Ending channel o n b
-EndsAs channel b (Wrote.Refused x) = Unit
+abbrev pub EndsAs : (channel : ℕ) (b : List ℕ) → (Result (Option (Message × ℕ)) Refusal) → Type 0
+EndsAs channel b (Ok None) = Unit
+EndsAs channel b (Ok (Some (Message.Credit units, n))) = Unit
+EndsAs channel b (Ok (Some (Message.Started, n))) = Unit
+EndsAs channel b (Ok (Some (Message.Output x k, n))) = Unit
+EndsAs channel b (Ok (Some (Message.End x, n))) = Unit
+EndsAs channel b (Ok (Some (Message.InputClosed, n))) = Unit
+EndsAs channel b (Ok (Some (Message.Terminal o, n))) = Ending channel o n b
+EndsAs channel b (Err x) = Unit

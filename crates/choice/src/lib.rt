@@ -18,59 +18,73 @@ pub enum Choice {
     Terminal,
 }
 
-// The order of messages. `x` is the stream whose turn it is, n1 and n2 are what it and the one that follows can send.
+// What the order of messages is told of a runner.
+#[derive(Clone, Copy)]
+pub struct Shown {
+    // The outcome was returned.
+    pub finished: bool,
+    // Nobody is left to hear anything but the outcome.
+    pub detached: bool,
+    // Credit waits to be granted.
+    pub can_grant: bool,
+    // The last message was credit.
+    pub credited: bool,
+    // The message that the workload started waits.
+    pub started: bool,
+    // The message that the input closed waits.
+    pub closed: bool,
+    // The launch result is still waited for.
+    pub awaits: bool,
+    // The ends of the streams, in the order of Stream::ALL, that are not told.
+    pub ends: (bool, bool),
+    // Everything that the outcome reports is known.
+    pub ready: bool,
+    // The stream whose turn it is, and how many bytes it and the one that follows can send.
+    pub turn: Stream,
+    pub sendable: (u32, u32),
+}
+
+// The order of messages.
 #[tactic(auto, unfolding(crate::specs::Order::order, crate::specs::Order::if_else))]
-pub fn order(
-    finished: bool,
-    detached: bool,
-    can: bool,
-    credited: bool,
-    started: bool,
-    closed: bool,
-    awaits: bool,
-    end0: bool,
-    end1: bool,
-    ready: bool,
-    x: Stream,
-    n1: u32,
-    n2: u32,
-) -> Choice
-    ensures { result ≡ order finished detached can credited started closed awaits end0 end1 ready x n1 n2 }
+pub fn order(shown: Shown) -> Choice
+    ensures { result
+        ≡ order shown.finished shown.detached shown.can_grant shown.credited shown.started shown.closed shown.awaits
+        shown.ends.0 shown.ends.1 shown.ready shown.turn shown.sendable.0 shown.sendable.1 }
 {
-    if finished {
+    if shown.finished {
         return Choice::None;
     }
-    if detached {
-        if ready {
+    if shown.detached {
+        if shown.ready {
             return Choice::Terminal;
         }
         return Choice::None;
     }
-    if can & !credited {
+    if shown.can_grant & !shown.credited {
         return Choice::Credit;
     }
-    if started {
+    if shown.started {
         return Choice::Started;
     }
-    if closed {
+    if shown.closed {
         return Choice::InputClosed;
     }
-    if !awaits & end0 {
+    if !shown.awaits & shown.ends.0 {
         return Choice::End(Stream::Stdout);
     }
-    if !awaits & end1 {
+    if !shown.awaits & shown.ends.1 {
         return Choice::End(Stream::Stderr);
     }
-    if !awaits & (0 < n1) {
-        return Choice::Output(x, n1);
+    if !shown.awaits & (0 < shown.sendable.0) {
+        return Choice::Output(shown.turn, shown.sendable.0);
     }
-    if !awaits & (0 < n2) {
-        return Choice::Output(x.following(), n2);
+    if !shown.awaits & (0 < shown.sendable.1) {
+        return Choice::Output(shown.turn.following(), shown.sendable.1);
     }
-    if can {
+    if shown.can_grant {
         return Choice::Credit;
     }
-    if ready {
+    if shown.ready {
         return Choice::Terminal;
     }
     Choice::None

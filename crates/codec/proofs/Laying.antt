@@ -1,40 +1,24 @@
--- Laws of the code that lays a record, over plain variables.
-use mathlib.Core.Path.{◌≡◌, sym, ap, ◌∙◌}
-use mathlib.Core.List.{List, ◌++◌, append_assoc}
-use Prim.Native.Nat.{ℕ, ◌+◌, ◌≤◌}
-use native.Mathlib.Omega.{arith}
-use lib.ListN.{length, take, drop, take-append-drop}
-use lib.Seq.{drop-drop}
-use Rattle.ring.specs.Runs.{copied, copied_length}
-use Rattle.codec.specs.declared.Record.{Record}
-use Rattle.codec.specs.declared.Record.TheVariants.{Adjust, Data, Extended, Eof, Close}
-use Rattle.codec.specs.Codec.{header, start, size, laid_record}
-use Rattle.codec.specs.CodecLaws.{header_laid}
+-- The loop that lays a header's numbers, over plain variables.
+use Rattle.std.specs.Prelude.{◌≡◌, refl, List, [], ◌∷◌, ◌++◌, ℕ, ◌+◌, ◌*◌, ◌≤◌, ◌<◌, length, take, drop, get_or}
+use Rattle.std.specs.List.{flat_map}
+use Rattle.std.proofs.Common.{ap, ◌∙◌, arith, add-one, length-take-le}
+use Rattle.std.proofs.Math.Seq.{take-suc}
+use Rattle.std.proofs.lemmas.Grind.{flat_map-append}
+use Rattle.ring.specs.Runs.{copied}
+use Rattle.octets.specs.Bytes.{be32}
+use Rattle.octets.specs.BytesLaws.{laid_behind}
 
--- bytes that are not moved
-pub unmoved : (d : List ℕ) (at n : ℕ) → d ≡ copied d at d at n
-unfolding copied
-unmoved d at n =
-    sym (append_assoc (take at d) (take n (drop at d)) (drop (at + n) d)
-    ∙ ap (λ (x : List ℕ). take at d ++ (take n (drop at d) ++ x)) (sym (drop-drop n at d))
-    ∙ ap (λ (x : List ℕ). take at d ++ x) (take-append-drop n (drop at d))
-    ∙ take-append-drop at d)
+-- numbers laid one behind the other
+pub numbers_length : (ns : List ℕ) → length (flat_map be32 ns) ≡ 4 * length ns
+numbers_length [] = refl
+numbers_length (n ∷ ns) = omega (arith, numbers_length ns)
 
-pub start_most : (rec : Record) → start rec ≤ 13
-start_most (Adjust units) = omega arith
-start_most (Data n) = omega arith
-start_most (Extended n) = omega arith
-start_most Eof = omega arith
-start_most Close = omega arith
-
-module _ (rec : Record) (d b : List ℕ) (room : 13 + size rec ≤ length d) (e : b ≡ copied d (start rec) d 13 (size rec)) where
-  -- and the header is laid before it
-  pub laid_by : (channel : ℕ) (e₁ : List ℕ) → e₁ ≡ header channel rec ++ drop (start rec) b → e₁ ≡ laid_record channel rec d
-  unfolding laid_record
-  laid_by channel e₁ h =
-      h
-      ∙ ap (λ (x : List ℕ). header channel rec ++ drop (start rec) x) e
-      ∙ header_laid channel rec d d 13 (size rec) (omega (arith, start_most rec))
-
-  pub room_kept : start rec ≤ length b
-  room_kept = rw e (omega (arith, start_most rec, copied_length d (start rec) d 13 (size rec) (omega (arith, start_most rec)) room))
+pub numbers_turn : (d : List ℕ) (kind : ℕ) (ns : List ℕ) (i : ℕ) → i < length ns → 1 + 4 * length ns ≤ length d
+    → copied (kind ∷ flat_map be32 (take i ns) ++ drop (1 + 4 * i) d) (1 + 4 * i) (be32 (get_or ns i 0)) 0 4
+    ≡ kind ∷ flat_map be32 (take (i + 1) ns) ++ drop (1 + 4 * (i + 1)) d
+numbers_turn d kind ns i h room =
+    let p = kind ∷ flat_map be32 (take i ns) in
+    let l : length p ≡ 1 + 4 * i = omega (arith, numbers_length (take i ns), length-take-le i ns (omega arith)) in
+    let more : flat_map be32 (take (i + 1) ns) ≡ flat_map be32 (take i ns) ++ be32 (get_or ns i 0) =
+    rw (add-one, take-suc ns i 0 h) (flat_map-append be32 (take i ns) (get_or ns i 0 ∷ [])) in
+    laid_behind d p (be32 (get_or ns i 0)) (1 + 4 * i) 4 l refl (omega arith) ∙ rw more (ap (λ k. p ++ be32 (get_or ns i 0) ++ drop k d) (omega arith))

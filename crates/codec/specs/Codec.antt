@@ -1,10 +1,9 @@
 -- The records of an open channel, by RFC 4254, 5.2 and 5.3: kind, channel, and what the kind has behind them.
-use Rattle.std.specs.Prelude.{Bool, true, cond, List, ◌∷◌, ◌++◌, ℕ, ◌+◌, ◌^◌, ◌<◌, eqb, leb, length, take, drop, get_or}
+use Rattle.std.specs.Prelude.{Bool, true, cond, List, ◌∷◌, ◌++◌, ℕ, ◌+◌, ◌^◌, ◌<◌, eqb, leb, length, take, drop, get_or, Result, Ok, Err}
+use Rattle.exec.specs.declared.Refusal.{Refusal}
 use Rattle.exec.specs.declared.Refusal.TheVariants.{BadLength, UnknownKind, OtherChannel, BadType, BufferShort}
-use Rattle.codec.specs.declared.Parsed.{Parsed}
 use Rattle.codec.specs.declared.Record.{Record}
 use Rattle.codec.specs.declared.Record.TheVariants.{Adjust, Data, Extended, Eof, Close}
-use Rattle.codec.specs.declared.Written.{Written}
 use Rattle.octets.specs.Bytes.{be32, number_at}
 
 -- ---- a record in bytes
@@ -51,13 +50,13 @@ bytes_of channel rec payload = header channel rec ++ payload
 -- ---- reading: 20 (empty), 21, 20, 22, 23
 
 -- the record of a kind, with the number that its bytes have where that kind has one
-unfoldable pub kinded : (kind : ℕ) → List ℕ → Parsed
+unfoldable pub kinded : (kind : ℕ) → List ℕ → Result Record Refusal
 kinded kind s =
-    cond (eqb kind 93) (Parsed.Read (Adjust (number_at s 5)))
-    (cond (eqb kind 94) (Parsed.Read (Data (number_at s 5)))
-    (cond (eqb kind 95) (Parsed.Read (Extended (number_at s 9)))
-    (cond (eqb kind 96) (Parsed.Read Eof)
-    (cond (eqb kind 97) (Parsed.Read Close) (Parsed.Refused UnknownKind)))))
+    cond (eqb kind 93) (Ok (Adjust (number_at s 5)))
+    (cond (eqb kind 94) (Ok (Data (number_at s 5)))
+    (cond (eqb kind 95) (Ok (Extended (number_at s 9)))
+    (cond (eqb kind 96) (Ok Eof)
+    (cond (eqb kind 97) (Ok Close) (Err UnknownKind)))))
 
 -- the type of extended data is 1
 abbrev pub is_typed : Record → List ℕ → Bool
@@ -68,30 +67,30 @@ is_typed Eof s = true
 is_typed Close s = true
 
 -- exactly its length, for the channel, and of a type that is known
-unfoldable pub fitting : (channel : ℕ) → List ℕ → Record → Parsed
+unfoldable pub fitting : (channel : ℕ) → List ℕ → Record → Result Record Refusal
 fitting channel s rec =
     cond (eqb (length s) (start rec + size rec))
     (cond (eqb (number_at s 1) channel)
-    (cond (is_typed rec s) (Parsed.Read rec) (Parsed.Refused BadType))
-    (Parsed.Refused OtherChannel))
-    (Parsed.Refused BadLength)
+    (cond (is_typed rec s) (Ok rec) (Err BadType))
+    (Err OtherChannel))
+    (Err BadLength)
 
-unfoldable pub checked : (channel : ℕ) → List ℕ → Parsed → Parsed
-checked channel s (Parsed.Read rec) = fitting channel s rec
-checked channel s (Parsed.Refused x) = Parsed.Refused x
+unfoldable pub checked : (channel : ℕ) → List ℕ → Result Record Refusal → Result Record Refusal
+checked channel s (Ok rec) = fitting channel s rec
+checked channel s (Err x) = Err x
 
-unfoldable pub read : (channel : ℕ) → List ℕ → Parsed
+unfoldable pub read : (channel : ℕ) → List ℕ → Result Record Refusal
 read channel s =
-    cond (eqb (length s) 0) (Parsed.Refused BadLength) (checked channel s (kinded (get_or s 0 0) s))
+    cond (eqb (length s) 0) (Err BadLength) (checked channel s (kinded (get_or s 0 0) s))
 
 -- ---- writing: 25, then 20 for a payload that has not the record's length
 
 -- what write leaves: its answer, and the buffer
 pub record WrittenAfter : Type 0 where
-  pub answer : Written
+  pub answer : Result ℕ Refusal
   pub buffer : List ℕ
 
-abbrev pub written_after : Written → List ℕ → WrittenAfter
+abbrev pub written_after : Result ℕ Refusal → List ℕ → WrittenAfter
 written_after answer buffer = record { answer = answer; buffer = buffer }
 
 -- the record at the buffer's start; nothing else is written
@@ -99,9 +98,9 @@ unfoldable pub write : (channel : ℕ) → Record → (payload buffer : List ℕ
 write channel rec payload buffer =
     cond (leb (start rec + size rec) (length buffer))
     (cond (eqb (length payload) (size rec))
-    (written_after (Written.Bytes (start rec + size rec)) (bytes_of channel rec payload ++ drop (start rec + size rec) buffer))
-    (written_after (Written.Refused BadLength) buffer))
-    (written_after (Written.Refused BufferShort) buffer)
+    (written_after (Ok (start rec + size rec)) (bytes_of channel rec payload ++ drop (start rec + size rec) buffer))
+    (written_after (Err BadLength) buffer))
+    (written_after (Err BufferShort) buffer)
 
 -- the record at the buffer's start, with its payload from byte 13 on of the buffer
 unfoldable pub laid_record : (channel : ℕ) → Record → List ℕ → List ℕ
@@ -112,5 +111,5 @@ laid_record channel rec buffer =
 unfoldable pub lay : (channel : ℕ) → Record → List ℕ → WrittenAfter
 lay channel rec buffer =
     cond (leb (13 + size rec) (length buffer))
-    (written_after (Written.Bytes (start rec + size rec)) (laid_record channel rec buffer))
-    (written_after (Written.Refused BufferShort) buffer)
+    (written_after (Ok (start rec + size rec)) (laid_record channel rec buffer))
+    (written_after (Err BufferShort) buffer)

@@ -1,5 +1,5 @@
 -- What bytes hold that are a record's: they are read as it, what is written holds it, and nothing else does; the answers of `write`, and what `lay` leaves.
-use Rattle.std.specs.Prelude.{◌≡◌, refl, true, false, ℕ, ◌+◌, ◌^◌, ◌≤◌, ◌<◌, eqb, length, take, drop, get_or}
+use Rattle.std.specs.Prelude.{◌≡◌, refl, true, false, ℕ, ◌+◌, ◌^◌, ◌≤◌, ◌<◌, eqb, length, take, drop, get_or, Ok, Err}
 use Rattle.std.proofs.Common.{sym, ◌∙◌, arith, length-append, drop-cons}
 use Rattle.std.proofs.Math.Path.{ap}
 use mathlib.Core.List.{List, [], ◌∷◌, ◌++◌, append_assoc}
@@ -8,10 +8,8 @@ use borrow.Author.Tests.{eq-eqb, ne_eqb, le-leb, lt-leb, eqb-true}
 use Rattle.exec.specs.declared.Refusal.TheVariants.{BadLength, BufferShort}
 use Rattle.ring.specs.Runs.{copied}
 use Rattle.ring.specs.Lent.{copied_drop}
-use Rattle.codec.specs.declared.Parsed.{Parsed}
 use Rattle.codec.specs.declared.Record.{Record}
 use Rattle.codec.specs.declared.Record.TheVariants.{Adjust, Data, Extended, Eof, Close}
-use Rattle.codec.specs.declared.Written.TheVariants as Written
 use Rattle.octets.specs.Bytes.{be32, number_at}
 use Rattle.octets.specs.BytesLaws.{number_written, number_fits, peel}
 use Rattle.codec.specs.Codec.{header, start, size, Fits, bytes_of, kinded, is_typed, fitting, checked, read, written_after, write, laid_record, lay}
@@ -55,7 +53,7 @@ start_most (Extended n) = omega arith
 start_most Eof = omega arith
 start_most Close = omega arith
 
-kinded_of : (k : ℕ) (s : List ℕ) (rec : Record) → IsKind k s rec → kinded k s ≡ Parsed.Read rec
+kinded_of : (k : ℕ) (s : List ℕ) (rec : Record) → IsKind k s rec → kinded k s ≡ Ok rec
 unfolding kinded
 kinded_of k s (Adjust units) h = rw (h.0, h.1)
 kinded_of k s (Data n) h = rw (h.0, h.1)
@@ -63,7 +61,7 @@ kinded_of k s (Extended n) h = rw (h.0, h.1)
 kinded_of k s Eof h = rw h
 kinded_of k s Close h = rw h
 
-pub read_of : (channel : ℕ) (s : List ℕ) (rec : Record) → Holds channel s rec → read channel s ≡ Parsed.Read rec
+pub read_of : (channel : ℕ) (s : List ℕ) (rec : Record) → Holds channel s rec → read channel s ≡ Ok rec
 unfolding read checked fitting
 read_of channel s rec h =
     let some : eqb (length s) 0 ≡ false = ne_eqb (length s) 0 (omega (arith, start_least rec)) in
@@ -153,18 +151,18 @@ header_laid channel rec b src from n h =
 
 -- the three answers
 module _ (channel : ℕ) (rec : Record) (payload b : List ℕ) where
-  pub write_short : length b < start rec + size rec → write channel rec payload b ≡ written_after (Written.Refused BufferShort) b
+  pub write_short : length b < start rec + size rec → write channel rec payload b ≡ written_after (Err BufferShort) b
   unfolding write
   write_short h = simp (lt-leb (start rec + size rec) (length b) h)
 
   pub write_other : start rec + size rec ≤ length b → (length payload ≡ size rec → ⊥)
-      → write channel rec payload b ≡ written_after (Written.Refused BadLength) b
+      → write channel rec payload b ≡ written_after (Err BadLength) b
   unfolding write
   write_other h n = simp (le-leb (start rec + size rec) (length b) h, ne_eqb (length payload) (size rec) n)
 
   pub write_all : start rec + size rec ≤ length b → length payload ≡ size rec
       → write channel rec payload b
-      ≡ written_after (Written.Bytes (start rec + size rec)) (header channel rec ++ drop (start rec) (copied b (start rec) payload 0 (size rec)))
+      ≡ written_after (Ok (start rec + size rec)) (header channel rec ++ drop (start rec) (copied b (start rec) payload 0 (size rec)))
   unfolding write
   write_all h e =
       simp (
@@ -176,10 +174,10 @@ module _ (channel : ℕ) (rec : Record) (payload b : List ℕ) where
 
 -- a record is laid where its payload is there
 module _ (channel : ℕ) (rec : Record) (b : List ℕ) where
-  pub lay_roomy : 13 + size rec ≤ length b → lay channel rec b ≡ written_after (Written.Bytes (start rec + size rec)) (laid_record channel rec b)
+  pub lay_roomy : 13 + size rec ≤ length b → lay channel rec b ≡ written_after (Ok (start rec + size rec)) (laid_record channel rec b)
   unfolding lay
   lay_roomy h = simp (le-leb (13 + size rec) (length b) h)
 
-  pub lay_short : length b < 13 + size rec → lay channel rec b ≡ written_after (Written.Refused BufferShort) b
+  pub lay_short : length b < 13 + size rec → lay channel rec b ≡ written_after (Err BufferShort) b
   unfolding lay
   lay_short h = simp (lt-leb (13 + size rec) (length b) h)

@@ -1,12 +1,10 @@
 -- Which kinds are read, and what `lay` leaves on each side of its bound, computed from the definitions; the records' own bytes are
 -- edges (11) and (12) in the crate channel.
-use Rattle.std.specs.Prelude.{◌≡◌, refl, List, [], ◌∷◌, ◌++◌, ℕ, ◌<◌, length}
+use Rattle.std.specs.Prelude.{◌≡◌, refl, List, [], ◌∷◌, ◌++◌, ℕ, ◌<◌, length, Ok, Err}
 use Rattle.std.proofs.Common.{arith, ne_eqb}
 use Rattle.exec.specs.declared.Refusal.TheVariants.{UnknownKind, BufferShort}
 use Rattle.exec.specs.Refusal.{number}
-use Rattle.codec.specs.declared.Parsed.TheVariants as Parsed
 use Rattle.codec.specs.declared.Record.TheVariants.{Data, Extended, Eof, Close}
-use Rattle.codec.specs.declared.Written.TheVariants.{Bytes, Refused}
 use Rattle.codec.specs.Codec.{header, bytes_of, kinded, checked, read, written_after, laid_record, lay}
 
 -- twelve bytes
@@ -14,19 +12,19 @@ abbrev twelve : List ℕ
 twelve = 1 ∷ 2 ∷ 3 ∷ 4 ∷ 5 ∷ 6 ∷ 7 ∷ 8 ∷ 9 ∷ 10 ∷ 11 ∷ 12 ∷ []
 
 -- a record without a payload is laid in thirteen bytes, and twelve are left
-eof : (lay 5 Eof twelve ≡ written_after (Refused BufferShort) twelve)
-    × (lay 5 Eof (twelve ++ (13 ∷ [])) ≡ written_after (Bytes 5) (96 ∷ 0 ∷ 0 ∷ 0 ∷ 5 ∷ 6 ∷ 7 ∷ 8 ∷ 9 ∷ 10 ∷ 11 ∷ 12 ∷ 13 ∷ []))
+eof : (lay 5 Eof twelve ≡ written_after (Err BufferShort) twelve)
+    × (lay 5 Eof (twelve ++ (13 ∷ [])) ≡ written_after (Ok 5) (96 ∷ 0 ∷ 0 ∷ 0 ∷ 5 ∷ 6 ∷ 7 ∷ 8 ∷ 9 ∷ 10 ∷ 11 ∷ 12 ∷ 13 ∷ []))
 unfolding lay laid_record bytes_of header
 eof = (refl, refl)
 
 -- a payload "ab" from byte 13 on is brought to byte 9; where its second byte is not there, nothing is
-data_ab : (lay 5 (Data 2) (twelve ++ (13 ∷ 97 ∷ [])) ≡ written_after (Refused BufferShort) (twelve ++ (13 ∷ 97 ∷ [])))
-    × (lay 5 (Data 2) (twelve ++ (13 ∷ 97 ∷ 98 ∷ [])) ≡ written_after (Bytes 11) (94 ∷ 0 ∷ 0 ∷ 0 ∷ 5 ∷ 0 ∷ 0 ∷ 0 ∷ 2 ∷ 97 ∷ 98 ∷ 12 ∷ 13 ∷ 97 ∷ 98 ∷ []))
+data_ab : (lay 5 (Data 2) (twelve ++ (13 ∷ 97 ∷ [])) ≡ written_after (Err BufferShort) (twelve ++ (13 ∷ 97 ∷ [])))
+    × (lay 5 (Data 2) (twelve ++ (13 ∷ 97 ∷ 98 ∷ [])) ≡ written_after (Ok 11) (94 ∷ 0 ∷ 0 ∷ 0 ∷ 5 ∷ 0 ∷ 0 ∷ 0 ∷ 2 ∷ 97 ∷ 98 ∷ 12 ∷ 13 ∷ 97 ∷ 98 ∷ []))
 unfolding lay laid_record bytes_of header
 data_ab = (refl, refl)
 
 -- "kind not 93 to 97": every other kind is 21, whatever stands behind it, 92 and 98 among them
-pub kind_over : (channel k : ℕ) (s : List ℕ) → 97 < k → read channel (k ∷ s) ≡ Parsed.Refused UnknownKind
+pub kind_over : (channel k : ℕ) (s : List ℕ) → 97 < k → read channel (k ∷ s) ≡ Err UnknownKind
 unfolding read checked kinded
 kind_over channel k s h =
     simp (
@@ -38,7 +36,7 @@ kind_over channel k s h =
       ne_eqb k 97 (omega arith),
     )
 
-pub kind_under : (channel k : ℕ) (s : List ℕ) → k < 93 → read channel (k ∷ s) ≡ Parsed.Refused UnknownKind
+pub kind_under : (channel k : ℕ) (s : List ℕ) → k < 93 → read channel (k ∷ s) ≡ Err UnknownKind
 unfolding read checked kinded
 kind_under channel k s h =
     simp (

@@ -1,7 +1,8 @@
 // The records of an open channel, RFC 4254, 5.2 and 5.3, read from and written to byte slices. Numbers are big-endian.
 #![tactic(auto)]
 
-ghost use Rattle.std.specs.Prelude.{◌≡◌, ◌∷◌, ◌++◌, ◌+◌, ◌≤◌, length, drop};
+ghost use Rattle.std.specs.Prelude.{◌≡◌, ◌∷◌, ◌++◌, ◌+◌, ◌*◌, ◌≤◌, length, drop};
+ghost use Rattle.std.specs.List.{flat_map};
 ghost use Rattle.ring.specs.Runs.{copied};
 ghost use Rattle.octets.specs.Bytes.{be32};
 ghost use Rattle.codec.specs.Codec.{
@@ -10,7 +11,6 @@ ghost use Rattle.codec.specs.Codec.{
   header,
   kinded,
   is_typed,
-  checked,
   fitting,
   read,
   written_after,
@@ -21,8 +21,19 @@ ghost use Rattle.codec.specs.Codec.{
 
 use exec::Refusal;
 
+// The kinds' message numbers, RFC 4250, 4.1.2.
+const ADJUST: u8 = 93;
+
+const DATA: u8 = 94;
+
+const EXTENDED: u8 = 95;
+
+const EOF: u8 = 96;
+
+const CLOSE: u8 = 97;
+
 // A record but for the bytes of its payload, which stand behind its header.
-#[derive(Clone, Copy)]
+#[derive(Clone, Copy, Debug, PartialEq, Eq)]
 pub enum Record {
     // SSH_MSG_CHANNEL_WINDOW_ADJUST: so many more units of the window.
     Adjust(u32),
@@ -36,31 +47,15 @@ pub enum Record {
     Close,
 }
 
-// What bytes were read as.
-#[derive(Clone, Copy)]
-pub enum Parsed {
-    Read(Record),
-    Refused(Refusal),
-}
-
-// How many bytes were written.
-#[derive(Clone, Copy)]
-pub enum Written {
-    Bytes(usize),
-    Refused(Refusal),
-}
-
 impl Record {
     // Where the payload begins.
     pub fn start(self) -> usize
         ensures { result ≡ start self }
     {
         match self {
-            Record::Adjust(_) => 9,
-            Record::Data(_) => 9,
+            Record::Eof | Record::Close => 5,
+            Record::Adjust(_) | Record::Data(_) => 9,
             Record::Extended(_) => 13,
-            Record::Eof => 5,
-            Record::Close => 5,
         }
     }
 
@@ -69,11 +64,8 @@ impl Record {
         ensures { result ≡ size self }
     {
         match self {
-            Record::Adjust(_) => 0,
-            Record::Data(n) => n as usize,
-            Record::Extended(n) => n as usize,
-            Record::Eof => 0,
-            Record::Close => 0,
+            Record::Data(n) | Record::Extended(n) => n as usize,
+            Record::Adjust(_) | Record::Eof | Record::Close => 0,
         }
     }
 
@@ -81,13 +73,7 @@ impl Record {
     pub fn whole(self) -> usize
         ensures { result ≡ start self + size self }
     {
-        match self {
-            Record::Adjust(_) => 9,
-            Record::Data(n) => 9 + n as usize,
-            Record::Extended(n) => 13 + n as usize,
-            Record::Eof => 5,
-            Record::Close => 5,
-        }
+        self.start() + self.size()
     }
 }
 
@@ -95,16 +81,16 @@ impl Record {
 
 // The record of a kind. Where the bytes end before its number it is read as 0, and its length is refused.
 #[tactic(auto, unfolding(crate::specs::Codec::kinded))]
-fn kinded(kind: u8, bytes: &[u8]) -> Parsed
+fn kinded(kind: u8, bytes: &[u8]) -> Result<Record, Refusal>
     ensures { result ≡ kinded kind bytes.now }
 {
     match kind {
-        93 => Parsed::Read(Record::Adjust(octets::number_at(bytes, 5))),
-        94 => Parsed::Read(Record::Data(octets::number_at(bytes, 5))),
-        95 => Parsed::Read(Record::Extended(octets::number_at(bytes, 9))),
-        96 => Parsed::Read(Record::Eof),
-        97 => Parsed::Read(Record::Close),
-        _ => Parsed::Refused(Refusal::UnknownKind),
+        ADJUST => Ok(Record::Adjust(octets::number_at(bytes, 5))),
+        DATA => Ok(Record::Data(octets::number_at(bytes, 5))),
+        EXTENDED => Ok(Record::Extended(octets::number_at(bytes, 9))),
+        EOF => Ok(Record::Eof),
+        CLOSE => Ok(Record::Close),
+        _ => Err(Refusal::UnknownKind),
     }
 }
 
@@ -113,78 +99,50 @@ fn is_typed(rec: Record, bytes: &[u8]) -> bool
     ensures { result ≡ is_typed rec bytes.now }
 {
     match rec {
-        Record::Adjust(_) => true,
-        Record::Data(_) => true,
         Record::Extended(_) => octets::number_at(bytes, 5) == 1,
-        Record::Eof => true,
-        Record::Close => true,
+        _ => true,
     }
 }
 
 #[tactic(auto, unfolding(crate::specs::Codec::fitting))]
-fn fitting(rec: Record, bytes: &[u8], channel: u32) -> Parsed
+fn fitting(rec: Record, bytes: &[u8], channel: u32) -> Result<Record, Refusal>
     ensures { result ≡ fitting channel bytes.now rec }
 {
     if bytes.len() != rec.whole() {
-        return Parsed::Refused(Refusal::BadLength);
+        return Err(Refusal::BadLength);
     }
     if octets::number_at(bytes, 1) != channel {
-        return Parsed::Refused(Refusal::OtherChannel);
+        return Err(Refusal::OtherChannel);
     }
-    if is_typed(rec, bytes) {
-        Parsed::Read(rec)
-    } else {
-        Parsed::Refused(Refusal::BadType)
+    if !is_typed(rec, bytes) {
+        return Err(Refusal::BadType);
     }
-}
-
-#[tactic(auto, unfolding(crate::specs::Codec::checked))]
-fn checked(parsed: Parsed, bytes: &[u8], channel: u32) -> Parsed
-    ensures { result ≡ checked channel bytes.now parsed }
-{
-    match parsed {
-        Parsed::Read(rec) => fitting(rec, bytes, channel),
-        Parsed::Refused(x) => Parsed::Refused(x),
-    }
+    Ok(rec)
 }
 
 // The record that all of bytes are, for a channel.
-#[tactic(auto, unfolding(crate::specs::Codec::read))]
-pub fn read(bytes: &[u8], channel: u32) -> Parsed
+#[tactic(auto, unfolding(crate::specs::Codec::read, crate::specs::Codec::checked))]
+pub fn read(bytes: &[u8], channel: u32) -> Result<Record, Refusal>
     ensures { result ≡ read channel bytes.now }
 {
-    if bytes.len() == 0 {
-        return Parsed::Refused(Refusal::BadLength);
-    }
-    let parsed = kinded(bytes[0], bytes);
-    checked(parsed, bytes, channel)
+    let Some(&kind) = bytes.first() else {
+        return Err(Refusal::BadLength);
+    };
+    fitting(kinded(kind, bytes)?, bytes, channel)
 }
 
 // ---- writing
 
-// The three forms of a header: kind and channel; with a number; with the type 1 and a number.
-fn put_kind(buffer: &mut [u8], kind: u8, channel: u32)
-    requires { 5 ≤ length buffer.old }
-    ensures { buffer.new ≡ kind ∷ be32 channel ++ drop 5 buffer.old }
+// A kind and the numbers behind it.
+#[tactic(auto, using(octets::specs::BytesLaws::laid_first, crate::proofs::Laying::numbers_turn))]
+fn put_numbers(buffer: &mut [u8], kind: u8, numbers: &[u32])
+    requires { 1 + 4 * length numbers.now ≤ length buffer.old }
+    ensures { buffer.new ≡ kind ∷ flat_map be32 numbers.now ++ drop (1 + 4 * length numbers.now) buffer.old }
 {
     octets::put_byte(buffer, 0, kind);
-    octets::put_be32(buffer, 1, channel);
-}
-
-fn put_number(buffer: &mut [u8], kind: u8, channel: u32, n: u32)
-    requires { 9 ≤ length buffer.old }
-    ensures { buffer.new ≡ kind ∷ (be32 channel ++ be32 n) ++ drop 9 buffer.old }
-{
-    put_kind(buffer, kind, channel);
-    octets::put_be32(buffer, 5, n);
-}
-
-fn put_typed(buffer: &mut [u8], kind: u8, channel: u32, n: u32)
-    requires { 13 ≤ length buffer.old }
-    ensures { buffer.new ≡ kind ∷ (be32 channel ++ be32 1 ++ be32 n) ++ drop 13 buffer.old }
-{
-    put_number(buffer, kind, channel, 1);
-    octets::put_be32(buffer, 9, n);
+    for (i, &number) in numbers.iter().enumerate() {
+        octets::put_be32(buffer, 1 + 4 * i, number);
+    }
 }
 
 // Writes all of a record but its payload at the buffer's start.
@@ -194,60 +152,40 @@ fn put_header(buffer: &mut [u8], channel: u32, rec: Record)
     ensures { buffer.new ≡ header channel rec ++ drop (start rec) buffer.old }
 {
     match rec {
-        Record::Adjust(units) => put_number(buffer, 93, channel, units),
-        Record::Data(n) => put_number(buffer, 94, channel, n),
-        Record::Extended(n) => put_typed(buffer, 95, channel, n),
-        Record::Eof => put_kind(buffer, 96, channel),
-        Record::Close => put_kind(buffer, 97, channel),
+        Record::Adjust(units) => put_numbers(buffer, ADJUST, &[channel, units]),
+        Record::Data(n) => put_numbers(buffer, DATA, &[channel, n]),
+        Record::Extended(n) => put_numbers(buffer, EXTENDED, &[channel, 1, n]),
+        Record::Eof => put_numbers(buffer, EOF, &[channel]),
+        Record::Close => put_numbers(buffer, CLOSE, &[channel]),
     }
 }
 
 // Writes the record and its payload at the buffer's start, and nothing else.
-pub fn write(channel: u32, rec: Record, payload: &[u8], buffer: &mut [u8]) -> Written
+#[tactic(auto, unfolding(crate::specs::Codec::write, crate::specs::Codec::bytes_of), using(crate::specs::CodecLaws::start_most))]
+pub fn write(channel: u32, rec: Record, payload: &[u8], buffer: &mut [u8]) -> Result<usize, Refusal>
     ensures { written_after result buffer.new ≡ write channel rec payload.now buffer.old }
 {
     let whole = rec.whole();
     if buffer.len() < whole {
-        return Written::Refused(Refusal::BufferShort);
+        return Err(Refusal::BufferShort);
     }
-    let size = rec.size();
-    if payload.len() != size {
-        return Written::Refused(Refusal::BadLength);
+    if payload.len() != rec.size() {
+        return Err(Refusal::BadLength);
     }
-    ring::copy_in(buffer, rec.start(), payload, 0, size);
+    buffer[rec.start()..whole].copy_from_slice(payload);
     put_header(buffer, channel, rec);
-    Written::Bytes(whole)
+    Ok(whole)
 }
 
 // The same with a payload that stands in the buffer already, from byte 13 on, where the longest header ends.
-pub fn lay(channel: u32, rec: Record, buffer: &mut [u8]) -> Written
+#[tactic(auto, unfolding(crate::specs::Codec::lay, crate::specs::Codec::laid_record), using(crate::specs::CodecLaws::header_laid, crate::specs::CodecLaws::start_most))]
+pub fn lay(channel: u32, rec: Record, buffer: &mut [u8]) -> Result<usize, Refusal>
     ensures { written_after result buffer.new ≡ lay channel rec buffer.old }
 {
-    let room = buffer.len();
-    if room < 13 {
-        return Written::Refused(Refusal::BufferShort);
+    if buffer.len() < 13 + rec.size() {
+        return Err(Refusal::BufferShort);
     }
-    if room - 13 < rec.size() {
-        return Written::Refused(Refusal::BufferShort);
-    }
-    lay_in(channel, rec, buffer);
-    Written::Bytes(rec.whole())
-}
-
-fn lay_in(channel: u32, rec: Record, buffer: &mut [u8])
-    requires { 13 + size rec ≤ length buffer.old }
-    ensures { buffer.new ≡ laid_record channel rec buffer.old }
-{
-    bring(buffer, rec.start(), rec.size());
+    octets::slide(buffer, rec.start(), 13, rec.size());
     put_header(buffer, channel, rec);
-}
-
-// Where the header ends at byte 13, the payload stands there already.
-fn bring(buffer: &mut [u8], at: usize, n: usize)
-    requires { (at ≤ 13) × (13 + n ≤ length buffer.old) }
-    ensures { buffer.new ≡ copied buffer.old at buffer.old 13 n }
-{
-    if at < 13 {
-        octets::slide(buffer, at, 13, n);
-    }
+    Ok(rec.whole())
 }

@@ -2,59 +2,26 @@
 // each by the same line. The gate runs it on the recorded sample of random cards, whose answers are the Rust's.
 #![tactic(auto)]
 
-ghost use Rattle.std.specs.Prelude.{◌≤◌, IfOk, length};
+ghost use Rattle.std.specs.Prelude.{◌≤◌, ◌<◌, IfOk, length};
 
 use card::feed::Card;
 use std::io;
 use std::io::{Read, Write};
 
-// Whether the line at an index is four dashes.
-fn is_end(text: &[u8], at: usize) -> bool {
-    let n = text.len();
-    if n < 5 {
-        return false;
-    }
-    if n - 5 < at {
-        return false;
-    }
-    (text[at] == 45)
-        & (text[at + 1] == 45)
-        & (text[at + 2] == 45)
-        & (text[at + 3] == 45)
-        & (text[at + 4] == 10)
-}
+// The line that ends a card.
+const END: &[u8] = b"----\n";
 
-// The index of the dashes that end the card from index `from` on, or the length where there are none.
-fn card_end(text: &[u8], from: usize) -> usize
-    requires { from ≤ length text.now }
-    ensures { (from ≤ result) × (result ≤ length text.now) }
+// A text up to the end of its first line, and what stands behind it.
+fn cut(text: &[u8]) -> (&[u8], &[u8])
+    ensures { 0 < length text.now → length result.1.now < length text.now }
 {
-    let n = text.len();
-    let mut i = from;
-    let mut starts = true;
-    while i < n {
-        if starts & is_end(text, i) {
-            return i;
-        }
-        starts = text[i] == 10;
-        i += 1;
+    match search::find(text, b'\n') {
+        Some(at) => text.split_at(at + 1),
+        None => (text, &text[text.len()..]),
     }
-    n
 }
 
-// One card, from its first line on, and its answers.
-fn answer<W: Write>(
-    text: &[u8],
-    line: &mut [u8],
-    store: &mut [u8],
-    lengths: &mut [u32],
-    out: &mut [u8],
-    to: &mut W,
-) -> io::Result<()> {
-    let fed = feeder::feed(Card::new(), line, store, lengths, text, out, to)?;
-    feeder::end(fed.card, line, store, lengths, out, to)
-}
-
+// The cards of a text, one after the other. What stands behind the last line of dashes is a card too.
 fn answer_all<W: Write>(
     text: &[u8],
     line: &mut [u8],
@@ -63,18 +30,20 @@ fn answer_all<W: Write>(
     out: &mut [u8],
     to: &mut W,
 ) -> io::Result<()> {
-    let n = text.len();
-    let mut from: usize = 0;
-    while from < n {
-        let end = card_end(text, from);
-        answer(&text[from..end], line, store, lengths, out, to)?;
-        if n - end < 5 {
-            return Ok(());
+    let mut card = Card::new();
+    let mut rest = text;
+    while !rest.is_empty() {
+        let (next, behind) = cut(rest);
+        if next == END {
+            feeder::end(card, line, store, lengths, out, to)?;
+            to.write_all(END)?;
+            card = Card::new();
+        } else {
+            card = feeder::feed(card, line, store, lengths, next, out, to)?.card;
         }
-        to.write_all(b"----\n")?;
-        from = end + 5;
+        rest = behind;
     }
-    Ok(())
+    feeder::end(card, line, store, lengths, out, to)
 }
 
 // Reads up to the end of the input or of the area, and says how many bytes came.
@@ -93,11 +62,11 @@ fn fill<R: Read>(from: &mut R, area: &mut [u8]) -> io::Result<usize>
 }
 
 fn main(rt: HostRuntime) -> io::Result<()> {
-    let mut text = feeder::large_area();
-    let mut line = feeder::area();
-    let mut store = feeder::area();
-    let mut lengths = feeder::lengths_area();
-    let mut out = feeder::large_area();
+    let mut text = [0u8; feeder::LARGE_AREA];
+    let mut line = [0u8; feeder::AREA];
+    let mut store = [0u8; feeder::AREA];
+    let mut lengths = [0u32; feeder::LENGTHS];
+    let mut out = [0u8; feeder::LARGE_AREA];
     let n = fill(&mut rt.stdin(), &mut text)?;
     let mut to = io::writer(&rt);
     answer_all(

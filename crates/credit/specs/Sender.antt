@@ -1,7 +1,6 @@
 -- The credit of a pool: what was granted and is not spent.
-use Rattle.std.specs.Prelude.{ℕ, ◌+◌, ◌-◌, min, Bool, cond, ◌&&◌, leb, ltb}
-use Rattle.exec.specs.declared.Refusal.TheVariants as Refusal
-use Rattle.exec.specs.declared.Reply.TheVariants as Reply
+use Rattle.std.specs.Prelude.{ℕ, ◌+◌, ◌-◌, min, Bool, cond, ◌&&◌, leb, ltb, Ok, Err}
+use Rattle.exec.specs.declared.Refusal.{Refusal}
 use Rattle.exec.specs.declared.Unit as Units
 use Rattle.exec.specs.declared.Unit.TheVariants.{Bytes, Frames}
 use Rattle.credit.specs.declared.sender.Credit.{Credit}
@@ -17,7 +16,7 @@ grantable c units = ltb 0 units && leb (c.available + units) c.window
 abbrev pub grant : Credit → ℕ → Granting
 grant c units = record {
   credit = record { window = c.window; available = cond (grantable c units) (c.available + units) c.available };
-  reply = cond (grantable c units) Reply.Ok (Reply.Refused Refusal.Credit);
+  reply = cond (grantable c units) (Ok tt) (Err Refusal.Credit);
 }
 
 -- in Frames the whole length if one unit is left

@@ -2,7 +2,7 @@
 ghost use Rattle.std.specs.Prelude.{◌≡◌, ◌≤◌};
 ghost use Rattle.credit.specs.Sender.{new_credit, grant, sendable, spent, credit_fits};
 
-use exec::{Refusal, Reply, Unit};
+use exec::{Refusal, Unit};
 
 // The size of a pool's window, and the units of it that the sender may still send.
 #[derive(Clone, Copy)]
@@ -15,7 +15,7 @@ pub struct Credit {
 #[derive(Clone, Copy)]
 pub struct Granting {
     pub credit: Credit,
-    pub reply: Reply,
+    pub reply: Result<(), Refusal>,
 }
 
 impl Credit {
@@ -36,7 +36,7 @@ impl Credit {
         if units == 0 {
             return Granting {
                 credit: self,
-                reply: Reply::Refused(Refusal::Credit),
+                reply: Err(Refusal::Credit),
             };
         }
         let window = self.window;
@@ -44,7 +44,7 @@ impl Credit {
         if (window as u64) < available as u64 + units as u64 {
             return Granting {
                 credit: self,
-                reply: Reply::Refused(Refusal::Credit),
+                reply: Err(Refusal::Credit),
             };
         }
         Granting {
@@ -52,7 +52,7 @@ impl Credit {
                 window,
                 available: available + units,
             },
-            reply: Reply::Ok,
+            reply: Ok(()),
         }
     }
 
@@ -116,7 +116,7 @@ impl Credit {
 }
 
 // Grants in place.
-pub fn grant(credit: &mut Credit, units: u32) -> Reply
+pub fn grant(credit: &mut Credit, units: u32) -> Result<(), Refusal>
     ensures { (credit.new ≡ (grant credit.old units).credit) × (result ≡ (grant credit.old units).reply) }
 {
     let granting = (*credit).granted(units);

@@ -1,6 +1,5 @@
 -- Decimal numbers as text: a digit is a byte from `0` (48) to `9` (57).
-use Rattle.std.specs.Prelude.{Bool, true, false, cond, ◌&&◌, ◌||◌, List, [], ◌∷◌, ℕ, zero, suc, ◌+◌, ◌-◌, ◌*◌, ◌/◌, ◌%◌, ltb, leb, eqb, ℤ, pos, negsuc, neg_ℤ, drop}
-use Rattle.std.proofs.Math.Option.{Option, none, some, map}
+use Rattle.std.specs.Prelude.{Bool, true, false, cond, ◌&&◌, ◌||◌, List, [], ◌∷◌, ℕ, zero, suc, ◌+◌, ◌-◌, ◌*◌, ◌/◌, ◌%◌, ltb, leb, eqb, ℤ, pos, negsuc, neg_ℤ, drop, Option, Some, None, option_map}
 
 -- ---- read
 
@@ -18,11 +17,11 @@ value_from v (b ∷ t) = value_from (v * 10 + (b - 48)) t
 
 -- that number, if the text has digits only and it is at most `most`
 unfoldable pub number_from : (most v : ℕ) → List ℕ → Option ℕ
-number_from most v t = cond (are_digits t && leb (value_from v t) most) (some (value_from v t)) none
+number_from most v t = cond (are_digits t && leb (value_from v t) most) (Some (value_from v t)) None
 
 -- the number that a text is, if it is at most `most`: one digit or more, with any zeros in front, and nothing else
 unfoldable pub number : (most : ℕ) → List ℕ → Option ℕ
-number most [] = none
+number most [] = None
 number most (b ∷ t) = number_from most 0 (b ∷ t)
 
 abbrev pub starts_minus : List ℕ → Bool
@@ -32,7 +31,7 @@ starts_minus (b ∷ t) = eqb b 45
 -- the i32 that a text is: a number, or a minus (45) and a number
 unfoldable pub signed : List ℕ → Option ℤ
 signed t =
-    cond (starts_minus t) (map (λ n. neg_ℤ (pos n)) (number 2147483648 (drop 1 t))) (map pos (number 2147483647 t))
+    cond (starts_minus t) (option_map (λ n. neg_ℤ (pos n)) (number 2147483648 (drop 1 t))) (option_map pos (number 2147483647 t))
 
 -- the test of one byte, as the code makes it: b is a digit, and v with b behind it is at most `most`
 abbrev pub takes : (most v b : ℕ) → Bool

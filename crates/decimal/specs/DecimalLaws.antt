@@ -1,8 +1,7 @@
 -- Laws of decimal numbers: the ways of one byte that is read, and the digits of a number by its tenth.
-use Rattle.std.specs.Prelude.{◌≡◌, refl, true, false, List, [], ◌∷◌, ◌++◌, ℕ, zero, suc, ◌+◌, ◌-◌, ◌*◌, ◌/◌, ◌%◌, ◌^◌, ◌≤◌, ◌<◌, ltb, leb, eqb, length, take, drop, get_or, set}
+use Rattle.std.specs.Prelude.{◌≡◌, refl, true, false, List, [], ◌∷◌, ◌++◌, ℕ, zero, suc, ◌+◌, ◌-◌, ◌*◌, ◌/◌, ◌%◌, ◌^◌, ◌≤◌, ◌<◌, ltb, leb, eqb, length, take, drop, get_or, set, Some, None}
 use Rattle.std.proofs.Common.{sym, ap, ◌∙◌, true≢false, arith, add-one, lt-ltb, le-ltb, le-leb, eq-eqb, ne_eqb, length-append, drop-cons, length-take-le, take-suc}
 use Rattle.std.proofs.Math.Bool.{and-false}
-use Rattle.std.proofs.Math.Option.{none, some}
 use Rattle.std.proofs.Math.Decide.{dec_lt}
 use Rattle.std.proofs.lemmas.Bool.{lt-leb}
 use Rattle.std.proofs.Math.Seq.{drop-length, append_snoc}
@@ -65,7 +64,7 @@ value_least v [] = omega arith
 value_least v (b ∷ t) = omega (arith, value_least (v * 10 + (b - 48)) t)
 
 -- an empty text is no number
-pub number_none : (most : ℕ) (t : List ℕ) → length t ≡ 0 → number most t ≡ none
+pub number_none : (most : ℕ) (t : List ℕ) → length t ≡ 0 → number most t ≡ None
 unfolding number
 number_none most [] h = refl
 number_none most (b ∷ t) h = absurd (omega arith)
@@ -80,7 +79,7 @@ number_from_lem most (b ∷ t) h = refl
 pub drop_all : (i : ℕ) (s : List ℕ) → i ≡ length s → drop i s ≡ []
 drop_all i s h = rw h (drop-length s)
 
-pub from_end : (most v : ℕ) → v ≤ most → number_from most v [] ≡ some v
+pub from_end : (most v : ℕ) → v ≤ most → number_from most v [] ≡ Some v
 unfolding number_from are_digits value_from
 from_end most v h = rw (le-leb v most h) refl
 
@@ -95,7 +94,7 @@ from_taken most v b t h =
     ]
 
 -- and one that is not
-from_refused : (most v b : ℕ) (t : List ℕ) → takes most v b ≡ false → number_from most v (b ∷ t) ≡ none
+from_refused : (most v b : ℕ) (t : List ℕ) → takes most v b ≡ false → number_from most v (b ∷ t) ≡ None
 unfolding number_from are_digits value_from
 from_refused most v b t h =
     elim (way most v b) [
@@ -114,7 +113,7 @@ turn_taken most v b s i l e h =
     ap (number_from most v) (drop-cons s i 0 l ∙ rw (e, add-one) refl) ∙ from_taken most v b (drop (i + 1) s) h
 
 pub turn_refused : (most v b : ℕ) (s : List ℕ) (i : ℕ) → i < length s → b ≡ get_or s i 0 → takes most v b ≡ false
-    → number_from most v (drop i s) ≡ none
+    → number_from most v (drop i s) ≡ None
 turn_refused most v b s i l e h =
     ap (number_from most v) (drop-cons s i 0 l ∙ rw e refl) ∙ from_refused most v b (drop (suc i) s) h
 
@@ -183,6 +182,42 @@ count_most (suc p) n h =
       | no l ↦ omega (arith, count_more n (omega arith), count_most p (n / 10) (omega arith))
     ]
 
+-- and the powers of ten that n reaches
+power_some : (p : ℕ) → 0 < 10 ^ p
+power_some zero = omega arith
+power_some (suc p) = omega (arith, power_some p)
+
+count_reached : (p n : ℕ) → 10 ^ p ≤ n → suc p ≤ length (digits_of n)
+count_reached zero n h = count_least n
+count_reached (suc p) n h =
+    let some : 0 < 10 ^ p = power_some p in
+    omega (arith, count_more n (omega arith), count_reached p (n / 10) (omega arith))
+
+pub count_power : (p n : ℕ) → 10 ^ p ≤ n → n < 10 * 10 ^ p → length (digits_of n) ≡ p + 1
+count_power p n h most = omega (arith, count_reached p n h, count_most p n (omega arith))
+
+-- the last k digits of n in front of t, the last of them first
+unfoldable pub last_digits : (k n : ℕ) → List ℕ → List ℕ
+last_digits zero n t = t
+last_digits (suc k) n t = last_digits k (n / 10) ((48 + n % 10) ∷ t)
+
+last_enough : (k n : ℕ) (t : List ℕ) → n ≤ k → digits_before k n t ≡ last_digits (length (digits_of n)) n t
+unfolding digits_before last_digits
+last_enough zero n t h = rw (count_one n (omega arith)) (ap (λ (x : ℕ). (48 + x) ∷ t) (omega arith))
+last_enough (suc k) n t h =
+    elim (dec_lt n 10) [
+      | yes l ↦ rw (lt-ltb n 10 l, count_one n l) (ap (λ (x : ℕ). (48 + x) ∷ t) (omega arith))
+      | no l ↦
+          rw
+          (le-ltb n 10 (omega arith), count_more n (omega arith), add-one)
+          (last_enough k (n / 10) ((48 + n % 10) ∷ t) (omega arith))
+    ]
+
+-- so many as there are, are all
+pub last_all : (n : ℕ) → digits_of n ≡ last_digits (length (digits_of n)) n []
+unfolding digits_of
+last_all n = last_enough n n [] (omega arith)
+
 -- where writing begins
 pub digits_begin : (n : ℕ) → digits_of n ≡ digits_before n n []
 unfolding digits_of
@@ -211,6 +246,26 @@ copied_front d i x t m h room =
     ∙ ap (λ (z : List ℕ). z ++ drop (i + 1 + m) d) (set_at (take i d) y t x i l)
     ∙ ap (λ (z : ℕ). take i d ++ x ∷ t ++ drop z d) k
     ∙ sym (copied_all d i (x ∷ t) (m + 1) (omega arith))
+
+-- a turn of the loop that writes them
+pub last_turn : (d s : List ℕ) (i at n : ℕ) (t : List ℕ) → at < i → i + length t ≤ length d → s ≡ last_digits (i - at) n t
+    → (s ≡ last_digits (i - 1 - at) (n / 10) ((48 + n % 10) ∷ t))
+    × (set (copied d i t 0 (length t)) (i - 1) (48 + n % 10) ≡ copied d (i - 1) ((48 + n % 10) ∷ t) 0 (length ((48 + n % 10) ∷ t)))
+unfolding last_digits
+last_turn d s i at n t h room e =
+    let x = 48 + n % 10 in
+    let j : i ≡ i - 1 + 1 = omega arith in
+    let k : i - at ≡ suc (i - 1 - at) = omega arith in (
+      e ∙ ap (λ (z : ℕ). last_digits z n t) k,
+      ap (λ (z : ℕ). set (copied d z t 0 (length t)) (i - 1) x) j
+          ∙ copied_front d (i - 1) x t (length t) refl (omega arith)
+          ∙ ap (copied d (i - 1) (x ∷ t) 0) (omega arith),
+    )
+
+-- and its end
+pub last_none : (n : ℕ) (t : List ℕ) → last_digits 0 n t ≡ t
+unfolding last_digits
+last_none n t = refl
 
 -- a digit that is not the first
 pub spell_turn : (d : List ℕ) (i x : ℕ) (t : List ℕ) → 1 ≤ i → i + 1 + length t ≤ length d

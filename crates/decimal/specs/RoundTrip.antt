@@ -1,7 +1,6 @@
 -- Each side undoes the other: what is written is read back.
-use Rattle.std.specs.Prelude.{◌≡◌, refl, true, false, List, [], ◌∷◌, ℕ, zero, suc, ◌+◌, ◌/◌, ◌%◌, ◌^◌, ◌≤◌, ◌<◌, leb, ltb, ℤ, pos, negsuc, length, get_or}
+use Rattle.std.specs.Prelude.{◌≡◌, refl, true, false, List, [], ◌∷◌, ℕ, zero, suc, ◌+◌, ◌/◌, ◌%◌, ◌^◌, ◌≤◌, ◌<◌, leb, ltb, ℤ, pos, negsuc, length, get_or, Some}
 use Rattle.std.proofs.Common.{ap, ◌∙◌, arith, lt_trans, lit<, lt-ltb, le-ltb, le-leb, leb-true, ne_eqb}
-use Rattle.std.proofs.Math.Option.{some}
 use Rattle.std.proofs.Math.Decide.{dec_lt}
 use Rattle.std.specs.Int.Signed.{mag}
 use Rattle.decimal.specs.Decimal.{is_digit, are_digits, value_from, number_from, number, starts_minus, signed, digits_before, digits_of, signed_of}
@@ -43,7 +42,7 @@ before_first (suc k) n t h m =
     ]
 
 -- WRITTEN, THEN READ
-pub number_back : (most n : ℕ) → n ≤ most → number most (digits_of n) ≡ some n
+pub number_back : (most n : ℕ) → n ≤ most → number most (digits_of n) ≡ Some n
 unfolding digits_of number_from are_digits value_from
 number_back most n h =
     number_from_lem most (digits_of n) (count_least n)
@@ -73,7 +72,7 @@ first_digit (b ∷ s) h d =
     ne_eqb b 45 (omega arith)
 
 -- every i32 that is written is read back
-pub signed_back : (n : ℤ) → mag n < 2147483648 → signed (signed_of n) ≡ some n
+pub signed_back : (n : ℤ) → mag n < 2147483648 → signed (signed_of n) ≡ Some n
 unfolding signed signed_of digits_of are_digits
 signed_back (pos n) h =
     rw

@@ -1,13 +1,12 @@
 -- Laws of numbers with a minus or none: each way of reading and of writing one.
-use Rattle.std.specs.Prelude.{◌≡◌, refl, Bool, true, false, cond, ◌&&◌, List, [], ◌∷◌, ℕ, suc, ◌+◌, ◌-◌, ◌≤◌, ◌<◌, leb, ℤ, pos, negsuc, neg_ℤ, nat_abs, length, take, drop, eqb, get_or}
+use Rattle.std.specs.Prelude.{◌≡◌, refl, Bool, true, false, cond, ◌&&◌, List, [], ◌∷◌, ℕ, suc, ◌+◌, ◌-◌, ◌≤◌, ◌<◌, leb, ℤ, pos, negsuc, neg_ℤ, nat_abs, length, take, drop, eqb, get_or, Option, Some, None, option_map}
 use Rattle.std.proofs.Common.{sym, ap, ◌∙◌, arith, leb-true, length-drop, take_all}
-use Rattle.std.proofs.Math.Option.{Option, none, some, map}
 use Rattle.ring.specs.Runs.{copied}
 use Rattle.ring.specs.Lent.{copied_join}
 use Rattle.decimal.specs.Decimal.{are_digits, value_from, number_from, number, starts_minus, signed, digits_of, signed_of}
 use Rattle.ring.specs.Flags.{and_r}
 use Rattle.decimal.specs.DecimalLaws.{count_most}
-use Rattle.decimal.specs.Answers.{maybe_number, maybe_signed, AtMost, positive, negative}
+use Rattle.decimal.specs.Answers.{AtMost, positive, negative}
 use Rattle.std.proofs.lemmas.Bool.{false≢true}
 
 -- ---- read
@@ -24,12 +23,12 @@ pub starts_some : (s : List ℕ) → starts_minus s ≡ true → 1 ≤ length s
 starts_some [] h = absurd (false≢true h)
 starts_some (b ∷ s) h = omega arith
 
-if_most : (t : Bool) (v most : ℕ) → (t ≡ true → v ≤ most) → AtMost most (maybe_number (cond t (some v) none))
+if_most : (t : Bool) (v most : ℕ) → (t ≡ true → v ≤ most) → AtMost most (cond t (Some v) None)
 if_most true v most h = h refl
 if_most false v most h = tt
 
 -- what was read is at most what it may be
-pub number_most : (most : ℕ) (s : List ℕ) → AtMost most (maybe_number (number most s))
+pub number_most : (most : ℕ) (s : List ℕ) → AtMost most (number most s)
 unfolding number number_from
 number_most most [] = tt
 number_most most (b ∷ s) =
@@ -37,22 +36,22 @@ number_most most (b ∷ s) =
     let d = are_digits (b ∷ s) in
     if_most (d && leb v most) v most (λ e. leb-true v most (and_r d (leb v most) e))
 
-minus_map : (n : Option ℕ) → negative (maybe_number n) ≡ maybe_signed (map (λ (m : ℕ). neg_ℤ (pos m)) n)
-minus_map none = refl
-minus_map (some n) = refl
+minus_map : (n : Option ℕ) → negative n ≡ option_map (λ (m : ℕ). neg_ℤ (pos m)) n
+minus_map None = refl
+minus_map (Some n) = refl
 
-plus_map : (n : Option ℕ) → positive (maybe_number n) ≡ maybe_signed (map pos n)
-plus_map none = refl
-plus_map (some n) = refl
+plus_map : (n : Option ℕ) → positive n ≡ option_map pos n
+plus_map None = refl
+plus_map (Some n) = refl
 
 pub signed_minus : (s : List ℕ) → starts_minus s ≡ true
-    → negative (maybe_number (number 2147483648 (take (length s - 1) (drop 1 s)))) ≡ maybe_signed (signed s)
+    → negative (number 2147483648 (take (length s - 1) (drop 1 s))) ≡ signed s
 unfolding signed
 signed_minus s h =
     let all = take_all (length s - 1) (drop 1 s) (simp length-drop (omega arith)) in
     rw (h, all) (minus_map (number 2147483648 (drop 1 s)))
 
-pub signed_plus : (s : List ℕ) → starts_minus s ≡ false → positive (maybe_number (number 2147483647 s)) ≡ maybe_signed (signed s)
+pub signed_plus : (s : List ℕ) → starts_minus s ≡ false → positive (number 2147483647 s) ≡ signed s
 unfolding signed
 signed_plus s h = rw h (plus_map (number 2147483647 s))
 

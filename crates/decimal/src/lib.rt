@@ -4,27 +4,9 @@
 ghost use Rattle.std.specs.Prelude.{◌≡◌, [], ◌∷◌, ◌+◌, ◌-◌, ◌≤◌, ◌<◌, length, pos, neg_ℤ, nat_abs};
 ghost use Rattle.ring.specs.Runs.{copied};
 ghost use Rattle.decimal.specs.Decimal.{takes, number, starts_minus, signed, digits_of, signed_of};
-ghost use Rattle.decimal.specs.Answers.{maybe_number, maybe_signed, AtMost, positive, negative};
-
-#[derive(Clone, Copy)]
-pub enum MaybeNumber {
-    None,
-    Some(u64),
-}
-
-#[derive(Clone, Copy)]
-pub enum MaybeSigned {
-    None,
-    Some(i32),
-}
+ghost use Rattle.decimal.specs.Answers.{AtMost, positive, negative};
 
 // ---- reading
-
-fn wide(b: u8) -> u64
-    ensures { (result ≡ b) × (result < 256) }
-{
-    b as u64
-}
 
 // Whether b is a digit, and v with b behind it is at most `most`. (No product of v: it might wrap.)
 fn takes(most: u64, v: u64, b: u64) -> bool
@@ -34,28 +16,22 @@ fn takes(most: u64, v: u64, b: u64) -> bool
 }
 
 // The number that all of text is, if it is at most `most`.
-pub fn read(text: &[u8], most: u64) -> MaybeNumber
-    ensures { result ≡ maybe_number (number most text.now) }
+#[tactic(auto, using(crate::specs::DecimalLaws::number_none, crate::specs::DecimalLaws::number_from_lem, crate::specs::DecimalLaws::turn_taken, crate::specs::DecimalLaws::turn_refused, crate::specs::DecimalLaws::from_end, crate::specs::DecimalLaws::drop_all))]
+pub fn read(text: &[u8], most: u64) -> Option<u64>
+    ensures { result ≡ number most text.now }
 {
-    let n = text.len();
-    if n == 0 {
-        return MaybeNumber::None;
+    if text.is_empty() {
+        return None; // no digit
     }
     let mut v: u64 = 0;
-    let mut i: usize = 0;
-    let read = loop {
-        if i == n {
-            break MaybeNumber::Some(v);
+    for c in text {
+        let b = u64::from(*c);
+        if !takes(most, v, b) {
+            return None;
         }
-        let b = wide(text[i]);
-        if takes(most, v, b) {
-            v = v * 10 + (b - 48);
-            i += 1;
-        } else {
-            break MaybeNumber::None;
-        }
-    };
-    read
+        v = v * 10 + (b - 48);
+    }
+    Some(v)
 }
 
 fn plus(n: u64) -> i32
@@ -75,38 +51,35 @@ fn minus(n: u64) -> i32
     !plus(n - 1)
 }
 
-fn positive(n: MaybeNumber) -> MaybeSigned
+fn positive(n: Option<u64>) -> Option<i32>
     requires { AtMost 2147483647 n }
     ensures { result ≡ positive n }
 {
     match n {
-        MaybeNumber::None => MaybeSigned::None,
-        MaybeNumber::Some(m) => MaybeSigned::Some(plus(m)),
+        None => None,
+        Some(m) => Some(plus(m)),
     }
 }
 
-fn negative(n: MaybeNumber) -> MaybeSigned
+fn negative(n: Option<u64>) -> Option<i32>
     requires { AtMost 2147483648 n }
     ensures { result ≡ negative n }
 {
     match n {
-        MaybeNumber::None => MaybeSigned::None,
-        MaybeNumber::Some(m) => MaybeSigned::Some(minus(m)),
+        None => None,
+        Some(m) => Some(minus(m)),
     }
 }
 
 fn starts_minus(text: &[u8]) -> bool
     ensures { result ≡ starts_minus text.now }
 {
-    if text.len() == 0 {
-        return false;
-    }
-    text[0] == 45
+    text.first() == Some(&45)
 }
 
 // The number that all of text is, with a minus in front or none, if an i32 holds it.
-pub fn read_signed(text: &[u8]) -> MaybeSigned
-    ensures { result ≡ maybe_signed (signed text.now) }
+pub fn read_signed(text: &[u8]) -> Option<i32>
+    ensures { result ≡ signed text.now }
 {
     if starts_minus(text) {
         let n = text.len();
@@ -118,33 +91,12 @@ pub fn read_signed(text: &[u8]) -> MaybeSigned
 
 // ---- writing
 
-// How many digits n has.
+// How many digits n has: one more than the power of ten that it reaches, and 0 has one.
+#[tactic(auto, using(crate::specs::DecimalLaws::count_one, crate::specs::DecimalLaws::count_power))]
 pub fn places(n: u64) -> usize
     ensures { (result ≡ length (digits_of n)) × (result ≤ 20) }
 {
-    let mut rest = n;
-    let mut k: usize = 1;
-    while 9 < rest {
-        rest /= 10;
-        k += 1;
-    }
-    k
-}
-
-// Writes the digits of n, the last of them at index end - 1.
-fn spell(n: u64, out: &mut [u8], end: usize)
-    requires { (length (digits_of n) ≤ end) × (end ≤ length out.old) }
-    ensures { out.new
-        ≡ copied out.old (end - length (digits_of n)) (digits_of n) 0 (length (digits_of n)) }
-{
-    let mut rest = n;
-    let mut i = end - 1;
-    while 9 < rest {
-        out[i] = (48 + rest % 10) as u8;
-        rest /= 10;
-        i -= 1;
-    }
-    out[i] = (48 + rest) as u8;
+    n.checked_ilog10().unwrap_or(0) as usize + 1
 }
 
 // Writes the digits of n from index at on, and returns the index behind them.
@@ -154,7 +106,11 @@ pub fn write(n: u64, out: &mut [u8], at: usize) -> usize
     ensures value { result ≡ at + length (digits_of n) }
 {
     let end = at + places(n);
-    spell(n, out, end);
+    let mut rest = n;
+    for i in (at..end).rev() {
+        out[i] = (48 + rest % 10) as u8;
+        rest /= 10;
+    }
     end
 }
 
@@ -162,12 +118,10 @@ pub fn write(n: u64, out: &mut [u8], at: usize) -> usize
 fn magnitude(n: i32) -> u64
     ensures { result ≡ nat_abs n }
 {
-    if n < 0 {
-        return (!n) as u64 + 1;
-    }
-    n as u64
+    u64::from(n.unsigned_abs())
 }
 
+#[tactic(auto, using(ring::specs::Runs::copied_one))]
 fn put_minus(out: &mut [u8], at: usize)
     requires { at < length out.old }
     ensures { out.new ≡ copied out.old at (45 ∷ []) 0 1 }

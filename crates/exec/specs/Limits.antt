@@ -1,16 +1,13 @@
 -- Windows, limits and pools.
-use Rattle.std.specs.Prelude.{ℕ, ◌*◌, Bool, true, false, cond, ◌&&◌, ◌||◌, ltb, eqb}
+use Rattle.std.specs.Prelude.{ℕ, ◌*◌, Bool, true, false, cond, ◌&&◌, ◌||◌, ltb, eqb, Result, Ok, Err}
+use Rattle.exec.specs.declared.Refusal.{Refusal}
 use Rattle.exec.specs.declared.Stream.{Stream}
 use Rattle.exec.specs.declared.Pool.{Pool}
 use Rattle.exec.specs.declared.Pool.TheVariants.{Input, Stdout, Stderr, Output}
-use Rattle.exec.specs.declared.PoolIndex.{PoolIndex}
 use Rattle.exec.specs.declared.Unit as Units
 use Rattle.exec.specs.declared.Unit.TheVariants.{Bytes, Frames}
 use Rattle.exec.specs.declared.Window.{Window}
 use Rattle.exec.specs.declared.Limits.{Limits}
-use Rattle.exec.specs.declared.NewLimits.{NewLimits}
-use Rattle.exec.specs.declared.ChunkLength.{ChunkLength}
-use Rattle.exec.specs.declared.Refusal.TheVariants as Refusal
 use Rattle.exec.specs.Stream.{index}
 
 abbrev pub bytes_window : ℕ → Window
@@ -45,24 +42,24 @@ limits_for chunk input output shared = record { chunk = chunk; input = input; ou
 abbrev pub no_limits : Limits
 no_limits = limits_for 0 (bytes_window 0) (bytes_window 0) false
 
-unfoldable pub new_limits : ℕ → Window → Window → NewLimits
+unfoldable pub new_limits : ℕ → Window → Window → Result Limits Refusal
 new_limits chunk input output =
     let l : Limits = limits_for chunk input output false in
-    cond (is_valid l) (NewLimits.Made l) (NewLimits.Refused Refusal.NoLimits)
+    cond (is_valid l) (Ok l) (Err Refusal.NoLimits)
 
 abbrev pub shared_output : Limits → Limits
 shared_output l = limits_for l.chunk l.input l.output true
 
 -- with shared, pool Output alone is good; without it, Stdout and Stderr are; Input never is
-abbrev pub output_pool : Bool → Pool → PoolIndex
-output_pool true Input = PoolIndex.Refused Refusal.Pool
-output_pool true Stdout = PoolIndex.Refused Refusal.Pool
-output_pool true Stderr = PoolIndex.Refused Refusal.Pool
-output_pool true Output = PoolIndex.At 0
-output_pool false Input = PoolIndex.Refused Refusal.Pool
-output_pool false Stdout = PoolIndex.At 0
-output_pool false Stderr = PoolIndex.At 1
-output_pool false Output = PoolIndex.Refused Refusal.Pool
+abbrev pub output_pool : Bool → Pool → Result ℕ Refusal
+output_pool true Input = Err Refusal.Pool
+output_pool true Stdout = Err Refusal.Pool
+output_pool true Stderr = Err Refusal.Pool
+output_pool true Output = Ok 0
+output_pool false Input = Err Refusal.Pool
+output_pool false Stdout = Ok 0
+output_pool false Stderr = Ok 1
+output_pool false Output = Err Refusal.Pool
 
 -- the position of a stream's pool
 abbrev pub pool_of : Limits → Stream → ℕ
@@ -72,5 +69,5 @@ pool_of l x = cond l.shared 0 (index x)
 abbrev pub off_chunk : Limits → ℕ → Bool
 off_chunk l length = eqb length 0 || ltb l.chunk length
 
-unfoldable pub check_chunk : Limits → ℕ → ChunkLength
-check_chunk l length = cond (off_chunk l length) (ChunkLength.Refused Refusal.Chunk) (ChunkLength.Is length)
+unfoldable pub check_chunk : Limits → ℕ → Result ℕ Refusal
+check_chunk l length = cond (off_chunk l length) (Err Refusal.Chunk) (Ok length)

@@ -1,20 +1,18 @@
 -- The outcome of an execution, built field by field.
-use Rattle.std.specs.Prelude.{Bool, true, false}
+use Rattle.std.specs.Prelude.{Bool, true, false, Option, Some, None}
+use Rattle.exec.specs.declared.Status.{Status}
 use Rattle.exec.specs.declared.Cause.{Cause}
 use Rattle.exec.specs.declared.LaunchFailure.{LaunchFailure}
-use Rattle.exec.specs.declared.MaybeCause.TheVariants as MaybeCause
-use Rattle.exec.specs.declared.MaybeLaunchFailure.TheVariants as MaybeLaunchFailure
-use Rattle.exec.specs.declared.MaybeStatus.{MaybeStatus}
 use Rattle.exec.specs.declared.Outcome.{Outcome}
 use Rattle.exec.specs.declared.Stream.{Stream}
 use Rattle.exec.specs.declared.Stream.TheVariants.{Stdout, Stderr}
 
 -- no cause, no launch failure, no truncation, and fenced
-abbrev pub new_outcome : MaybeStatus → Outcome
+abbrev pub new_outcome : Option Status → Outcome
 new_outcome status = record {
   status = status;
-  cause = MaybeCause.None;
-  launch_failure = MaybeLaunchFailure.None;
+  cause = None;
+  launch_failure = None;
   stdout_truncated = false;
   stderr_truncated = false;
   reusable = false;
@@ -23,7 +21,7 @@ new_outcome status = record {
 abbrev pub with_cause : Outcome → Cause → Outcome
 with_cause o cause = record {
   status = o.status;
-  cause = MaybeCause.Some cause;
+  cause = Some cause;
   launch_failure = o.launch_failure;
   stdout_truncated = o.stdout_truncated;
   stderr_truncated = o.stderr_truncated;
@@ -34,7 +32,7 @@ abbrev pub with_launch_failure : Outcome → LaunchFailure → Outcome
 with_launch_failure o failure = record {
   status = o.status;
   cause = o.cause;
-  launch_failure = MaybeLaunchFailure.Some failure;
+  launch_failure = Some failure;
   stdout_truncated = o.stdout_truncated;
   stderr_truncated = o.stderr_truncated;
   reusable = o.reusable;

@@ -1,7 +1,6 @@
 -- The numbers of 01's table 'Stops', and of 02's requests.
-use Rattle.std.specs.Prelude.{ℕ, ◌≡◌, refl, Bool, true, false, cond, List, [], ◌∷◌, eqb}
+use Rattle.std.specs.Prelude.{ℕ, ◌≡◌, refl, Bool, true, false, cond, List, [], ◌∷◌, eqb, Option, Some, None}
 use Rattle.std.proofs.Common.{arith, eqb-true}
-use Rattle.std.proofs.Math.Option.{Option, none, some}
 use Rattle.exec.specs.declared.Refusal.{Refusal}
 use Rattle.exec.specs.declared.Refusal.TheVariants.{Key, Pool, Credit, Chunk, Window, Ended, NoLimits, StoreShort, StateOutOfRange, NotAChannel, BadLength, UnknownKind, OtherChannel, BadType, NotInbound, BufferShort, BadLine, UntoldStatus, BadRequest}
 
@@ -33,14 +32,14 @@ stops =
     ∷ OtherChannel ∷ BadType ∷ NotInbound ∷ BufferShort ∷ BadLine ∷ UntoldStatus ∷ BadRequest ∷ []
 
 unfoldable pub find : ℕ → List Refusal → Option Refusal
-find n [] = none
-find n (x ∷ xs) = cond (eqb (number x) n) (some x) (find n xs)
+find n [] = None
+find n (x ∷ xs) = cond (eqb (number x) n) (Some x) (find n xs)
 
 -- the way back: the refusal of a number, if it is one of the table
 abbrev pub refusal : ℕ → Option Refusal
 refusal n = find n stops
 
-pub refusal_number : (x : Refusal) → refusal (number x) ≡ some x
+pub refusal_number : (x : Refusal) → refusal (number x) ≡ Some x
 unfolding find
 refusal_number Key = refl
 refusal_number Pool = refl
@@ -63,20 +62,20 @@ refusal_number UntoldStatus = refl
 refusal_number BadRequest = refl
 
 -- a refusal that was found, at the head of a list or behind it, has the number
-found : (b : Bool) (n : ℕ) (x y : Refusal) (rest : Option Refusal) → eqb (number y) n ≡ b → (rest ≡ some x → number x ≡ n)
-    → cond b (some y) rest ≡ some x → number x ≡ n
+found : (b : Bool) (n : ℕ) (x y : Refusal) (rest : Option Refusal) → eqb (number y) n ≡ b → (rest ≡ Some x → number x ≡ n)
+    → cond b (Some y) rest ≡ Some x → number x ≡ n
 found true n x y rest e behind h = cc (eqb-true (number y) n e)
 found false n x y rest e behind h = behind h
 
-find_number : (n : ℕ) (x : Refusal) (xs : List Refusal) → find n xs ≡ some x → number x ≡ n
+find_number : (n : ℕ) (x : Refusal) (xs : List Refusal) → find n xs ≡ Some x → number x ≡ n
 unfolding find
 find_number n x [] h = let z : ◌≡◌ {A = ℕ} 0 1 = cc in absurd (omega arith)
 find_number n x (y ∷ ys) h = found (eqb (number y) n) n x y (find n ys) refl (find_number n x ys) h
 
-pub number_refusal : (n : ℕ) (x : Refusal) → refusal n ≡ some x → number x ≡ n
+pub number_refusal : (n : ℕ) (x : Refusal) → refusal n ≡ Some x → number x ≡ n
 number_refusal n x h = find_number n x stops h
 
 -- 31 was the card's, for times that fall; 02's A5 retired it: never given again
-pub retired : refusal 31 ≡ none
+pub retired : refusal 31 ≡ None
 unfolding find
 retired = refl

@@ -1,8 +1,8 @@
 // What the two sides of an execution agree on (mod.rs of the Rust), in the Rust's order: keys, streams, pools, limits, timers,
-// outcomes, receipts, refusals and deadlines. An Option is an enum `Maybe..` of its own, with the Rust's constructors.
+// outcomes, receipts and refusals; deadlines in `deadline`. A call that is refused answers an Err with its Refusal.
 #![tactic(auto)]
 
-ghost use Rattle.std.specs.Prelude.{◌≡◌, cond, length};
+ghost use Rattle.std.specs.Prelude.{◌≡◌};
 ghost use Rattle.exec.specs.Key.{new_key, admits};
 ghost use Rattle.exec.specs.Stream.{index, is_stdout, is_stderr, pick, following};
 ghost use Rattle.exec.specs.Limits.{
@@ -20,7 +20,7 @@ ghost use Rattle.exec.specs.Limits.{
   pool_of,
   input_bytes,
 };
-ghost use Rattle.exec.specs.Time.{after, then, earliest, due, new_timers, with_timeout, timeout_at};
+ghost use Rattle.exec.specs.Time.{new_timers, with_timeout, timeout_at};
 ghost use Rattle.exec.specs.Outcome.{
   new_outcome,
   with_cause,
@@ -31,19 +31,23 @@ ghost use Rattle.exec.specs.Outcome.{
 };
 ghost use Rattle.exec.specs.Refusal.{number};
 
+use std::error::Error;
+use std::fmt;
+
+pub mod deadline;
+
 // The identity of one execution: an identifier, and the generation of its use.
-#[derive(Clone, Copy)]
+#[derive(Clone, Copy, Debug, PartialEq, Eq)]
 pub struct Key {
     pub id: u64,
     pub generation: u64,
 }
 
-// Whose a message's key is: the execution's own, one of an earlier generation, or another's, which is refused.
-#[derive(Clone, Copy)]
+// Whose a message's key is: the execution's own, or one of an earlier generation.
+#[derive(Clone, Copy, Debug, PartialEq, Eq)]
 pub enum Admission {
     Own,
     Stale,
-    Refused(Refusal),
 }
 
 impl Key {
@@ -53,26 +57,26 @@ impl Key {
         Key { id, generation }
     }
 
-    // Checks the key of a message for this execution.
+    // Whose the key of a message for this execution is. Another's is refused.
     #[tactic(auto, unfolding(crate::specs::Key::admits))]
-    pub fn admits(self, message: Key) -> Admission
+    pub fn admits(self, message: Key) -> Result<Admission, Refusal>
         ensures { result ≡ admits self message }
     {
         if message.id != self.id {
-            return Admission::Refused(Refusal::Key);
+            return Err(Refusal::Key);
         }
         if message.generation < self.generation {
-            return Admission::Stale;
+            return Ok(Admission::Stale);
         }
         if message.generation == self.generation {
-            return Admission::Own;
+            return Ok(Admission::Own);
         }
-        Admission::Refused(Refusal::Key)
+        Err(Refusal::Key)
     }
 }
 
 // One of the workload's output streams.
-#[derive(Clone, Copy)]
+#[derive(Clone, Copy, Debug, PartialEq, Eq)]
 pub enum Stream {
     Stdout,
     Stderr,
@@ -85,19 +89,13 @@ impl Stream {
     pub fn is_stdout(self) -> bool
         ensures { result ≡ is_stdout self }
     {
-        match self {
-            Stream::Stdout => true,
-            Stream::Stderr => false,
-        }
+        matches!(self, Stream::Stdout)
     }
 
     pub fn is_stderr(self) -> bool
         ensures { result ≡ is_stderr self }
     {
-        match self {
-            Stream::Stdout => false,
-            Stream::Stderr => true,
-        }
+        matches!(self, Stream::Stderr)
     }
 
     // The stream that has its turn after this one.
@@ -110,14 +108,11 @@ impl Stream {
         }
     }
 
-    // The number of this stream among what each has.
-    pub fn pick(self, stdout: u32, stderr: u32) -> u32
+    // What this stream has, of what each has. (A choice of two values stays in registers; a match that gives a struct does not.)
+    pub fn pick<T: Copy>(self, stdout: T, stderr: T) -> T
         ensures { result ≡ pick self stdout stderr }
     {
-        match self {
-            Stream::Stdout => stdout,
-            Stream::Stderr => stderr,
-        }
+        if self.is_stdout() { stdout } else { stderr }
     }
 
     // The stream's position in ALL.
@@ -132,7 +127,7 @@ impl Stream {
 }
 
 // A pool of credit.
-#[derive(Clone, Copy)]
+#[derive(Clone, Copy, Debug, PartialEq, Eq)]
 pub enum Pool {
     Input,
     Stdout,
@@ -140,22 +135,15 @@ pub enum Pool {
     Output,
 }
 
-// The position of an output pool, or the refusal of one that the limits do not have.
-#[derive(Clone, Copy)]
-pub enum PoolIndex {
-    At(usize),
-    Refused(Refusal),
-}
-
 // What a pool's credit counts.
-#[derive(Clone, Copy)]
+#[derive(Clone, Copy, Debug, PartialEq, Eq)]
 pub enum Unit {
     Bytes,
     Frames,
 }
 
 // The most units of a pool that may be in flight at once.
-#[derive(Clone, Copy)]
+#[derive(Clone, Copy, Debug, PartialEq, Eq)]
 pub struct Window {
     pub unit: Unit,
     pub size: u32,
@@ -187,8 +175,7 @@ impl Window {
     pub fn cost(self, length: u32) -> u32
         ensures { result ≡ cost self.unit length }
     {
-        let unit = self.unit;
-        match unit {
+        match self.unit {
             Unit::Bytes => length,
             Unit::Frames => 1,
         }
@@ -199,8 +186,7 @@ impl Window {
     pub fn bytes_with(self, chunk: u32) -> usize
         ensures { result ≡ bytes_with self.unit self.size chunk }
     {
-        let unit = self.unit;
-        match unit {
+        match self.unit {
             Unit::Bytes => self.size as usize,
             Unit::Frames => (self.size as usize) * (chunk as usize),
         }
@@ -209,7 +195,7 @@ impl Window {
 
 // The limits on which both sides agree: the most bytes of a data message, the window of the input and that of each output
 // pool, and whether the output streams share one pool.
-#[derive(Clone, Copy)]
+#[derive(Clone, Copy, Debug, PartialEq, Eq)]
 pub struct Limits {
     pub chunk: u32,
     pub input: Window,
@@ -217,30 +203,18 @@ pub struct Limits {
     pub shared: bool,
 }
 
-#[derive(Clone, Copy)]
-pub enum NewLimits {
-    Made(Limits),
-    Refused(Refusal),
-}
-
-// The length of a data message, or the refusal of one that is empty or longer than a chunk.
-#[derive(Clone, Copy)]
-pub enum ChunkLength {
-    Is(u32),
-    Refused(Refusal),
-}
-
 impl Limits {
     // Limits with one output pool a stream; a chunk or a window of 0 is refused.
     #[tactic(auto, unfolding(crate::specs::Limits::new_limits))]
-    pub fn new(chunk: u32, input: Window, output: Window) -> NewLimits
+    pub fn new(chunk: u32, input: Window, output: Window) -> Result<Limits, Refusal>
         ensures { result ≡ new_limits chunk input output }
     {
         let limits = Limits::of(chunk, input, output, false);
         if limits.is_valid() {
-            return NewLimits::Made(limits);
+            Ok(limits)
+        } else {
+            Err(Refusal::NoLimits)
         }
-        NewLimits::Refused(Refusal::NoLimits)
     }
 
     // Limits of any numbers, valid or not: `open` looks at them.
@@ -259,18 +233,14 @@ impl Limits {
     pub fn none() -> Limits
         ensures { result ≡ no_limits }
     {
-        let input = Window::bytes(0);
-        let output = Window::bytes(0);
-        Limits::of(0, input, output, false)
+        Limits::of(0, Window::bytes(0), Window::bytes(0), false)
     }
 
     // Whether neither the chunk nor a window is 0.
     pub fn is_valid(self) -> bool
         ensures { result ≡ is_valid self }
     {
-        let input = self.input;
-        let output = self.output;
-        (0 < self.chunk) & (0 < input.size) & (0 < output.size)
+        (0 < self.chunk) & (0 < self.input.size) & (0 < self.output.size)
     }
 
     // The same limits, with one pool that both output streams share.
@@ -292,61 +262,41 @@ impl Limits {
     }
 
     // The position of the output pool `pool`.
-    pub fn output_pool(self, pool: Pool) -> PoolIndex
+    pub fn output_pool(self, pool: Pool) -> Result<usize, Refusal>
         ensures { result ≡ output_pool self.shared pool }
     {
-        if self.shared {
-            return match pool {
-                Pool::Input => PoolIndex::Refused(Refusal::Pool),
-                Pool::Stdout => PoolIndex::Refused(Refusal::Pool),
-                Pool::Stderr => PoolIndex::Refused(Refusal::Pool),
-                Pool::Output => PoolIndex::At(0),
-            };
-        }
-        match pool {
-            Pool::Input => PoolIndex::Refused(Refusal::Pool),
-            Pool::Stdout => PoolIndex::At(0),
-            Pool::Stderr => PoolIndex::At(1),
-            Pool::Output => PoolIndex::Refused(Refusal::Pool),
+        match (self.shared, pool) {
+            (true, Pool::Output) => Ok(0),
+            (false, Pool::Stdout) => Ok(0),
+            (false, Pool::Stderr) => Ok(1),
+            _ => Err(Refusal::Pool),
         }
     }
 
     // The checked length of a data message of `length` bytes.
     #[tactic(auto, unfolding(crate::specs::Limits::check_chunk))]
-    pub fn check_chunk(self, length: usize) -> ChunkLength
+    pub fn check_chunk(self, length: usize) -> Result<u32, Refusal>
         ensures { result ≡ check_chunk self length }
     {
-        if length == 0 {
-            return ChunkLength::Refused(Refusal::Chunk);
+        if (length == 0) | ((self.chunk as usize) < length) {
+            return Err(Refusal::Chunk);
         }
-        let chunk = self.chunk as usize;
-        if chunk < length {
-            return ChunkLength::Refused(Refusal::Chunk);
-        }
-        ChunkLength::Is(length as u32)
+        Ok(length as u32)
     }
 
     // The most data bytes that the input's window holds.
     pub fn input_bytes(self) -> usize
         ensures { result ≡ input_bytes self }
     {
-        let input = self.input;
-        input.bytes_with(self.chunk)
+        self.input.bytes_with(self.chunk)
     }
-}
-
-// A duration in nanoseconds, if there is one.
-#[derive(Clone, Copy)]
-pub enum MaybeDuration {
-    None,
-    Some(u64),
 }
 
 // How long the execution may run, if it is bounded; how long pending output still flows once a termination begins; and how
 // long the execution may then take to settle.
-#[derive(Clone, Copy)]
+#[derive(Clone, Copy, Debug, PartialEq, Eq)]
 pub struct Timers {
-    pub timeout: MaybeDuration,
+    pub timeout: Option<u64>,
     pub grace: u64,
     pub settlement: u64,
 }
@@ -357,37 +307,30 @@ impl Timers {
         ensures { result ≡ new_timers grace settlement }
     {
         Timers {
-            timeout: MaybeDuration::None,
+            timeout: None,
             grace,
             settlement,
         }
     }
 
     // The same timers, with a timeout.
-    pub fn timeout(self, timeout: u64) -> Timers
+    pub fn timeout(mut self, timeout: u64) -> Timers
         ensures { result ≡ with_timeout self timeout }
     {
-        Timers {
-            timeout: MaybeDuration::Some(timeout),
-            grace: self.grace,
-            settlement: self.settlement,
-        }
+        self.timeout = Some(timeout);
+        self
     }
 
     // When the timeout of an execution that begins at `now` passes.
-    pub fn timeout_at(self, now: u64) -> Deadline
+    pub fn timeout_at(self, now: u64) -> Option<u64>
         ensures { result ≡ timeout_at self.timeout now }
     {
-        let timeout = self.timeout;
-        match timeout {
-            MaybeDuration::None => Deadline::Never,
-            MaybeDuration::Some(duration) => Deadline::after(now, duration),
-        }
+        deadline::after(now, self.timeout?)
     }
 }
 
 // Why a side ended an execution.
-#[derive(Clone, Copy)]
+#[derive(Clone, Copy, Debug, PartialEq, Eq)]
 pub enum Cause {
     Cancelled,
     Dropped,
@@ -396,58 +339,33 @@ pub enum Cause {
     Disconnected,
 }
 
-#[derive(Clone, Copy)]
-pub enum MaybeCause {
-    None,
-    Some(Cause),
-}
-
 // How a workload's program ended: by itself with a code, or by a signal.
-#[derive(Clone, Copy)]
+#[derive(Clone, Copy, Debug, PartialEq, Eq)]
 pub enum Status {
     Exited(i32),
     Signaled(i32),
 }
 
-#[derive(Clone, Copy)]
-pub enum MaybeStatus {
-    None,
-    Some(Status),
-}
-
 // Why a workload's program did not start: the adapter's number of the launch stage, and the error number.
-#[derive(Clone, Copy)]
+#[derive(Clone, Copy, Debug, PartialEq, Eq)]
 pub struct LaunchFailure {
     pub stage: u32,
     pub error: i32,
 }
 
-#[derive(Clone, Copy)]
-pub enum MaybeLaunchFailure {
-    None,
-    Some(LaunchFailure),
-}
-
-// What the adapter reports of a launch: the Rust's Result<(), LaunchFailure>.
-#[derive(Clone, Copy)]
-pub enum LaunchResult {
-    Started,
-    Failed(LaunchFailure),
-}
-
 // The result of settling an execution's processes.
-#[derive(Clone, Copy)]
+#[derive(Clone, Copy, Debug, PartialEq, Eq)]
 pub enum Settlement {
     Settled,
     Failed,
 }
 
 // How an execution ended. (An enum holds no array, so the truncation of the two streams is two flags.)
-#[derive(Clone, Copy)]
+#[derive(Clone, Copy, Debug, PartialEq, Eq)]
 pub struct Outcome {
-    pub status: MaybeStatus,
-    pub cause: MaybeCause,
-    pub launch_failure: MaybeLaunchFailure,
+    pub status: Option<Status>,
+    pub cause: Option<Cause>,
+    pub launch_failure: Option<LaunchFailure>,
     pub stdout_truncated: bool,
     pub stderr_truncated: bool,
     pub reusable: bool,
@@ -455,62 +373,41 @@ pub struct Outcome {
 
 impl Outcome {
     // The outcome of a workload that ended with `status`, if known: no cause, no launch failure, no truncation, fenced.
-    pub fn new(status: MaybeStatus) -> Self
+    pub fn new(status: Option<Status>) -> Self
         ensures { result ≡ new_outcome status }
     {
         Outcome {
             status,
-            cause: MaybeCause::None,
-            launch_failure: MaybeLaunchFailure::None,
+            cause: None,
+            launch_failure: None,
             stdout_truncated: false,
             stderr_truncated: false,
             reusable: false,
         }
     }
 
-    pub fn with_cause(self, cause: Cause) -> Outcome
+    pub fn with_cause(mut self, cause: Cause) -> Outcome
         ensures { result ≡ with_cause self cause }
     {
-        let status = self.status;
-        let launch_failure = self.launch_failure;
-        Outcome {
-            status,
-            cause: MaybeCause::Some(cause),
-            launch_failure,
-            stdout_truncated: self.stdout_truncated,
-            stderr_truncated: self.stderr_truncated,
-            reusable: self.reusable,
-        }
+        self.cause = Some(cause);
+        self
     }
 
-    pub fn with_launch_failure(self, failure: LaunchFailure) -> Outcome
+    pub fn with_launch_failure(mut self, failure: LaunchFailure) -> Outcome
         ensures { result ≡ with_launch_failure self failure }
     {
-        let status = self.status;
-        let cause = self.cause;
-        Outcome {
-            status,
-            cause,
-            launch_failure: MaybeLaunchFailure::Some(failure),
-            stdout_truncated: self.stdout_truncated,
-            stderr_truncated: self.stderr_truncated,
-            reusable: self.reusable,
-        }
+        self.launch_failure = Some(failure);
+        self
     }
 
     pub fn with_truncated(mut self, stream: Stream) -> Outcome
         ensures { result ≡ with_truncated self stream }
     {
         match stream {
-            Stream::Stdout => {
-                self.stdout_truncated = true;
-                self
-            }
-            Stream::Stderr => {
-                self.stderr_truncated = true;
-                self
-            }
+            Stream::Stdout => self.stdout_truncated = true,
+            Stream::Stderr => self.stderr_truncated = true,
         }
+        self
     }
 
     pub fn with_reusable(mut self) -> Outcome
@@ -531,30 +428,16 @@ impl Outcome {
 }
 
 // What the side did with a message that it accepted.
-#[derive(Clone, Copy)]
+#[derive(Clone, Copy, Debug, PartialEq, Eq)]
 pub enum Receipt {
     Applied,
     Stale,
     Late,
 }
 
-// What a peer's message did, or why it is refused: the Rust's Result<Receipt, Violation>.
-#[derive(Clone, Copy)]
-pub enum Received {
-    Receipt(Receipt),
-    Refused(Refusal),
-}
-
-// No result, or why there is none: the Rust's Result<(), Violation>.
-#[derive(Clone, Copy)]
-pub enum Reply {
-    Ok,
-    Refused(Refusal),
-}
-
 // Why a call is refused: the Rust's Violation, then what the stores, the state, the records, the card and the exit requests add. A refused call
 // changes nothing.
-#[derive(Clone, Copy)]
+#[derive(Clone, Copy, Debug, PartialEq, Eq)]
 pub enum Refusal {
     Key,
     Pool,
@@ -606,85 +489,30 @@ impl Refusal {
     }
 }
 
-// An instant in nanoseconds at which something is due, if there is one: the Rust's Option<Instant>.
-#[derive(Clone, Copy)]
-pub enum Deadline {
-    Never,
-    At(u64),
-}
-
-impl Deadline {
-    // The instant `duration` after `now`.
-    pub fn after(now: u64, duration: u64) -> Deadline
-        ensures { result ≡ after now duration }
-    {
-        if duration <= u64::MAX - now {
-            return Deadline::At(now + duration);
-        }
-        Deadline::Never
-    }
-
-    // The same, made anew: a copy would move the bytes between its tag and its instant too (docs/DECISIONS.md, Speed).
-    pub fn again(self) -> Deadline
-        ensures { result ≡ self }
-    {
-        match self {
-            Deadline::Never => Deadline::Never,
-            Deadline::At(at) => Deadline::At(at),
-        }
-    }
-
-    // The instant `duration` after this one.
-    pub fn then(self, duration: u64) -> Deadline
-        ensures { result ≡ then self duration }
-    {
-        match self {
-            Deadline::Never => Deadline::Never,
-            Deadline::At(at) => Deadline::after(at, duration),
-        }
-    }
-
-    // The earlier of two.
-    pub fn earliest(self, other: Deadline) -> Deadline
-        ensures { result ≡ earliest self other }
-    {
-        match self {
-            Deadline::Never => match other {
-                Deadline::Never => Deadline::Never,
-                Deadline::At(b) => Deadline::At(b),
-            },
-            Deadline::At(a) => match other {
-                Deadline::Never => Deadline::At(a),
-                Deadline::At(b) => {
-                    if b < a {
-                        return Deadline::At(b);
-                    }
-                    Deadline::At(a)
-                }
-            },
-        }
-    }
-
-    // Whether `now` has reached it.
-    pub fn due(self, now: u64) -> bool
-        ensures { result ≡ due self now }
-    {
-        match self {
-            Deadline::Never => false,
-            Deadline::At(at) => at <= now,
-        }
-    }
-
-    // This deadline while it matters, and none otherwise.
-    pub fn keep_if(self, keep: bool) -> Deadline
-        ensures { result ≡ cond keep self Deadline.Never }
-    {
-        if keep {
-            return match self {
-                Deadline::Never => Deadline::Never,
-                Deadline::At(at) => Deadline::At(at),
-            };
-        }
-        Deadline::Never
+impl fmt::Display for Refusal {
+    fn fmt<W: fmt::Write>(&self, f: &mut fmt::Formatter<W>) -> fmt::Result {
+        f.write_str(match self {
+            Refusal::Key => "the key is another execution's",
+            Refusal::Pool => "the limits have no such pool",
+            Refusal::Credit => "no units are granted, or more than are in flight",
+            Refusal::Chunk => "the message is empty or longer than a chunk",
+            Refusal::Window => "the message costs more than is granted",
+            Refusal::Ended => "the input has ended",
+            Refusal::NoLimits => "a chunk or a window is 0",
+            Refusal::StoreShort => "a store is too short",
+            Refusal::StateOutOfRange => "the state is none that the calls reach",
+            Refusal::NotAChannel => "the limits are not a channel's",
+            Refusal::BadLength => "the bytes are not as long as their record",
+            Refusal::UnknownKind => "the kind of the record is unknown",
+            Refusal::OtherChannel => "the record is for another channel",
+            Refusal::BadType => "the type of the extended data is unknown",
+            Refusal::NotInbound => "the record is none that a peer sends",
+            Refusal::BufferShort => "the buffer is too short",
+            Refusal::BadLine => "the line is no call",
+            Refusal::UntoldStatus => "no request tells the status",
+            Refusal::BadRequest => "the request tells no status",
+        })
     }
 }
+
+impl Error for Refusal {}

@@ -1,27 +1,38 @@
 -- CLOSE behind what was put, over plain variables.
+use Rattle.std.specs.Prelude.{Option, Result, Ok}
+use Rattle.exec.specs.declared.Status.{Status}
+use Rattle.exec.specs.declared.Refusal.{Refusal}
 use mathlib.Core.List.{List, [], ◌++◌, append_assoc, append-nil}
 use mathlib.Core.Path.{◌≡◌, refl, sym, ap, ◌∙◌}
 use Prim.Native.Nat.{ℕ, ◌+◌, ◌-◌, ◌≤◌}
 use native.Mathlib.Omega.{arith}
-use lib.ListN.{length, take, drop, length-append, length-drop}
+use lib.ListN.{length, take, drop, length-append, length-take, length-drop}
 use lib.Seq.{take_at, drop_at, take_all, drop-drop, drop-length}
 use borrow.Author.Tests.{le-leb}
-use Rattle.exec.specs.declared.MaybeStatus.{MaybeStatus}
 use Rattle.codec.specs.declared.Record.TheVariants.{Close}
-use Rattle.codec.specs.declared.Written.{Written}
 use Rattle.codec.specs.Codec.{bytes_of, WrittenAfter, written_after, write}
 use Rattle.exits.specs.Exit.{request_of, ending, closed}
 use Rattle.exits.specs.ExitLaws.{ending_length}
 
 close_written : (channel : ℕ) (t : List ℕ) → 5 ≤ length t
-    → write channel Close [] t ≡ written_after (Written.Bytes 5) (bytes_of channel Close [] ++ drop 5 t)
+    → write channel Close [] t ≡ written_after (Ok 5) (bytes_of channel Close [] ++ drop 5 t)
 unfolding write
 close_written channel t h = simp (le-leb 5 (length t) h)
 
-pub close_laid : (channel : ℕ) (status : MaybeStatus) (d b : List ℕ) (n : ℕ) (w : Written) (p : List ℕ) → 43 ≤ length d
+-- there is room for it
+pub close_five : (channel : ℕ) (status : Option Status) (d b : List ℕ) (n : ℕ) (w : Result ℕ Refusal) (p : List ℕ) → 43 ≤ length d
+    → (n ≡ length (request_of channel status)) × (n ≤ 38) → b ≡ request_of channel status ++ drop (length (request_of channel status)) d
+    → written_after w p ≡ write channel Close [] (take (length b - n) (drop n b)) → w ≡ Ok 5
+close_five channel status d b n w p room m e h =
+    let size : length b ≡ length (request_of channel status) + length (drop (length (request_of channel status)) d) = simp (e, length-append) refl in
+    let long : 5 ≤ length (take (length b - n) (drop n b)) =
+    simp (length-take, length-drop) (omega (arith, size, length-drop (length (request_of channel status)) d, m.0, m.1)) in
+    ap (λ (x : WrittenAfter). x.answer) (h ∙ close_written channel _ long)
+
+pub close_laid : (channel : ℕ) (status : Option Status) (d b : List ℕ) (n : ℕ) (w : Result ℕ Refusal) (p : List ℕ) → 43 ≤ length d
     → (n ≡ length (request_of channel status)) × (n ≤ 38) → b ≡ request_of channel status ++ drop (length (request_of channel status)) d
     → written_after w p ≡ write channel Close [] (take (length b - n) (drop n b))
-    → written_after (Written.Bytes (n + 5)) (take n b ++ (p ++ drop (length b - n) (drop n b))) ≡ closed channel status d
+    → written_after (Ok (n + 5)) (take n b ++ (p ++ drop (length b - n) (drop n b))) ≡ closed channel status d
 unfolding closed ending
 close_laid channel status d b n w p room m e h =
     let q : List ℕ = request_of channel status in

@@ -1,21 +1,22 @@
 -- Document 02's A1 as literal bytes: what writer and reader share, no round trip pins. Every number and name stands here as 02 spells
 -- it, and is computed from the definitions.
-use Rattle.std.specs.Prelude.{Bool, true, false, cond, ◌&&◌, ◌||◌, List, [], ◌∷◌, ◌++◌, ◌≡◌, refl, ℕ, zero, suc, ◌+◌, ◌*◌, ◌^◌, ◌≤◌, ◌<◌, eqb, pos, negsuc, length, take}
-use Rattle.std.proofs.Common.{arith, lt-ltb, le-ltb, ne_eqb}
+use Rattle.std.specs.Prelude.{◌&&◌, Bool, true, false, cond, ◌||◌, List, [], ◌∷◌, ◌++◌, ◌≡◌, refl, ℕ, zero, suc, ◌+◌, ◌*◌, ◌^◌, ◌≤◌, ◌<◌, eqb, pos, negsuc, length, take, Option, Result, Some, None, Ok, Err}
+use Rattle.std.specs.Ordering.{int_eq}
+use Rattle.std.proofs.lemmas.Bool.Decides.{Decides-int_eq, same_from_decides}
+use Rattle.std.proofs.Common.{◌∙◌, ap, arith, eqb-true, eq-eqb, lt-ltb, le-ltb, ne_eqb}
 use Rattle.std.proofs.lemmas.Bool.{lt-leb}
-use Rattle.exec.specs.declared.MaybeStatus.{MaybeStatus}
+use Rattle.exec.specs.declared.Refusal.{Refusal}
 use Rattle.exec.specs.declared.Refusal.TheVariants.{BadLength, UnknownKind, OtherChannel, BufferShort, UntoldStatus, BadRequest}
 use Rattle.exec.specs.declared.Status.{Status}
 use Rattle.exec.specs.declared.Status.TheVariants.{Exited, Signaled}
 use Rattle.exec.specs.Refusal.{number}
-use Rattle.ring.specs.Flags.{and_l, and_r}
+use Rattle.ring.specs.Flags.{and_r}
 use Rattle.octets.specs.Bytes.{be32_at, number_at}
 use Rattle.octets.specs.Text.{bytes, same, same_is}
-use Rattle.codec.specs.declared.Written.TheVariants as Written
 use Rattle.codec.specs.Codec.{header, bytes_of, WrittenAfter, written_after}
-use Rattle.exits.specs.declared.Told.{Told}
-use Rattle.exits.specs.Signals.{signals, find, is_number, name_of, signal_of, signal_named, signal_for}
-use Rattle.exits.specs.SignalLaws.{find_any}
+use Rattle.exits.specs.Signals.{name_of, number_of}
+use Rattle.exits.specs.SignalLaws.{named_any}
+use Rattle.exits.specs.RoundTrip.{guess_told}
 use Rattle.exits.specs.Exit.{request, is_told, is_untold, ending, closed, close, guess, matching, is_mine, read}
 
 -- ---- the bytes
@@ -40,39 +41,39 @@ requests : (request 1 (Exited (pos 0)) ≡ zero_on_1)
     × (request 1 (Exited (pos 16909060)) ≡ take 21 zero_on_1 ++ (1 ∷ 2 ∷ 3 ∷ 4 ∷ []))
     × (request 5 (Signaled (pos 2)) ≡ int_on_5)
     × (request 5 (Signaled (pos 15)) ≡ term_on_5)
-unfolding request bytes signal_for signal_of find zero_on_1 int_on_5 term_on_5
+unfolding request bytes name_of zero_on_1 int_on_5 term_on_5
 requests = (refl, refl, refl, refl)
 
 -- CLOSE stands directly behind, and a missing status has no request
-closing : (ending 5 (MaybeStatus.Some (Signaled (pos 2))) ≡ int_on_5 ++ (97 ∷ 0 ∷ 0 ∷ 0 ∷ 5 ∷ []))
-    × (ending 5 MaybeStatus.None ≡ 97 ∷ 0 ∷ 0 ∷ 0 ∷ 5 ∷ [])
-unfolding ending bytes_of header request bytes signal_for signal_of find int_on_5
+closing : (ending 5 (Some (Signaled (pos 2))) ≡ int_on_5 ++ (97 ∷ 0 ∷ 0 ∷ 0 ∷ 5 ∷ []))
+    × (ending 5 None ≡ 97 ∷ 0 ∷ 0 ∷ 0 ∷ 5 ∷ [])
+unfolding ending bytes_of header request bytes name_of int_on_5
 closing = (refl, refl)
 
 -- ---- the table: thirteen numbers with their names
 
-named_so : ℕ → List ℕ
-unfolding signal_of find bytes
-named_so n = name_of (signal_of n)
+named_so : ℕ → Option (List ℕ)
+unfolding name_of bytes
+named_so n = name_of (pos n)
 
-table : (named_so 1 ≡ bytes "HUP") × (named_so 2 ≡ bytes "INT") × (named_so 3 ≡ bytes "QUIT") × (named_so 4 ≡ bytes "ILL")
-    × (named_so 6 ≡ bytes "ABRT") × (named_so 8 ≡ bytes "FPE") × (named_so 9 ≡ bytes "KILL") × (named_so 10 ≡ bytes "USR1")
-    × (named_so 11 ≡ bytes "SEGV") × (named_so 12 ≡ bytes "USR2") × (named_so 13 ≡ bytes "PIPE") × (named_so 14 ≡ bytes "ALRM")
-    × (named_so 15 ≡ bytes "TERM")
+table : (named_so 1 ≡ Some (bytes "HUP")) × (named_so 2 ≡ Some (bytes "INT")) × (named_so 3 ≡ Some (bytes "QUIT")) × (named_so 4 ≡ Some (bytes "ILL"))
+    × (named_so 6 ≡ Some (bytes "ABRT")) × (named_so 8 ≡ Some (bytes "FPE")) × (named_so 9 ≡ Some (bytes "KILL")) × (named_so 10 ≡ Some (bytes "USR1"))
+    × (named_so 11 ≡ Some (bytes "SEGV")) × (named_so 12 ≡ Some (bytes "USR2")) × (named_so 13 ≡ Some (bytes "PIPE")) × (named_so 14 ≡ Some (bytes "ALRM"))
+    × (named_so 15 ≡ Some (bytes "TERM"))
 unfolding named_so
 table = (refl, refl, refl, refl, refl, refl, refl, refl, refl, refl, refl, refl, refl)
 
 -- ---- how long an ending is: 5, 30, 42, 43
 
-long : MaybeStatus → ℕ
-unfolding ending bytes_of header request bytes signal_for signal_of find
+long : Option Status → ℕ
+unfolding ending bytes_of header request bytes name_of
 long status = length (ending 0 status)
 
 after : ℕ → ℕ
 unfolding long
-after n = long (MaybeStatus.Some (Signaled (pos n)))
+after n = long (Some (Signaled (pos n)))
 
-lengths : (long MaybeStatus.None ≡ 5) × ((code : ℕ) → long (MaybeStatus.Some (Exited (pos code))) ≡ 30)
+lengths : (long None ≡ 5) × ((code : ℕ) → long (Some (Exited (pos code))) ≡ 30)
     × (after 1 ≡ 42) × (after 2 ≡ 42) × (after 3 ≡ 43) × (after 4 ≡ 42) × (after 6 ≡ 43) × (after 8 ≡ 42) × (after 9 ≡ 43) × (after 10 ≡ 43)
     × (after 11 ≡ 43) × (after 12 ≡ 43) × (after 13 ≡ 43) × (after 14 ≡ 43) × (after 15 ≡ 43)
 unfolding after
@@ -97,12 +98,17 @@ abbrev among : ℕ → List ℕ → Bool
 among n [] = false
 among n (x ∷ xs) = eqb x n || among n xs
 
+equal_pos : (a b : ℕ) → int_eq (pos a) (pos b) ≡ eqb a b
+equal_pos a b =
+    let e = Decides-int_eq (pos a) (pos b) in
+    same_from_decides (int_eq (pos a) (pos b)) (eqb a b) e (λ h. ap pos (eqb-true a b h), λ h. (let k : a ≡ b = cc in eq-eqb a b k))
+
 pub signals_told : (n : ℕ) → is_told (Signaled (pos n)) ≡ among n (1 ∷ 2 ∷ 3 ∷ 4 ∷ 6 ∷ 8 ∷ 9 ∷ 10 ∷ 11 ∷ 12 ∷ 13 ∷ 14 ∷ 15 ∷ [])
-unfolding is_told signal_for signal_of bytes
-signals_told n = find_any (is_number n) signals refl
+unfolding is_told bytes
+signals_told n = named_any (pos n) ∙ simp equal_pos
 
 pub none_negative : (n : ℕ) → is_told (Signaled (negsuc n)) ≡ false
-unfolding is_told signal_for
+unfolding is_told name_of
 none_negative n = refl
 
 -- ---- 25 asks for 43 bytes whatever the status; then 40
@@ -112,34 +118,34 @@ sevens : ℕ → List ℕ
 sevens zero = []
 sevens (suc n) = 7 ∷ sevens n
 
-closed_in : (room : ℕ) → MaybeStatus → WrittenAfter
-unfolding close closed is_untold is_told ending bytes_of header request bytes signal_for signal_of find sevens
+closed_in : (room : ℕ) → Option Status → WrittenAfter
+unfolding close closed is_untold is_told ending bytes_of header request bytes name_of sevens
 closed_in room status = close 5 status (sevens room)
 
 close_on_5 : List ℕ
 close_on_5 = 97 ∷ 0 ∷ 0 ∷ 0 ∷ 5 ∷ []
 
-room : (closed_in 42 MaybeStatus.None ≡ written_after (Written.Refused BufferShort) (sevens 42))
-    × (closed_in 43 MaybeStatus.None ≡ written_after (Written.Bytes 5) (close_on_5 ++ sevens 38))
-    × (closed_in 43 (MaybeStatus.Some (Signaled (pos 15))) ≡ written_after (Written.Bytes 43) (term_on_5 ++ close_on_5))
-    × (closed_in 44 (MaybeStatus.Some (Signaled (pos 2))) ≡ written_after (Written.Bytes 42) (int_on_5 ++ (close_on_5 ++ sevens 2)))
-    × (closed_in 42 (MaybeStatus.Some (Signaled (pos 7))) ≡ written_after (Written.Refused BufferShort) (sevens 42))
-    × (closed_in 43 (MaybeStatus.Some (Signaled (pos 7))) ≡ written_after (Written.Refused UntoldStatus) (sevens 43))
-    × (closed_in 43 (MaybeStatus.Some (Exited (negsuc 0))) ≡ written_after (Written.Refused UntoldStatus) (sevens 43))
+room : (closed_in 42 None ≡ written_after (Err BufferShort) (sevens 42))
+    × (closed_in 43 None ≡ written_after (Ok 5) (close_on_5 ++ sevens 38))
+    × (closed_in 43 (Some (Signaled (pos 15))) ≡ written_after (Ok 43) (term_on_5 ++ close_on_5))
+    × (closed_in 44 (Some (Signaled (pos 2))) ≡ written_after (Ok 42) (int_on_5 ++ (close_on_5 ++ sevens 2)))
+    × (closed_in 42 (Some (Signaled (pos 7))) ≡ written_after (Err BufferShort) (sevens 42))
+    × (closed_in 43 (Some (Signaled (pos 7))) ≡ written_after (Err UntoldStatus) (sevens 43))
+    × (closed_in 43 (Some (Exited (negsuc 0))) ≡ written_after (Err UntoldStatus) (sevens 43))
     × (number BufferShort ≡ 25)
     × (number UntoldStatus ≡ 40)
 unfolding closed_in term_on_5 int_on_5 close_on_5
 room = (refl, refl, refl, refl, refl, refl, refl, refl, refl)
 
 -- so too in any buffer that is shorter
-pub short : (channel : ℕ) (status : MaybeStatus) (b : List ℕ) → length b < 43 → close channel status b ≡ written_after (Written.Refused BufferShort) b
+pub short : (channel : ℕ) (status : Option Status) (b : List ℕ) → length b < 43 → close channel status b ≡ written_after (Err BufferShort) b
 unfolding close
 short channel status b h = simp (lt-leb 43 (length b) h)
 
 -- ---- the reader, for channel 5: 20 (empty), 21, 22 from 5 bytes on, 41
 
-reads : List ℕ → Told
-unfolding read matching guess is_told request bytes signal_for signal_of signal_named find same number_at be32_at
+reads : List ℕ → Result Status Refusal
+unfolding read matching guess is_told request bytes name_of number_of same number_at be32_at
 reads s = read 5 s
 
 -- exit-status with the channel's last byte, the byte that wants a reply, and the code's first and last
@@ -153,14 +159,14 @@ signal_with size letter core last = 98 ∷ 0 ∷ 0 ∷ 0 ∷ 5 ∷ 0 ∷ 0 ∷ 0
     ∷ 101 ∷ 120 ∷ 105 ∷ 116 ∷ 45 ∷ 115 ∷ 105 ∷ 103 ∷ 110 ∷ 97 ∷ 108 ∷ 0
     ∷ 0 ∷ 0 ∷ 0 ∷ size ∷ letter ∷ 78 ∷ 84 ∷ core ∷ 0 ∷ 0 ∷ 0 ∷ 0 ∷ 0 ∷ 0 ∷ 0 ∷ last ∷ []
 
-order : (reads [] ≡ Told.Refused BadLength)
-    × (reads (97 ∷ 0 ∷ 0 ∷ 0 ∷ 5 ∷ []) ≡ Told.Refused UnknownKind)
-    × (reads (97 ∷ 0 ∷ 0 ∷ 0 ∷ 6 ∷ []) ≡ Told.Refused UnknownKind)
-    × (reads (98 ∷ []) ≡ Told.Refused BadRequest)
-    × (reads (98 ∷ 0 ∷ 0 ∷ 0 ∷ []) ≡ Told.Refused BadRequest)
-    × (reads (98 ∷ 0 ∷ 0 ∷ 0 ∷ 6 ∷ []) ≡ Told.Refused OtherChannel)
-    × (reads (98 ∷ 0 ∷ 0 ∷ 0 ∷ 5 ∷ []) ≡ Told.Refused BadRequest)
-    × (reads (status_with 6 0 0 0) ≡ Told.Refused OtherChannel)
+order : (reads [] ≡ Err BadLength)
+    × (reads (97 ∷ 0 ∷ 0 ∷ 0 ∷ 5 ∷ []) ≡ Err UnknownKind)
+    × (reads (97 ∷ 0 ∷ 0 ∷ 0 ∷ 6 ∷ []) ≡ Err UnknownKind)
+    × (reads (98 ∷ []) ≡ Err BadRequest)
+    × (reads (98 ∷ 0 ∷ 0 ∷ 0 ∷ []) ≡ Err BadRequest)
+    × (reads (98 ∷ 0 ∷ 0 ∷ 0 ∷ 6 ∷ []) ≡ Err OtherChannel)
+    × (reads (98 ∷ 0 ∷ 0 ∷ 0 ∷ 5 ∷ []) ≡ Err BadRequest)
+    × (reads (status_with 6 0 0 0) ≡ Err OtherChannel)
     × (number BadLength ≡ 20)
     × (number UnknownKind ≡ 21)
     × (number OtherChannel ≡ 22)
@@ -169,44 +175,48 @@ unfolding reads status_with
 order = (refl, refl, refl, refl, refl, refl, refl, refl, refl, refl, refl, refl)
 
 -- "any other kind is 21", whatever stands behind it
-pub other_kind : (channel k : ℕ) (s : List ℕ) → (k ≡ 98 → ⊥) → read channel (k ∷ s) ≡ Told.Refused UnknownKind
+pub other_kind : (channel k : ℕ) (s : List ℕ) → (k ≡ 98 → ⊥) → read channel (k ∷ s) ≡ Err UnknownKind
 unfolding read
 other_kind channel k s h = simp (ne_eqb (length (k ∷ s)) 0 (omega arith), ne_eqb k 98 h)
 
 -- "22, which fewer than 5 bytes skip": from 5 bytes on bytes for another channel are 22, whatever stands behind it
-pub other_channel : (channel : ℕ) (s : List ℕ) → 5 ≤ length (98 ∷ s) → (number_at (98 ∷ s) 1 ≡ channel → ⊥) → read channel (98 ∷ s) ≡ Told.Refused OtherChannel
+pub other_channel : (channel : ℕ) (s : List ℕ) → 5 ≤ length (98 ∷ s) → (number_at (98 ∷ s) 1 ≡ channel → ⊥) → read channel (98 ∷ s) ≡ Err OtherChannel
 unfolding read
 other_channel channel s h n =
     simp (ne_eqb (length (98 ∷ s)) 0 (omega arith), le-ltb (length (98 ∷ s)) 5 h, ne_eqb (number_at (98 ∷ s) 1) channel n)
 
-unless : (b : Bool) (x y : Told) → (b ≡ true → ⊥) → cond b x y ≡ y
+unless : (b : Bool) (x y : Result Status Refusal) → (b ≡ true → ⊥) → cond b x y ≡ y
 unless true x y h = absurd (h refl)
 unless false x y h = refl
 
+unmatched : (channel : ℕ) (s : List ℕ) → ((status : Status) → is_told status ≡ true → request channel status ≡ s → ⊥)
+    → (o : Option Status) → guess s ≡ o → matching channel s o ≡ Err BadRequest
+unfolding matching
+unmatched channel s none None g = refl
+unmatched channel s none (Some x) g =
+    unless (is_told x && same (request channel x) s) (Ok x) (Err BadRequest)
+    (λ e. none x (guess_told s x g) (same_is (request channel x) s (and_r (is_told x) (same (request channel x) s) e)))
+
 -- "bytes of kind 98 that are neither form": all that are no request of a status that is told are 41, of whatever length
 pub neither : (channel : ℕ) (s : List ℕ) → is_mine channel (98 ∷ s) ≡ true
-    → ((status : Status) → is_told status ≡ true → request channel status ≡ 98 ∷ s → ⊥) → read channel (98 ∷ s) ≡ Told.Refused BadRequest
-unfolding read matching
+    → ((status : Status) → is_told status ≡ true → request channel status ≡ 98 ∷ s → ⊥) → read channel (98 ∷ s) ≡ Err BadRequest
+unfolding read
 neither channel s mine none =
-    let g = guess (98 ∷ s) in
-    let same_bytes = same (request channel g) (98 ∷ s) in
-    rw (ne_eqb (length (98 ∷ s)) 0 (omega arith), mine)
-    (unless (is_told g && same_bytes) (Told.Status g) (Told.Refused BadRequest)
-    (λ e. none g (and_l (is_told g) same_bytes e) (same_is (request channel g) (98 ∷ s) (and_r (is_told g) same_bytes e))))
+    rw (ne_eqb (length (98 ∷ s)) 0 (omega arith), mine) (unmatched channel (98 ∷ s) none (guess (98 ∷ s)) refl)
 
 -- "a wrong length, a code no status holds", and bytes that 6.10 fixes
-forms : (reads (status_with 5 0 0 7) ≡ Told.Status (Exited (pos 7)))
-    × (reads (status_with 5 0 127 255) ≡ Told.Status (Exited (pos (127 * 2 ^ 24 + 255))))
-    × (reads (status_with 5 0 128 0) ≡ Told.Refused BadRequest)
-    × (reads (status_with 5 1 0 7) ≡ Told.Refused BadRequest)
-    × (reads (status_with 5 0 0 7 ++ (0 ∷ [])) ≡ Told.Refused BadRequest)
-    × (reads (take 24 (status_with 5 0 0 7)) ≡ Told.Refused BadRequest)
-    × (reads (signal_with 3 73 0 0) ≡ Told.Status (Signaled (pos 2)))
-    × (reads (signal_with 4 73 0 0) ≡ Told.Refused BadRequest)
-    × (reads (signal_with 3 105 0 0) ≡ Told.Refused BadRequest)
-    × (reads (signal_with 3 73 1 0) ≡ Told.Refused BadRequest)
-    × (reads (signal_with 3 73 0 1) ≡ Told.Refused BadRequest)
-    × (reads (signal_with 3 73 0 0 ++ (0 ∷ [])) ≡ Told.Refused BadRequest)
-    × (reads (take 36 (signal_with 3 73 0 0)) ≡ Told.Refused BadRequest)
+forms : (reads (status_with 5 0 0 7) ≡ Ok (Exited (pos 7)))
+    × (reads (status_with 5 0 127 255) ≡ Ok (Exited (pos (127 * 2 ^ 24 + 255))))
+    × (reads (status_with 5 0 128 0) ≡ Err BadRequest)
+    × (reads (status_with 5 1 0 7) ≡ Err BadRequest)
+    × (reads (status_with 5 0 0 7 ++ (0 ∷ [])) ≡ Err BadRequest)
+    × (reads (take 24 (status_with 5 0 0 7)) ≡ Err BadRequest)
+    × (reads (signal_with 3 73 0 0) ≡ Ok (Signaled (pos 2)))
+    × (reads (signal_with 4 73 0 0) ≡ Err BadRequest)
+    × (reads (signal_with 3 105 0 0) ≡ Err BadRequest)
+    × (reads (signal_with 3 73 1 0) ≡ Err BadRequest)
+    × (reads (signal_with 3 73 0 1) ≡ Err BadRequest)
+    × (reads (signal_with 3 73 0 0 ++ (0 ∷ [])) ≡ Err BadRequest)
+    × (reads (take 36 (signal_with 3 73 0 0)) ≡ Err BadRequest)
 unfolding reads status_with signal_with
 forms = (refl, refl, refl, refl, refl, refl, refl, refl, refl, refl, refl, refl, refl)

@@ -1,147 +1,120 @@
--- Laws of the table: the turns of a search, what is found, and that number and name find the same signal.
-use Rattle.std.specs.Prelude.{Bool, true, false, cond, ◌&&◌, ◌||◌, List, [], ◌∷◌, ◌≡◌, refl, ℕ, zero, suc, ◌+◌, ◌^◌, ◌≤◌, ◌<◌, eqb, leb, ltb, ℤ, pos, negsuc, length, drop, get_or}
+-- Laws of the table: what is found in it, and that number and name find the same signal.
+use Rattle.std.specs.Prelude.{Bool, true, false, cond, ◌||◌, List, [], ◌∷◌, ◌≡◌, refl, ℕ, ◌≤◌, ◌<◌, ◌^◌, leb, ltb, ℤ, pos, negsuc, length, Option, Some, None, is_some, find}
+use Rattle.std.specs.List.{list_all, list_any}
+use Rattle.std.specs.Option.{option_map, option_map_or, unwrap_or}
+use Rattle.std.specs.Ordering.{int_eq}
 use Rattle.std.proofs.lemmas.Bool.{false≢true}
-use Rattle.std.proofs.Common.{sym, ap, ◌∙◌, arith, eqb-true, leb-true, ltb-true}
-use Rattle.std.proofs.Math.Numerals.{unary_clauses}
+use Rattle.std.proofs.lemmas.Bool.Decides.{Decides-int_eq}
+use Rattle.std.proofs.Common.{sym, ap, ◌∙◌, subst, arith, leb-true, ltb-true}
 use Rattle.ring.specs.Flags.{and_l, and_r}
-use Rattle.exits.specs.declared.signals.Signal.{Signal}
 use Rattle.octets.specs.Text.{bytes, same, same_is}
-use Rattle.exits.specs.Signals.{signals, name_of, nobody, find, is_number, is_named, signal_of, signal_named, signal_for}
+use Rattle.exits.specs.Signals.{Signal, signals, is_number, is_named, name_of, number_of}
 
--- ---- a search from a place on
+-- ---- a search
 
-pub find_turn : (P : Signal → Bool) (xs : List Signal) (i : ℕ) → i < length xs
-    → find P (drop i xs) ≡ cond (P (get_or xs i nobody)) (get_or xs i nobody) (find P (drop (i + 1) xs))
-unfolding find
-find_turn P [] i h = absurd (omega arith)
-find_turn P (x ∷ xs) zero h = refl
-find_turn P (x ∷ xs) (suc i) h = simp unary_clauses (simp unary_clauses at (find_turn P xs i (omega arith)))
+turn : (R : Signal → Type 0) (b : Bool) (x y : Signal) (o : Option Signal) → (b ≡ true → R y) → (o ≡ Some x → R x)
+    → cond b (Some y) o ≡ Some x → R x
+turn R true x y o here behind h = let e : y ≡ x = cc in subst R e (here refl)
+turn R false x y o here behind h = behind h
 
--- what stands at a place of a list, whatever would stand behind its end
-pub at_any : (xs : List Signal) (i : ℕ) (d e : Signal) → i < length xs → get_or xs i d ≡ get_or xs i e
-at_any [] i d e h = absurd (omega arith)
-at_any (x ∷ xs) zero d e h = refl
-at_any (x ∷ xs) (suc i) d e h = at_any xs i d e (omega arith)
+-- what is found passed, and whatever all of the list pass
+pub found : (P Q : Signal → Bool) (xs : List Signal) (x : Signal) → list_all Q xs ≡ true → find P xs ≡ Some x
+    → (P x ≡ true) × (Q x ≡ true)
+found P Q [] x a h = let z : ◌≡◌ {A = ℕ} 0 1 = cc in absurd (omega arith)
+found P Q (y ∷ xs) x a h =
+    turn (λ z. (P z ≡ true) × (Q z ≡ true)) (P y) x y (find P xs) (λ p. (p, and_l (Q y) (list_all Q xs) a))
+    (found P Q xs x (and_r (Q y) (list_all Q xs) a)) h
 
--- a turn at the signal x of the table, by the test of x
-pub turn : (P : Signal → Bool) (i : ℕ) (x : Signal) (b : Bool) → i < 13 → x ≡ get_or signals i nobody → P x ≡ b
-    → find P (drop i signals) ≡ cond b x (find P (drop (i + 1) signals))
-turn P i x b h e q =
-    find_turn P signals i h
-    ∙ ap (λ (y : Signal). cond (P y) y (find P (drop (i + 1) signals))) (sym e)
-    ∙ ap (λ (y : Bool). cond y x (find P (drop (i + 1) signals))) q
+-- one is found where one passes
+sooner : (b c : Bool) (x : Signal) (o : Option Signal) → is_some o ≡ c → is_some (cond b (Some x) o) ≡ (b || c)
+sooner true c x o h = refl
+sooner false c x o h = h
 
--- ---- what is found
+pub find_any : (P : Signal → Bool) (xs : List Signal) → is_some (find P xs) ≡ list_any P xs
+find_any P [] = refl
+find_any P (x ∷ xs) = sooner (P x) (list_any P xs) x (find P xs) (find_any P xs)
 
--- what is found, and has a name, passed
-found_by : (P : Signal → Bool) (b : Bool) (x y : Signal) → P x ≡ b → (ltb 0 y.length ≡ true → P y ≡ true)
-    → ltb 0 (cond b x y).length ≡ true → P (cond b x y) ≡ true
-found_by P true x y e behind h = e
-found_by P false x y e behind h = behind h
+-- ---- what is told of the signal that is found
 
-found : (P : Signal → Bool) (xs : List Signal) → ltb 0 (find P xs).length ≡ true → P (find P xs) ≡ true
-unfolding find
-found P [] h = absurd (false≢true h)
-found P (x ∷ xs) h = found_by P (P x) x (find P xs) refl (found P xs) h
+is_some_map : {V : Type 0} (f : Signal → V) (o : Option Signal) → is_some (option_map f o) ≡ is_some o
+is_some_map f None = refl
+is_some_map f (Some x) = refl
 
--- what every signal of a list passes, passes what is found or stands at a place, if nobody passes it
-abbrev pub every : (Signal → Bool) → List Signal → Bool
-every Q [] = true
-every Q (x ∷ xs) = Q x && every Q xs
+mapped : {V : Type 0} (f : Signal → V) (o : Option Signal) (v : V) → option_map f o ≡ Some v → (x : Signal) × ((o ≡ Some x) × (f x ≡ v))
+mapped f None v h = let z : ◌≡◌ {A = ℕ} 0 1 = cc in absurd (omega arith)
+mapped f (Some x) v h = (x, (refl, cc))
 
-either : (Q : Signal → Bool) (b : Bool) (x y : Signal) → Q x ≡ true → Q y ≡ true → Q (cond b x y) ≡ true
-either Q true x y p q = p
-either Q false x y p q = q
+-- a number has a name where it is in the table
+pub named_any : (n : ℤ) → is_some (name_of n) ≡ list_any (is_number n) signals
+unfolding name_of
+named_any n = is_some_map (λ x. x.name) (find (is_number n) signals) ∙ find_any (is_number n) signals
 
-find_every : (Q P : Signal → Bool) (xs : List Signal) → Q nobody ≡ true → every Q xs ≡ true → Q (find P xs) ≡ true
-unfolding find
-find_every Q P [] n h = n
-find_every Q P (x ∷ xs) n h = either Q (P x) x (find P xs) (and_l (Q x) (every Q xs) h) (find_every Q P xs n (and_r (Q x) (every Q xs) h))
+-- of at most four bytes
+is_short : Signal → Bool
+is_short x = leb (length x.name) 4
 
-at_every : (Q : Signal → Bool) (xs : List Signal) (i : ℕ) → Q nobody ≡ true → every Q xs ≡ true → Q (get_or xs i nobody) ≡ true
-at_every Q [] i n h = n
-at_every Q (x ∷ xs) zero n h = and_l (Q x) (every Q xs) h
-at_every Q (x ∷ xs) (suc i) n h = at_every Q xs i n (and_r (Q x) (every Q xs) h)
+pub name_most : (n : ℤ) (name : List ℕ) → name_of n ≡ Some name → length name ≤ 4
+unfolding name_of is_short bytes
+name_most n name h =
+    let x = mapped (λ x. x.name) (find (is_number n) signals) name h in
+    subst (λ (s : List ℕ). length s ≤ 4) x.1.1 (leb-true _ 4 (found (is_number n) is_short signals x.0 refl x.1.0).1)
 
--- where every signal has a name, one that has is found where one passes
-abbrev pub any : (Signal → Bool) → List Signal → Bool
-any P [] = false
-any P (x ∷ xs) = P x || any P xs
+short_or : (o : Option (List ℕ)) → ((name : List ℕ) → o ≡ Some name → length name ≤ 4) → length (unwrap_or o []) ≤ 4
+short_or None h = omega arith
+short_or (Some name) h = h name refl
 
-sooner : (b : Bool) (x y : Signal) (rest : Bool) → ltb 0 x.length ≡ true → ltb 0 y.length ≡ rest → ltb 0 (cond b x y).length ≡ (b || rest)
-sooner true x y rest h e = h
-sooner false x y rest h e = e
-
-abbrev pub has_name : Signal → Bool
-has_name x = ltb 0 x.length
-
-pub find_any : (P : Signal → Bool) (xs : List Signal) → every has_name xs ≡ true → ltb 0 (find P xs).length ≡ any P xs
-unfolding find
-find_any P [] h = refl
-find_any P (x ∷ xs) h =
-    sooner (P x) x (find P xs) (any P xs) (and_l (has_name x) (every has_name xs) h) (find_any P xs (and_r (has_name x) (every has_name xs) h))
-
--- ---- the signals of the table
-
--- a name of at most four bytes
-abbrev pub Fit : Signal → Type 0
-Fit x = (x.length ≤ 4) × (length x.name ≡ 4)
-
-is_fit : Signal → Bool
-is_fit x = leb x.length 4 && eqb (length x.name) 4
-
-is_fit_lem : (x : Signal) → is_fit x ≡ true → Fit x
-unfolding is_fit
-is_fit_lem x h =
-    (leb-true _ 4 (and_l (leb x.length 4) (eqb (length x.name) 4) h), eqb-true _ 4 (and_r (leb x.length 4) (eqb (length x.name) 4) h))
-
-pub at_fit : (i : ℕ) → Fit (get_or signals i nobody)
-unfolding is_fit bytes
-at_fit i = is_fit_lem (get_or signals i nobody) (at_every is_fit signals i refl refl)
-
-pub find_fit : (P : Signal → Bool) → Fit (find P signals)
-unfolding is_fit bytes
-find_fit P = is_fit_lem (find P signals) (find_every is_fit P signals refl refl)
-
-pub signal_fit : (n : ℤ) → Fit (signal_for n)
-unfolding signal_for signal_of
-signal_fit (pos n) = find_fit (is_number n)
-signal_fit (negsuc n) = (omega arith, refl)
+pub name_short : (n : ℤ) → length (unwrap_or (name_of n) []) ≤ 4
+name_short n = short_or (name_of n) (name_most n)
 
 -- and a number that an i32 holds
-find_low : (P : Signal → Bool) → (find P signals).number < 2 ^ 31
-unfolding bytes
-find_low P = ltb-true _ (2 ^ 31) (find_every (λ x. ltb x.number (2 ^ 31)) P signals refl refl)
+abbrev pub Low : ℤ → Type 0
+Low (pos n) = n < 2 ^ 31
+Low (negsuc n) = ⊥
 
-pub named_low : (name : List ℕ) → (signal_named name).number < 2 ^ 31
-unfolding signal_named
-named_low name = find_low (is_named name)
+is_low : ℤ → Bool
+is_low (pos n) = ltb n (2 ^ 31)
+is_low (negsuc n) = false
+
+is_low_lem : (n : ℤ) → is_low n ≡ true → Low n
+unfolding is_low
+is_low_lem (pos n) h = ltb-true n (2 ^ 31) h
+is_low_lem (negsuc n) h = false≢true h
+
+pub number_low : (name : List ℕ) (n : ℤ) → number_of name ≡ Some n → Low n
+unfolding number_of bytes is_low
+number_low name n h =
+    let x = mapped (λ x. x.number) (find (is_named name) signals) n h in
+    subst Low x.1.1 (is_low_lem x.0.number (found (is_named name) (λ y. is_low y.number) signals x.0 refl x.1.0).1)
 
 -- the signal that a name finds is found by its number, and the other way round
+has_name : (name : List ℕ) (o : Option (List ℕ)) → option_map_or (λ s. same s name) o false ≡ true → o ≡ Some name
+has_name name None h = absurd (false≢true h)
+has_name name (Some s) h = ap (λ (t : List ℕ). Some t) (same_is s name h)
+
+has_number : (n : ℤ) (o : Option ℤ) → option_map_or (λ m. int_eq m n) o false ≡ true → o ≡ Some n
+has_number n None h = absurd (false≢true h)
+has_number n (Some m) h = ap (λ (k : ℤ). Some k) ((Decides-int_eq m n).0 h)
+
 again : Signal → Bool
-unfolding bytes same signal_of signal_named find
-again x = same (name_of (signal_of x.number)) (name_of x)
+unfolding bytes same name_of
+again x = option_map_or (λ s. same s x.name) (name_of x.number) false
 
 anew : Signal → Bool
-unfolding bytes same signal_of signal_named find
-anew x = eqb (signal_named (name_of x)).number x.number
-
-sized : Signal → Bool
-unfolding bytes same signal_of find
-sized x = eqb (signal_of x.number).length x.length
-
--- what a name finds, and what its number finds, have names of one length
-pub named_length : (name : List ℕ) → (signal_of (signal_named name).number).length ≡ (signal_named name).length
-unfolding signal_named sized
-named_length name = eqb-true _ _ (find_every sized (is_named name) signals refl refl)
+unfolding bytes same number_of
+anew x = option_map_or (λ m. int_eq m x.number) (number_of x.name) false
 
 -- NUMBER AND NAME: a number of the table is that of its name, and a name of the table that of its number
-pub name_number : (n : ℕ) → ltb 0 (signal_of n).length ≡ true → (signal_named (name_of (signal_of n))).number ≡ n
-unfolding signal_of anew
-name_number n h =
-    eqb-true _ _ (find_every anew (is_number n) signals refl refl) ∙ eqb-true _ n (found (is_number n) signals h)
+pub name_number : (n : ℤ) (name : List ℕ) → name_of n ≡ Some name → number_of name ≡ Some n
+unfolding name_of anew
+name_number n name h =
+    let x = mapped (λ x. x.name) (find (is_number n) signals) name h in
+    let q = found (is_number n) anew signals x.0 refl x.1.0 in
+    let e : x.0.number ≡ n = (Decides-int_eq x.0.number n).0 q.0 in
+    ap number_of (sym x.1.1) ∙ has_number x.0.number (number_of x.0.name) q.1 ∙ ap (λ (k : ℤ). Some k) e
 
-pub number_name : (name : List ℕ) → ltb 0 (signal_named name).length ≡ true → name_of (signal_of (signal_named name).number) ≡ name
-unfolding signal_named again
-number_name name h =
-    same_is _ _ (find_every again (is_named name) signals refl refl) ∙ same_is _ name (found (is_named name) signals h)
+pub number_name : (name : List ℕ) (n : ℤ) → number_of name ≡ Some n → name_of n ≡ Some name
+unfolding number_of again
+number_name name n h =
+    let x = mapped (λ x. x.number) (find (is_named name) signals) n h in
+    let q = found (is_named name) again signals x.0 refl x.1.0 in
+    ap name_of (sym x.1.1) ∙ has_name x.0.name (name_of x.0.number) q.1 ∙ ap (λ (s : List ℕ). Some s) (same_is x.0.name name q.0)

@@ -4,7 +4,6 @@
 ghost use Rattle.std.specs.Prelude.{◌≡◌, length};
 
 use card::feed::Card;
-use ring::smaller;
 use std::io;
 use std::io::Write;
 
@@ -15,35 +14,23 @@ pub struct Fed {
     pub more: bool,
 }
 
-// An area for a line, a piece of input, or the runner's bytes.
-pub fn area() -> [u8; 65536]
-    ensures { 65536 ≡ length result }
-{
-    [0; 65536]
-}
+// How long an area is for a line, a piece of input, or the runner's bytes.
+pub const AREA: usize = 65536;
 
-// An area for answers, the longest of which takes half of it, or for the text of many cards.
-pub fn large_area() -> [u8; 262144]
-    ensures { 262144 ≡ length result }
-{
-    [0; 262144]
-}
+// How long an area is for answers, the longest of which takes half of it, or for the text of many cards.
+pub const LARGE_AREA: usize = 262144;
 
-// The runner's lengths.
-pub fn lengths_area() -> [u32; 1024]
-    ensures { 1024 ≡ length result }
-{
-    [0; 1024]
-}
+// How many lengths the runner has.
+pub const LENGTHS: usize = 1024;
 
 // Writes the first n bytes of out, or all if there are fewer.
 fn emit<W: Write>(to: &mut W, out: &[u8], n: usize) -> io::Result<()> {
-    to.write_all(&out[..smaller(n, out.len())])
+    to.write_all(&out[..n.min(out.len())])
 }
 
 // Eats a piece and writes its answers, as many as the output area holds at a time. The areas are the card's.
 pub fn feed<W: Write>(
-    card: Card,
+    mut card: Card,
     line: &mut [u8],
     store: &mut [u8],
     lengths: &mut [u32],
@@ -51,26 +38,17 @@ pub fn feed<W: Write>(
     out: &mut [u8],
     to: &mut W,
 ) -> io::Result<Fed> {
-    let n = piece.len();
-    let mut c = card;
-    let mut left = n;
-    while 0 < left {
-        let e = c.eat(line, store, lengths, &piece[n - left..n], out);
-        c = e.card;
-        emit(to, out, e.printed)?;
-        let used = smaller(e.used, left);
-        if used == 0 {
-            return Ok(Fed {
-                card: c,
-                more: false,
-            });
+    let mut rest = piece;
+    while !rest.is_empty() {
+        let eaten = card.eat(line, store, lengths, rest, out);
+        card = eaten.card;
+        emit(to, out, eaten.printed)?;
+        if eaten.used == 0 {
+            return Ok(Fed { card, more: false });
         }
-        left -= used;
+        rest = &rest[eaten.used.min(rest.len())..];
     }
-    Ok(Fed {
-        card: c,
-        more: true,
-    })
+    Ok(Fed { card, more: true })
 }
 
 // The end of the input, which ends a line that has begun.

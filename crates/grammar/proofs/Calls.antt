@@ -1,7 +1,6 @@
 -- From any session: the runner and its stores after bytes are those after the calls that the bytes make, and what is printed are their answers.
-use Rattle.std.specs.Prelude.{Bool, true, false, cond, ◌≡◌, refl, List, [], ◌∷◌, ◌++◌, ℕ, eqb, length}
+use Rattle.std.specs.Prelude.{Bool, true, false, cond, ◌≡◌, refl, List, [], ◌∷◌, ◌++◌, ℕ, eqb, length, Option, Some, None}
 use Rattle.std.proofs.Common.{sym, ap, ◌∙◌, append_assoc, append-nil, arith}
-use Rattle.std.proofs.Math.Option.{Option, none, some}
 use Rattle.calls.specs.Call.{Call, Done}
 use Rattle.account.specs.Step.{State, next, answer, after, run}
 use Rattle.syntax.specs.Lines.{line_call}
@@ -12,8 +11,8 @@ use Rattle.grammar.specs.Calls.{made_of, line_calls, eat_calls, calls_of, IsRunn
 
 later_runs : (c : Option Call) (s : State) → IsRunning (later c s).stage (after s (made_of c))
 unfolding later
-later_runs none s = refl
-later_runs (some c) s = refl
+later_runs None s = refl
+later_runs (Some c) s = refl
 
 line_runs : (s : State) (line : List ℕ) → IsRunning (answer_of (Running s) line).stage (after s (line_calls (Running s) line))
 unfolding answer_of answered too_long
@@ -65,8 +64,8 @@ some_call c e = let z : ◌≡◌ {A = ℕ} 0 1 = cc in omega arith
 
 later_answers : (c : Option Call) (s : State) → Answers s (record { calls = made_of c; answer = (later c s).answer })
 unfolding later
-later_answers none s = record { called = refl; uncalled = λ e. (30, refl, refl) }
-later_answers (some c) s = record { called = refl; uncalled = λ e. absurd (some_call c e) }
+later_answers None s = record { called = refl; uncalled = λ e. (30, refl, refl) }
+later_answers (Some c) s = record { called = refl; uncalled = λ e. absurd (some_call c e) }
 
 line_answers : (s : State) (line : List ℕ) → Answers s (line_of (Running s) line)
 unfolding answer_of answered too_long

@@ -1,16 +1,14 @@
 -- 02's A3, of every card; and as whole cards, their bytes in and their answers out, computed from the definitions on each side of every number.
+use Rattle.std.specs.Prelude.{Option, Some, None, option_map}
+use Rattle.std.proofs.lemmas.Option.{same_Some}
 use mathlib.Core.Bool.{Bool, true, false, cond}
 use mathlib.Core.Path.{◌≡◌, refl, sym, ap, ◌∙◌}
 use mathlib.Core.List.{List, [], ◌∷◌}
-use mathlib.Core.Option.{none, some, map, some-injective}
 use Prim.Native.Nat.{ℕ, ◌≤◌}
 use native.Mathlib.Omega.{arith}
 use borrow.Author.Tests.{le-leb}
 use lib.ListN.{length, get_or}
 use Rattle.exec.specs.declared.Cause.TheVariants as Cause
-use Rattle.exec.specs.declared.Deadline.{Deadline}
-use Rattle.exec.specs.declared.Deadline.TheVariants.{At, Never}
-use Rattle.exec.specs.declared.MaybeDuration.{MaybeDuration}
 use Rattle.exec.specs.Key.{new_key}
 use Rattle.exec.specs.Time.{after, earliest, timeout_at}
 use Rattle.exec.specs.Limits.{bytes_with, bytes_window, limits_for}
@@ -42,9 +40,9 @@ use Rattle.grammar.proofs.Opened.{Opened, opened_so, first_line}
 
 -- ---- its deadline
 
-still : (d : Deadline) → earliest (earliest (earliest (earliest d Never) Never) Never) Never ≡ d
-still Never = refl
-still (At t) = refl
+still : (d : Option ℕ) → earliest (earliest (earliest (earliest d None) None) None) None ≡ d
+still None = refl
+still (Some t) = refl
 
 -- of a fresh runner no other timer runs
 fresh_deadline : (conf : Conf) (now : ℕ) (bs lengths : List ℕ) → Plain.answer (begun conf now bs lengths) Call.deadline ≡ Call.Time (timeout_at conf.timers.timeout now)
@@ -64,19 +62,19 @@ asked_is line x =
     ∙ fresh_deadline conf now (zeros 65536) (zeros 1024))
 
 -- by what its TIMEOUT says, and its NOW
-asked_by : (line : List ℕ) (now : ℕ) (t : MaybeDuration) → Starts line now → timeout (get_or (fields line) 10 []) ≡ some t → asked line ≡ Call.Ok ∷ Call.Time (timeout_at t now) ∷ []
+asked_by : (line : List ℕ) (now : ℕ) (t : Option ℕ) → Starts line now → timeout (get_or (fields line) 10 []) ≡ Some t → asked line ≡ Call.Ok ∷ Call.Time (timeout_at t now) ∷ []
 asked_by line now t h e =
     let x : Opened line = opened_so line h.0 in
-    let m : x.given.now ≡ now = some-injective _ _ (sym (line_says line x.given x.reads).now ∙ h.1) in
-    let u : x.given.conf.timers.timeout ≡ t = some-injective _ _ (sym (line_says line x.given x.reads).limit ∙ e) in
+    let m : x.given.now ≡ now = same_Some _ _ (sym (line_says line x.given x.reads).now ∙ h.1) in
+    let u : x.given.conf.timers.timeout ≡ t = same_Some _ _ (sym (line_says line x.given x.reads).limit ∙ e) in
     asked_is line x ∙ rw (m, u) refl
 
-texts : (timeout (bytes "-") ≡ some (MaybeDuration.Some 3600000000000)) × (timeout (bytes "never") ≡ some MaybeDuration.None)
+texts : (timeout (bytes "-") ≡ Some (Some 3600000000000)) × (timeout (bytes "never") ≡ Some None)
 unfolding calls timeout
 texts = (refl, refl)
 
 -- a first line that is no line of the card
-unopened : (line : List ℕ) → line_open line ≡ none → answer_of First line ≡ bad Over
+unopened : (line : List ℕ) → line_open line ≡ None → answer_of First line ≡ bad Over
 unfolding answer_of answered first too_long
 unopened line e = rw e (by (is_short line))
   where
@@ -89,17 +87,17 @@ pub every_card : EveryCard
 every_card = record {
   opens = λ line o h e x. first_line line (record { given = o; short = h; reads = line_opens line o e; opens = x });
   only = λ line h. let x = opened_so line h in (x.given, line_says line x.given x.reads);
-  missing = λ line now h e. asked_by line now (MaybeDuration.Some 3600000000000) h (ap timeout e ∙ texts.0);
-  never = λ line now h e. asked_by line now MaybeDuration.None h (ap timeout e ∙ texts.1);
-  number = λ line now n h e. asked_by line now (MaybeDuration.Some n) h (number_itself (get_or (fields line) 10 []) n e);
-  other = λ line m n e. unopened line (line_bad line (number_else (get_or (fields line) 10 []) m n ∙ ap (map MaybeDuration.Some) e));
+  missing = λ line now h e. asked_by line now (Some 3600000000000) h (ap timeout e ∙ texts.0);
+  never = λ line now h e. asked_by line now None h (ap timeout e ∙ texts.1);
+  number = λ line now n h e. asked_by line now (Some n) h (number_itself (get_or (fields line) 10 []) n e);
+  other = λ line m n e. unopened line (line_bad line (number_else (get_or (fields line) 10 []) m n ∙ ap (option_map Some) e));
 }
 
 -- ---- cards
 
 -- what it prints, where its further lines are answered so whatever the stores hold
 opened_card : (card line : List ℕ) (conf : Conf) (now : ℕ) (ls : List (List ℕ)) (answers : List Answer) → lines_in card ≡ line ∷ ls → is_short line ≡ true
-    → line_open line ≡ some (record { conf = conf; now = now }) → Opens conf now (zeros 65536) (zeros 1024)
+    → line_open line ≡ Some (record { conf = conf; now = now }) → Opens conf now (zeros 65536) (zeros 1024)
     → ((bs lengths : List ℕ) → answers_from (Running (begun conf now bs lengths)) ls ≡ answers) → prints card ≡ text_from 0 (Call.Ok ∷ answers)
 opened_card card line conf now ls answers l h e o f =
     (by_line card).printed
@@ -108,14 +106,14 @@ opened_card card line conf now ls answers l h e o f =
     ∙ ap (λ (s : State). text_from 0 (Call.Ok ∷ answers_from (Running s) ls)) (open_same conf now (zeros 65536) (zeros 1024) o)
     ∙ ap (λ (x : List Answer). text_from 0 (Call.Ok ∷ x)) (f (zeros 65536) (zeros 1024))
 
-abbrev hour : MaybeDuration
-hour = MaybeDuration.Some 3600000000000
+abbrev hour : Option ℕ
+hour = Some 3600000000000
 
 -- 01's limits, with a timeout
-abbrev pub timed : MaybeDuration → Conf
+abbrev pub timed : Option ℕ → Conf
 timed x = record { key = new_key 7 2; limits = limits_for 4 (bytes_window 8) (bytes_window 8) false; timers = record { timeout = x; grace = 10; settlement = 5 } }
 
-pub opens : (x : MaybeDuration) (now : ℕ) → Opens (timed x) now (zeros 65536) (zeros 1024)
+pub opens : (x : Option ℕ) (now : ℕ) → Opens (timed x) now (zeros 65536) (zeros 1024)
 unfolding Calls.«open» bytes_with
 opens x now =
     let b : 16 ≤ length (zeros 65536) = rw (zeros_length 65536) (omega arith) in
@@ -124,27 +122,27 @@ opens x now =
 
 -- ---- each of the claims of every card is met, on both sides of every number
 
-pub met : (line : List ℕ) (x : MaybeDuration) (now : ℕ) → is_short line ≡ true → line_open line ≡ some (record { conf = timed x; now = now }) → (answer_of First line).answer ≡ Call.Ok
+pub met : (line : List ℕ) (x : Option ℕ) (now : ℕ) → is_short line ≡ true → line_open line ≡ Some (record { conf = timed x; now = now }) → (answer_of First line).answer ≡ Call.Ok
 met line x now h e =
     let o : Opening = record { conf = timed x; now = now } in
     ap (λ (a : Answered). a.answer) (every_card.opens line o h (line_says line o e) (opens x now))
 
-numbered : (line : List ℕ) (now n : ℕ) → is_short line ≡ true → line_open line ≡ some (record { conf = timed (MaybeDuration.Some n); now = now })
-    → u64 (get_or (fields line) 1 []) ≡ some now → u64 (get_or (fields line) 10 []) ≡ some n → asked line ≡ Call.Ok ∷ Call.Time (after now n) ∷ []
-numbered line now n h e i k = every_card.number line now n (met line (MaybeDuration.Some n) now h e, i) k
+numbered : (line : List ℕ) (now n : ℕ) → is_short line ≡ true → line_open line ≡ Some (record { conf = timed (Some n); now = now })
+    → u64 (get_or (fields line) 1 []) ≡ Some now → u64 (get_or (fields line) 10 []) ≡ Some n → asked line ≡ Call.Ok ∷ Call.Time (after now n) ∷ []
+numbered line now n h e i k = every_card.number line now n (met line (Some n) now h e, i) k
 
-cards_met : (asked (bytes "open,5,7,2,4,B,8,B,8,0,-,10,5") ≡ Call.Ok ∷ Call.Time (At 3600000000005) ∷ [])
-    × (asked (bytes "open,5,7,2,4,B,8,B,8,0,never,10,5") ≡ Call.Ok ∷ Call.Time Never ∷ [])
-    × (asked (bytes "open,5,7,2,4,B,8,B,8,0,0,10,5") ≡ Call.Ok ∷ Call.Time (At 5) ∷ [])
-    × (asked (bytes "open,5,7,2,4,B,8,B,8,0,3600000000000,10,5") ≡ Call.Ok ∷ Call.Time (At 3600000000005) ∷ [])
-    × (asked (bytes "open,5,7,2,4,B,8,B,8,0,3600000000001,10,5") ≡ Call.Ok ∷ Call.Time (At 3600000000006) ∷ [])
-    × (asked (bytes "open,0,7,2,4,B,8,B,8,0,18446744073709551615,10,5") ≡ Call.Ok ∷ Call.Time (At 18446744073709551615) ∷ [])
-    × (asked (bytes "open,1,7,2,4,B,8,B,8,0,18446744073709551615,10,5") ≡ Call.Ok ∷ Call.Time Never ∷ [])
+cards_met : (asked (bytes "open,5,7,2,4,B,8,B,8,0,-,10,5") ≡ Call.Ok ∷ Call.Time (Some 3600000000005) ∷ [])
+    × (asked (bytes "open,5,7,2,4,B,8,B,8,0,never,10,5") ≡ Call.Ok ∷ Call.Time None ∷ [])
+    × (asked (bytes "open,5,7,2,4,B,8,B,8,0,0,10,5") ≡ Call.Ok ∷ Call.Time (Some 5) ∷ [])
+    × (asked (bytes "open,5,7,2,4,B,8,B,8,0,3600000000000,10,5") ≡ Call.Ok ∷ Call.Time (Some 3600000000005) ∷ [])
+    × (asked (bytes "open,5,7,2,4,B,8,B,8,0,3600000000001,10,5") ≡ Call.Ok ∷ Call.Time (Some 3600000000006) ∷ [])
+    × (asked (bytes "open,0,7,2,4,B,8,B,8,0,18446744073709551615,10,5") ≡ Call.Ok ∷ Call.Time (Some 18446744073709551615) ∷ [])
+    × (asked (bytes "open,1,7,2,4,B,8,B,8,0,18446744073709551615,10,5") ≡ Call.Ok ∷ Call.Time None ∷ [])
     × (answer_of First (bytes "open,5,7,2,4,B,8,B,8,0,18446744073709551616,10,5") ≡ bad Over)
 unfolding calls timeout open_of is_open opening_of limits_of timers_of answer_of answered first
 cards_met = (
   every_card.missing (bytes "open,5,7,2,4,B,8,B,8,0,-,10,5") 5 (met (bytes "open,5,7,2,4,B,8,B,8,0,-,10,5") hour 5 refl refl, refl) refl,
-  every_card.never (bytes "open,5,7,2,4,B,8,B,8,0,never,10,5") 5 (met (bytes "open,5,7,2,4,B,8,B,8,0,never,10,5") MaybeDuration.None 5 refl refl, refl) refl,
+  every_card.never (bytes "open,5,7,2,4,B,8,B,8,0,never,10,5") 5 (met (bytes "open,5,7,2,4,B,8,B,8,0,never,10,5") None 5 refl refl, refl) refl,
   numbered (bytes "open,5,7,2,4,B,8,B,8,0,0,10,5") 5 0 refl refl refl refl,
   numbered (bytes "open,5,7,2,4,B,8,B,8,0,3600000000000,10,5") 5 3600000000000 refl refl refl refl,
   numbered (bytes "open,5,7,2,4,B,8,B,8,0,3600000000001,10,5") 5 3600000000001 refl refl refl refl,
@@ -168,12 +166,12 @@ hung = bytes "launched,0,-,-"
 
 abbrev times_out : List Answer
 times_out = Call.Ok
-    ∷ Call.Time (At 3600000000005)
+    ∷ Call.Time (Some 3600000000005)
     ∷ Call.Ok
     ∷ Call.Nothing
     ∷ Call.Ok
     ∷ Call.Asks (Call.Terminate Cause.TimedOut)
-    ∷ Call.Time (At 3600000000015)
+    ∷ Call.Time (Some 3600000000015)
     ∷ []
 
 hung_answers : (bs lengths : List ℕ) → answers_from (Running (begun (timed hour) 5 bs lengths)) hung ≡ times_out
@@ -197,16 +195,16 @@ overnight = bytes "launched,0,-,-"
     ∷ []
 
 abbrev goes_on : List Answer
-goes_on = Call.Ok ∷ Call.Time Never ∷ Call.Ok ∷ Call.Nothing ∷ Call.Time Never ∷ []
+goes_on = Call.Ok ∷ Call.Time None ∷ Call.Ok ∷ Call.Nothing ∷ Call.Time None ∷ []
 
-overnight_answers : (bs lengths : List ℕ) → answers_from (Running (begun (timed MaybeDuration.None) 0 bs lengths)) overnight ≡ goes_on
+overnight_answers : (bs lengths : List ℕ) → answers_from (Running (begun (timed None) 0 bs lengths)) overnight ≡ goes_on
 unfolding overnight calls answer_of answered later Step.next Step.answer Calls.launched Calls.tick Calls.deadline Calls.next_request Range.fresh Range.stop Range.in_range bytes_with output_fits Life.pass_grace Life.pass_timeout Life.pass_settlement Life.pass_give_up Life.pass_abandonment Life.fire Life.ticked Life.deadline_of Life.note_started Life.note_launch Life.launched_next Message.wish_for Message.wish Message.wish_effect
 overnight_answers bs lengths = refl
 
 no_limit : prints (bytes "open,0,7,2,4,B,8,B,8,0,never,10,5\nlaunched,0,-,-\ndeadline\ntick,18446744073709551615\nrequest\ndeadline\n")
     ≡ text_from 0 (Call.Ok ∷ goes_on)
 unfolding overnight calls timeout open_of is_open opening_of limits_of timers_of lines_in bytes
-no_limit = opened_card _ (bytes "open,0,7,2,4,B,8,B,8,0,never,10,5") (timed MaybeDuration.None) 0 overnight goes_on refl refl refl (opens MaybeDuration.None 0) overnight_answers
+no_limit = opened_card _ (bytes "open,0,7,2,4,B,8,B,8,0,never,10,5") (timed None) 0 overnight goes_on refl refl refl (opens None 0) overnight_answers
 
 -- ---- opened at the last instant from which the hour ends, and one later
 
@@ -215,10 +213,10 @@ unfolding bytes
 latest = bytes "launched,0,-,-" ∷ bytes "deadline" ∷ bytes "tick,18446744073709551615" ∷ bytes "request" ∷ []
 
 abbrev just_ends : List Answer
-just_ends = Call.Ok ∷ Call.Time (At 18446744073709551615) ∷ Call.Ok ∷ Call.Asks (Call.Terminate Cause.TimedOut) ∷ []
+just_ends = Call.Ok ∷ Call.Time (Some 18446744073709551615) ∷ Call.Ok ∷ Call.Asks (Call.Terminate Cause.TimedOut) ∷ []
 
 abbrev never_ends : List Answer
-never_ends = Call.Ok ∷ Call.Time Never ∷ Call.Ok ∷ Call.Nothing ∷ []
+never_ends = Call.Ok ∷ Call.Time None ∷ Call.Ok ∷ Call.Nothing ∷ []
 
 latest_answers : (bs lengths : List ℕ)
     → (answers_from (Running (begun (timed hour) 18446740473709551615 bs lengths)) latest ≡ just_ends)

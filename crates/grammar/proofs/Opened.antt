@@ -1,11 +1,11 @@
 -- A first line that is answered ok leaves the runner that open gives.
+use Rattle.std.specs.Prelude.{Option, Result, Some, None, Ok, Err}
+use Rattle.exec.specs.declared.Refusal.{Refusal}
 use mathlib.Core.Bool.{Bool, true, false, cond, true≢false}
 use mathlib.Core.Path.{◌≡◌, refl, ap}
 use mathlib.Core.List.{List}
 use mathlib.Core.Logic.{◌⊎◌, inl, inr}
-use mathlib.Core.Option.{Option, none, some}
 use Prim.Native.Nat.{ℕ}
-use Rattle.exec.specs.declared.Reply.{Reply}
 use Rattle.exec.specs.Refusal.{number}
 use Rattle.calls.specs.Call as Call
 use Rattle.calls.specs.Call.{Conf, Answer, is_refused}
@@ -20,41 +20,41 @@ use Rattle.grammar.specs.Feed.{First, Running, Answered, is_short, answer_of, an
 pub record Opened (line : List ℕ) : Type 0 where
   pub given : Opening
   pub short : is_short line ≡ true
-  pub reads : line_open line ≡ some given
+  pub reads : line_open line ≡ Some given
   pub opens : Opens given.conf given.now (zeros 65536) (zeros 1024)
 
 not_refused : (n : ℕ) → Call.Refused n ≡ Call.Ok → ⊥
 not_refused n e = true≢false (ap is_refused e)
 
-accepted : (r : Reply) (o : Opening) → (opened_by r o).answer ≡ Call.Ok → r ≡ Reply.Ok
-accepted Reply.Ok o e = refl
-accepted (Reply.Refused x) o e = absurd (not_refused (number x) e)
+accepted : (r : Result (Unit {0}) Refusal) (o : Opening) → (opened_by r o).answer ≡ Call.Ok → r ≡ Ok tt
+accepted (Ok tt) o e = refl
+accepted (Err x) o e = absurd (not_refused (number x) e)
 
 pub opened_so : (line : List ℕ) → (answer_of First line).answer ≡ Call.Ok → Opened line
 unfolding answer_of answered first too_long
 opened_so line = by (is_short line) refl (line_open line) refl
   where
     by : (b : Bool) → is_short line ≡ b → (x : Option Opening) → line_open line ≡ x → (cond {A = Answered} b (first x) (too_long First)).answer ≡ Call.Ok → Opened line
-    by true h none r e = absurd (not_refused 30 e)
-    by true h (some o) r e = record { given = o; short = h; reads = r; opens = accepted _ o e }
+    by true h None r e = absurd (not_refused 30 e)
+    by true h (Some o) r e = record { given = o; short = h; reads = r; opens = accepted _ o e }
     by false h x r e = absurd (not_refused 30 e)
 
 -- leaves the runner that open gives
 pub first_line : (line : List ℕ) (x : Opened line)
     → answer_of First line ≡ record { stage = Running (Step.opened x.given.conf x.given.now (zeros 65536) (zeros 1024)); answer = Call.Ok }
 unfolding answer_of answered first
-first_line line x = rw (x.short, x.reads) (ap (λ (r : Reply). opened_by r x.given) x.opens)
+first_line line x = rw (x.short, x.reads) (ap (λ (r : (Result (Unit {0}) Refusal)). opened_by r x.given) x.opens)
 
 -- and one that is not is refused
 pub first_either : (line : List ℕ) → ((answer_of First line).answer ≡ Call.Ok) ⊎ ((n : ℕ) × ((answer_of First line).answer ≡ Call.Refused n))
 unfolding answer_of answered first too_long
 first_either line = by (is_short line) (line_open line)
   where
-    met : (o : Opening) (r : Reply) → ((opened_by r o).answer ≡ Call.Ok) ⊎ ((n : ℕ) × ((opened_by r o).answer ≡ Call.Refused n))
-    met o Reply.Ok = inl refl
-    met o (Reply.Refused x) = inr (number x, refl)
+    met : (o : Opening) (r : Result (Unit {0}) Refusal) → ((opened_by r o).answer ≡ Call.Ok) ⊎ ((n : ℕ) × ((opened_by r o).answer ≡ Call.Refused n))
+    met o (Ok tt) = inl refl
+    met o (Err x) = inr (number x, refl)
 
     by : (b : Bool) (x : Option Opening) → ((cond {A = Answered} b (first x) (too_long First)).answer ≡ Call.Ok) ⊎ ((n : ℕ) × ((cond {A = Answered} b (first x) (too_long First)).answer ≡ Call.Refused n))
-    by true none = inr (30, refl)
-    by true (some o) = met o _
+    by true None = inr (30, refl)
+    by true (Some o) = met o _
     by false x = inr (30, refl)

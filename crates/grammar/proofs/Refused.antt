@@ -1,10 +1,10 @@
 -- A refused line changes nothing: the card's refusals give back the stage, and a call that is refused leaves its state.
+use Rattle.std.specs.Prelude.{Option, Result, Some, None, Ok, Err}
+use Rattle.exec.specs.declared.Refusal.{Refusal}
 use mathlib.Core.Bool.{true, ◌&&◌, false≢true}
 use mathlib.Core.Path.{◌≡◌, refl, ap, subst, subst⁻¹}
 use mathlib.Core.List.{List, [], ◌∷◌}
-use mathlib.Core.Option.{Option, none, some}
 use Prim.Native.Nat.{ℕ}
-use Rattle.exec.specs.declared.Reply.{Reply}
 use Rattle.exec.specs.Limits.{is_valid}
 use Rattle.runner.specs.Calls as Calls
 use Rattle.runner.specs.Range.{bytes_do, lengths_do}
@@ -25,8 +25,8 @@ use Rattle.grammar.proofs.Called.{Safe, own, called}
 
 later_safe : (c : Option Call) (s : State) → Safe s (later c s)
 unfolding later
-later_safe none s = own s
-later_safe (some c) s = called s c
+later_safe None s = own s
+later_safe (Some c) s = called s c
 
 line_safe : (s : State) (line : List ℕ) → Safe s (answer_of (Running s) line)
 unfolding answer_of answered too_long
@@ -59,14 +59,14 @@ Unopened x = (n : ℕ) → x.answer ≡ Call.Refused n → (x.stage ≡ Over) ×
 bad_first : Unopened (bad Over)
 bad_first n e = (refl, refused_first 30 refl n e)
 
-opened_by_lem : (met : Reply) (o : Opening) → First (replied met) → Unopened (opened_by met o)
-opened_by_lem Reply.Ok o h n e = absurd (false≢true (ap is_refused e))
-opened_by_lem (Reply.Refused x) o h n e = (refl, h n e)
+opened_by_lem : (met : Result (Unit {0}) Refusal) (o : Opening) → First (replied met) → Unopened (opened_by met o)
+opened_by_lem (Ok tt) o h n e = absurd (false≢true (ap is_refused e))
+opened_by_lem (Err x) o h n e = (refl, h n e)
 
 first_safe : (o : Option Opening) → Unopened (first o)
 unfolding first
-first_safe none = bad_first
-first_safe (some o) =
+first_safe None = bad_first
+first_safe (Some o) =
     opened_by_lem (Calls.«open» o.conf.key o.conf.limits o.conf.timers o.now (zeros 65536) (zeros 1024)).reply o (open_first o)
 
 -- DEMAND 1, OF A CARD'S LINES

@@ -1,7 +1,6 @@
 -- A card line by line: its lines, the calls that they make of the runner, and their answers, each where the one before it left the
 -- session.
-use Rattle.std.specs.Prelude.{false, cond, ◌≡◌, List, [], ◌∷◌, ◌++◌, ℕ, ◌+◌, eqb}
-use Rattle.std.proofs.Math.Option.{Option, none, some}
+use Rattle.std.specs.Prelude.{false, cond, ◌≡◌, List, [], ◌∷◌, ◌++◌, ℕ, ◌+◌, eqb, Option, Some, None}
 use Rattle.calls.specs.Call as Call
 use Rattle.calls.specs.Call.{Call, Answer}
 use Rattle.account.specs.Step.{State, next, answer}
@@ -49,16 +48,16 @@ pub record Cut (text : List ℕ) : Type 0 where
 
 -- the call that a line says, if any
 abbrev pub call_said : (line : List ℕ) → Option Call
-call_said line = cond (is_short line) (line_call line) none
+call_said line = cond (is_short line) (line_call line) None
 
 -- what it leaves and is answered: a line that says no call is 30
 abbrev pub next_by : State → Option Call → State
-next_by s none = s
-next_by s (some c) = next s c
+next_by s None = s
+next_by s (Some c) = next s c
 
 abbrev pub answer_by : State → Option Call → Answer
-answer_by s none = Call.Refused 30
-answer_by s (some c) = answer s c
+answer_by s None = Call.Refused 30
+answer_by s (Some c) = answer s c
 
 -- ONCE A RUNNER IS OPEN A LINE MAKES THE CALL THAT IT SAYS, whatever was called before it and at whatever time
 abbrev pub LaterLine : Type 0
@@ -67,9 +66,9 @@ LaterLine = (s : State) (line : List ℕ)
 
 -- the call that it makes at a stage
 abbrev pub call_in : Stage → (line : List ℕ) → Option Call
-call_in First line = none
+call_in First line = None
 call_in (Running s) line = call_said line
-call_in Over line = none
+call_in Over line = None
 
 -- a line that was answered
 pub record Line : Type 0 where

@@ -1,7 +1,6 @@
 -- What bytes make of a runner is a list of calls, from any session: the runner and its stores after them are those after the calls, and the
 -- answers that they print are theirs, line by line, but for the lines that are refused by 30 and make no call.
-use Rattle.std.specs.Prelude.{true, cond, ◌≡◌, List, [], ◌∷◌, ◌++◌, ℕ, ◌+◌, eqb}
-use Rattle.std.proofs.Math.Option.{Option, none, some}
+use Rattle.std.specs.Prelude.{true, cond, ◌≡◌, List, [], ◌∷◌, ◌++◌, ℕ, ◌+◌, eqb, Option, Some, None}
 use Rattle.calls.specs.Call as Call
 use Rattle.calls.specs.Call.{Call, Answer, Done}
 use Rattle.account.specs.Step.{State, run}
@@ -14,8 +13,8 @@ use Rattle.grammar.specs.Feed.{Stage, First, Running, Over, Session, is_short, a
 
 -- of what a line says, if that is a call
 abbrev pub made_of : Option Call → List Call
-made_of none = []
-made_of (some c) = c ∷ []
+made_of None = []
+made_of (Some c) = c ∷ []
 
 -- of a line, once a runner is open
 abbrev pub line_calls : Stage → (line : List ℕ) → List Call

@@ -1,8 +1,7 @@
 -- A session that is fed bytes: each line is answered where it ends. The program lends 65,536 bytes and 1,024 lengths.
-use Rattle.std.specs.Prelude.{Bool, cond, ◌≡◌, refl, List, [], ◌∷◌, ◌++◌, ℕ, ◌+◌, eqb, ltb, leb, length}
+use Rattle.std.specs.Prelude.{Bool, cond, ◌≡◌, refl, List, [], ◌∷◌, ◌++◌, ℕ, ◌+◌, eqb, ltb, leb, length, Option, Result, Some, None, Ok, Err}
 use Rattle.std.proofs.Common.{sym, ap, ◌∙◌, append_assoc}
-use Rattle.std.proofs.Math.Option.{Option, none, some}
-use Rattle.exec.specs.declared.Reply.{Reply}
+use Rattle.exec.specs.declared.Refusal.{Refusal}
 use Rattle.runner.specs.Calls as Calls
 use Rattle.calls.specs.Call as Call
 use Rattle.calls.specs.Call.{Call, Answer}
@@ -41,20 +40,20 @@ abbrev pub bad : Stage → Answered
 bad x = record { stage = x; answer = Call.Refused 30 }
 
 -- open is first and only first; where line 1 opened no runner, every later line is 30
-abbrev pub opened_by : Reply → Opening → Answered
-opened_by Reply.Ok o =
+abbrev pub opened_by : Result (Unit {0}) Refusal → Opening → Answered
+opened_by (Ok tt) o =
     record { stage = Running (opened o.conf o.now (zeros 65536) (zeros 1024)); answer = Call.Ok }
-opened_by (Reply.Refused x) o = record { stage = Over; answer = replied (Reply.Refused x) }
+opened_by (Err x) o = record { stage = Over; answer = replied (Err x) }
 
 unfoldable pub first : Option Opening → Answered
-first none = bad Over
-first (some o) =
+first None = bad Over
+first (Some o) =
     opened_by (Calls.«open» o.conf.key o.conf.limits o.conf.timers o.now (zeros 65536) (zeros 1024)).reply o
 
 -- 30 before the runner's own; a call's time may be any
 unfoldable pub later : Option Call → State → Answered
-later none s = bad (Running s)
-later (some c) s = record { stage = Running (next s c); answer = answer s c }
+later None s = bad (Running s)
+later (Some c) s = record { stage = Running (next s c); answer = answer s c }
 
 unfoldable pub answered : Stage → (line : List ℕ) → Answered
 answered First line = first (line_open line)

@@ -1,22 +1,21 @@
 -- Small examples, computed from the definitions: what stands for bytes, and what does just not.
-use Rattle.std.specs.Prelude.{◌≡◌, refl, [], ◌∷◌, get_or}
-use Rattle.std.proofs.Math.Option.{none, some}
+use Rattle.std.specs.Prelude.{◌≡◌, refl, [], ◌∷◌, get_or, Some, None}
 use Rattle.hexadecimal.specs.Hexadecimal.{hex_digit, hex_of, are_hex, are_pairs, hex_value, digits, pairs, unhex}
 
 -- ---- bytes: none, `0a`, an uppercase digit, an odd count
-nothing : unhex [] ≡ some []
+nothing : unhex [] ≡ Some []
 unfolding unhex are_pairs are_hex pairs
 nothing = refl
 
-byte : unhex (48 ∷ 97 ∷ []) ≡ some (10 ∷ [])
+byte : unhex (48 ∷ 97 ∷ []) ≡ Some (10 ∷ [])
 unfolding unhex are_pairs are_hex pairs hex_value
 byte = refl
 
-uppercase : unhex (48 ∷ 65 ∷ []) ≡ none
+uppercase : unhex (48 ∷ 65 ∷ []) ≡ None
 unfolding unhex are_pairs are_hex
 uppercase = refl
 
-odd : unhex (48 ∷ 48 ∷ 48 ∷ []) ≡ none
+odd : unhex (48 ∷ 48 ∷ 48 ∷ []) ≡ None
 unfolding unhex are_pairs
 odd = refl
 
@@ -39,6 +38,6 @@ neither = (refl, refl)
 
 -- ---- all sixteen digits
 every_digit : unhex (48 ∷ 49 ∷ 50 ∷ 51 ∷ 52 ∷ 53 ∷ 54 ∷ 55 ∷ 56 ∷ 57 ∷ 97 ∷ 98 ∷ 99 ∷ 100 ∷ 101 ∷ 102 ∷ [])
-    ≡ some (1 ∷ 35 ∷ 69 ∷ 103 ∷ 137 ∷ 171 ∷ 205 ∷ 239 ∷ [])
+    ≡ Some (1 ∷ 35 ∷ 69 ∷ 103 ∷ 137 ∷ 171 ∷ 205 ∷ 239 ∷ [])
 unfolding unhex are_pairs are_hex pairs hex_value
 every_digit = refl

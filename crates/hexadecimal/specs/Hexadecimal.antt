@@ -1,6 +1,5 @@
 -- Bytes in hexadecimal, two digits a byte, the higher first. A digit is a byte from `0` (48) to `9` (57) or from `a` (97) to `f` (102).
-use Rattle.std.specs.Prelude.{Bool, true, cond, ◌&&◌, ◌||◌, List, [], ◌∷◌, ℕ, ◌+◌, ◌-◌, ◌*◌, ◌/◌, ◌%◌, ltb, leb, eqb, length}
-use Rattle.std.proofs.Math.Option.{Option, none, some}
+use Rattle.std.specs.Prelude.{Bool, true, cond, ◌&&◌, ◌||◌, List, [], ◌∷◌, ℕ, ◌+◌, ◌-◌, ◌*◌, ◌/◌, ◌%◌, ltb, leb, eqb, length, Option, Some, None}
 
 -- ---- written
 
@@ -59,4 +58,4 @@ pairs (c ∷ d ∷ s) = (hex_value c * 16 + hex_value d) ∷ pairs s
 
 -- the bytes that a text stands for, if it stands for any
 unfoldable pub unhex : List ℕ → Option (List ℕ)
-unhex s = cond (are_pairs s) (some (pairs s)) none
+unhex s = cond (are_pairs s) (Some (pairs s)) None

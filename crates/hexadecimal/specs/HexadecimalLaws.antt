@@ -1,7 +1,8 @@
 -- Laws of hexadecimal: a digit and its value, a list by index, and what a loop over it leaves.
-use Rattle.std.specs.Prelude.{◌≡◌, refl, Bool, true, false, ◌&&◌, List, [], ◌∷◌, ◌++◌, ℕ, zero, suc, ◌+◌, ◌-◌, ◌*◌, ◌/◌, ◌%◌, ◌≤◌, ◌<◌, ltb, leb, eqb, length, drop, get_or, set}
+use Rattle.std.specs.Prelude.{◌≡◌, refl, Bool, true, false, ◌&&◌, List, [], ◌∷◌, ◌++◌, ℕ, zero, suc, ◌+◌, ◌-◌, ◌*◌, ◌/◌, ◌%◌, ◌≤◌, ◌<◌, ltb, leb, eqb, length, drop, get_or, set, Some, None}
+use Rattle.std.specs.List.{fold}
+use Rattle.std.specs.Simd.{first_chunks}
 use Rattle.std.proofs.Common.{sym, ap, ◌∙◌, true≢false, arith, zero-add, add-one, lt-ltb, le-ltb, le-leb, eqb-true, drop-cons}
-use Rattle.std.proofs.Math.Option.{none, some}
 use Rattle.std.proofs.Math.Decide.{dec_lt}
 use Rattle.std.proofs.lemmas.Bool.{lt-leb}
 use Rattle.std.proofs.Math.Seq.{drop-length}
@@ -83,6 +84,17 @@ value_digit c h =
 
 -- ---- the test
 
+fold_from : (good : Bool) (s : List ℕ) → good && are_hex s ≡ fold (λ (g : Bool) (c : ℕ). g && is_hex c) good s
+unfolding are_hex
+fold_from false [] = refl
+fold_from true [] = refl
+fold_from false (c ∷ s) = fold_from false s
+fold_from true (c ∷ s) = fold_from (is_hex c) s
+
+-- as a fold over the bytes
+pub hex_fold : (s : List ℕ) → are_hex s ≡ fold (λ (g : Bool) (c : ℕ). g && is_hex c) true s
+hex_fold s = fold_from true s
+
 -- so far good, and what is to come
 pub hex_turn : (good : Bool) (s : List ℕ) (i : ℕ) → i < length s
     → (good && is_hex (get_or s i 0)) && are_hex (drop (i + 1) s) ≡ good && are_hex (drop i s)
@@ -111,11 +123,11 @@ pub pairs_hex : (s : List ℕ) → are_pairs s ≡ true → are_hex s ≡ true
 unfolding are_pairs
 pairs_hex s h = and_r (eqb (length s % 2) 0) (are_hex s) h
 
-pub unhex_some : (s : List ℕ) → are_pairs s ≡ true → unhex s ≡ some (pairs s)
+pub unhex_some : (s : List ℕ) → are_pairs s ≡ true → unhex s ≡ Some (pairs s)
 unfolding unhex
 unhex_some s h = rw h refl
 
-pub unhex_none : (s : List ℕ) → are_pairs s ≡ false → unhex s ≡ none
+pub unhex_none : (s : List ℕ) → are_pairs s ≡ false → unhex s ≡ None
 unfolding unhex
 unhex_none s h = rw h refl
 
@@ -157,6 +169,19 @@ hex_last (x ∷ b) zero h = refl
 hex_last (x ∷ b) (suc j) h =
     let e : 2 * suc j + 1 ≡ suc (suc (2 * j + 1)) = omega arith in
     rw e (hex_last b j (omega arith))
+
+-- a text taken by two
+pub chunk_at : (k : ℕ) (s : List ℕ) (j : ℕ) → j < k → 2 * k ≤ length s
+    → (get_or (get_or (first_chunks 2 k s) j []) 0 0 ≡ get_or s (2 * j) 0) × (get_or (get_or (first_chunks 2 k s) j []) 1 0 ≡ get_or s (2 * j + 1) 0)
+chunk_at zero s j h l = absurd (omega arith)
+chunk_at (suc k) [] j h l = absurd (omega arith)
+chunk_at (suc k) (c ∷ []) j h l = absurd (omega arith)
+chunk_at (suc k) (c ∷ d ∷ s) zero h l = (refl, refl)
+chunk_at (suc k) (c ∷ d ∷ s) (suc j) h l =
+    let e : 2 * suc j ≡ suc (suc (2 * j)) = omega arith in
+    let f : 2 * suc j + 1 ≡ suc (suc (2 * j + 1)) = omega arith in
+    let both = chunk_at k s j (omega arith) (omega arith) in
+    (rw e both.0, rw f both.1)
 
 -- ---- loops that write
 

@@ -1,8 +1,8 @@
 -- Each side undoes the other: what is written is read back.
-use Rattle.std.specs.Prelude.{◌≡◌, refl, Bool, true, false, cond, ◌&&◌, List, [], ◌∷◌, ℕ, zero, suc, ◌+◌, ◌*◌, ◌/◌, ◌%◌, ◌<◌, length, get_or}
+use Rattle.std.specs.Prelude.{◌≡◌, refl, Bool, true, false, cond, ◌&&◌, List, [], ◌∷◌, ℕ, zero, suc, ◌+◌, ◌*◌, ◌/◌, ◌%◌, ◌<◌, length, get_or, Some, None}
 use Rattle.std.proofs.Common.{sym, ap, ap₂, subst, ◌∙◌, arith, lt-ltb, le-ltb, le-leb, eq-eqb}
-use Rattle.std.proofs.Math.Option.{none, some, none-ne-some, some-injective}
 use Rattle.std.proofs.Math.Decide.{dec_lt}
+use Rattle.std.proofs.lemmas.Option.{none-some, same_Some}
 use Rattle.ring.specs.Flags.{and_l, and_r}
 use Rattle.hexadecimal.specs.Hexadecimal.{hex_digit, hex_of, is_hex, are_hex, are_pairs, hex_value, pairs, unhex}
 use Rattle.hexadecimal.specs.HexadecimalLaws.{pairs_even, pairs_hex, value_decimal, value_letter, value_below, digit_decimal, digit_letter, value_digit, hex_length}
@@ -46,7 +46,7 @@ of_pairs (x ∷ b) h =
     ap₂ ◌∷◌ v (of_pairs b (λ i. h (suc i)))
 
 -- WRITTEN, THEN READ
-pub unhex_back : (b : List ℕ) → Bytes b → unhex (hex_of b) ≡ some b
+pub unhex_back : (b : List ℕ) → Bytes b → unhex (hex_of b) ≡ Some b
 unfolding unhex are_pairs
 unhex_back b h =
     let even : length (hex_of b) % 2 ≡ 0 = omega (arith, hex_length b) in
@@ -69,9 +69,9 @@ again (c ∷ d ∷ s) h e =
     let y : hex_digit ((v * 16 + w) % 16) ≡ d = rw low (value_digit d second) in
     rw (x, y) (ap (λ (t : List ℕ). c ∷ d ∷ t) (again s (and_r (is_hex d) (are_hex s) rest) (omega arith)))
 
-read_is : (t : Bool) (p b : List ℕ) → cond t (some p) none ≡ some b → (t ≡ true) × (p ≡ b)
-read_is true p b h = (refl, some-injective p b h)
-read_is false p b h = absurd (none-ne-some b h)
+read_is : (t : Bool) (p b : List ℕ) → cond t (Some p) None ≡ Some b → (t ≡ true) × (p ≡ b)
+read_is true p b h = (refl, same_Some p b h)
+read_is false p b h = absurd (none-some b h)
 
 below : (s : List ℕ) → are_hex s ≡ true → Bytes (pairs s)
 unfolding are_hex pairs
@@ -85,7 +85,7 @@ below (c ∷ d ∷ s) h zero =
 below (c ∷ d ∷ s) h (suc i) = below s (and_r (is_hex d) (are_hex s) (and_r (is_hex c) (is_hex d && are_hex s) h)) i
 
 -- READ, THEN WRITTEN; and what was read meets what `unhex_back` asks
-module _ (s b : List ℕ) (accepted : unhex s ≡ some b) where
+module _ (s b : List ℕ) (accepted : unhex s ≡ Some b) where
   is : (are_pairs s ≡ true) × (pairs s ≡ b)
   unfolding unhex
   is = read_is (are_pairs s) (pairs s) b accepted

@@ -6,12 +6,6 @@ ghost use Rattle.ring.specs.Runs.{copied};
 ghost use Rattle.hexadecimal.specs.Hexadecimal.{is_hex, are_hex, are_pairs, digit_of, hex_digit, hex_of, pairs, unhex};
 ghost use Rattle.hexadecimal.specs.Answers.{maybe_length, unhex_into};
 
-#[derive(Clone, Copy)]
-pub enum MaybeLength {
-    None,
-    Some(usize),
-}
-
 // ---- reading
 
 fn is_hex(c: u8) -> bool
@@ -21,17 +15,11 @@ fn is_hex(c: u8) -> bool
 }
 
 // (No way out at the first byte that is none: so many bytes are looked at in one step of the machine.)
+#[tactic(auto, using(crate::specs::HexadecimalLaws::hex_fold))]
 fn are_hex(text: &[u8]) -> bool
     ensures { result ≡ are_hex text.now }
 {
-    let n = text.len();
-    let mut good = true;
-    let mut i: usize = 0;
-    while i < n {
-        good = good & is_hex(text[i]);
-        i += 1;
-    }
-    good
+    text.iter().copied().fold(true, |good, c| good & is_hex(c))
 }
 
 #[tactic(auto, unfolding(crate::specs::Hexadecimal::are_pairs))]
@@ -69,32 +57,31 @@ fn value(c: u8) -> u8
     DIGITS[c as usize]
 }
 
-// Writes the bytes that n pairs of digits stand for at the start of out.
+// Writes the bytes that the pairs of digits stand for at the start of out.
 // (Never inlined: so its loop has the registers for itself, which was measured a little faster.)
 #[inline(never)]
-fn put_pairs(text: &[u8], out: &mut [u8], n: usize)
-    requires { (are_hex text.now ≡ true) × (2 * n ≡ length text.now) × (n ≤ length out.old) }
-    ensures { out.new ≡ pairs text.now ++ drop n out.old }
+#[tactic(auto, using(ring::specs::Runs::copied_zero, crate::specs::Digits::pair_high, crate::specs::Digits::pair_low, crate::specs::HexadecimalLaws::unhex_turn, crate::specs::HexadecimalLaws::unhex_end))]
+fn put_pairs(text: &[u8], out: &mut [u8])
+    requires { (are_hex text.now ≡ true) × (2 * (length text.now / 2) ≡ length text.now) × (length text.now / 2 ≤ length out.old) }
+    ensures { out.new ≡ pairs text.now ++ drop (length text.now / 2) out.old }
 {
-    let mut j: usize = 0;
-    while j < n {
-        out[j] = value(text[2 * j]) * 16 + value(text[2 * j + 1]);
-        j += 1;
+    let (pairs, _) = text.as_chunks::<2>();
+    for (j, pair) in pairs.iter().enumerate() {
+        out[j] = value(pair[0]) * 16 + value(pair[1]);
     }
 }
 
 // Writes the bytes that all of text stands for at the start of out, and says how many; where text is refused, nothing is written.
-pub fn read(text: &[u8], out: &mut [u8]) -> MaybeLength
+pub fn read(text: &[u8], out: &mut [u8]) -> Option<usize>
     requires { length text.now / 2 ≤ length out.old }
     ensures value { result ≡ maybe_length (unhex text.now) }
     ensures out_after { out.new ≡ unhex_into (unhex text.now) out.old }
 {
     if are_pairs(text) {
-        let n = text.len() / 2;
-        put_pairs(text, out, n);
-        MaybeLength::Some(n)
+        put_pairs(text, out);
+        Some(text.len() / 2)
     } else {
-        MaybeLength::None
+        None
     }
 }
 
@@ -109,18 +96,15 @@ fn digit(d: u8) -> u8
 }
 
 // Writes the digits of bytes from index at on, and returns the index behind them.
+#[tactic(auto, using(ring::specs::Runs::copied_zero, crate::specs::HexadecimalLaws::hex_write, crate::specs::HexadecimalLaws::hex_length))]
 pub fn write(bytes: &[u8], out: &mut [u8], at: usize) -> usize
     requires { at + 2 * length bytes.now ≤ length out.old }
     ensures out_after { out.new ≡ copied out.old at (hex_of bytes.now) 0 (length (hex_of bytes.now)) }
     ensures value { result ≡ at + length (hex_of bytes.now) }
 {
-    let n = bytes.len();
-    let mut j: usize = 0;
-    while j < n {
-        let b = bytes[j];
+    for (j, &b) in bytes.iter().enumerate() {
         out[at + 2 * j] = digit(b / 16);
         out[at + 2 * j + 1] = digit(b % 16);
-        j += 1;
     }
-    at + 2 * n
+    at + 2 * bytes.len()
 }

@@ -1,5 +1,11 @@
 -- The timeout ends a program that hangs: up to its tick it waits, or a termination has begun, whose give-up is not later than the timeout's;
 -- the rest is demand 3's.
+use Rattle.std.specs.Prelude.{Option, Result, Some, None, Ok, Err}
+use Rattle.exec.specs.declared.Admission.TheVariants.{Own, Stale}
+use Rattle.exec.specs.declared.Admission.{Admission}
+use Rattle.runner.specs.declared.answer.Request.{Request}
+use Rattle.exec.specs.declared.LaunchFailure.{LaunchFailure}
+use Rattle.exec.specs.declared.Refusal.{Refusal}
 use mathlib.Core.Bool.{Bool, true, false, or-true}
 use mathlib.Core.Path.{◌≡◌, refl, ap, ◌∙◌, subst⁻¹}
 use mathlib.Core.List.{List, [], ◌∷◌, ◌++◌}
@@ -8,18 +14,12 @@ use native.Mathlib.Omega.{arith}
 use native.Mathlib.Nat.{le_refl}
 use lib.ListN.{length}
 use borrow.Author.Tests.{le-leb}
-use Rattle.exec.specs.declared.Admission.{Admission}
 use Rattle.exec.specs.declared.Cause.{Cause}
-use Rattle.exec.specs.declared.Deadline.{Deadline}
-use Rattle.exec.specs.declared.Deadline.TheVariants.{Never, At}
-use Rattle.exec.specs.declared.LaunchResult.{LaunchResult}
 use Rattle.exec.specs.Key.{admits}
 use Rattle.exec.specs.Time.{due, timeout_at}
 use Rattle.lifecycle.specs.Life.{is_fenced}
 use Rattle.lifecycle.specs.Setters.{set_timeout_at}
 use Rattle.choice.specs.declared.Choice.{Choice}
-use Rattle.runner.specs.declared.answer.Request.TheVariants as Request
-use Rattle.runner.specs.declared.message.Wish.{Wish}
 use Rattle.runner.specs.declared.runner.Runner.{Runner}
 use Rattle.runner.specs.Life as Life
 use Rattle.runner.specs.Life.{awaits_launch, is_cleaned_up, close_runner_input, end_grace, give_up, abandon_launch, abandon_open_streams, terminate, drop_launch, ticked, note_started, note_launch, launched_next, settled_next, cut_off, cut_off_once, detach_next}
@@ -47,7 +47,7 @@ use Rattle.hung.specs.HungClaim.{RunsOn, Unended, Hung}
 -- ---- the timeout waits, and no termination has begun
 
 abbrev Waits : ℕ → Runner → Type 0
-Waits d s = (s.clocks.terminated ≡ false) × (s.clocks.timeout_at ≡ At d)
+Waits d s = (s.clocks.terminated ≡ false) × (s.clocks.timeout_at ≡ Some d)
 
 module _ (d : ℕ) where
   waits_grace : (b : Bool) (s : Runner) → Waits d s → Waits d (grace_if b s)
@@ -76,19 +76,19 @@ module _ (d : ℕ) where
   waits_abandon false s h = h
   waits_abandon true s h = waits_streams (is_fenced (drop_launch s).life.settling) (drop_launch s) (waits_launch (awaits_launch s) s h)
 
-  waits_launched : (b : Bool) (x : LaunchResult) (s : Runner) → Waits d s → Waits d (launched_if b x s)
+  waits_launched : (b : Bool) (x : Result (Unit {0}) LaunchFailure) (s : Runner) → Waits d s → Waits d (launched_if b x s)
   unfolding note_launch note_started close_runner_input
   waits_launched false x s h = h
-  waits_launched true LaunchResult.Started s h = h
-  waits_launched true (LaunchResult.Failed x) s h = h
+  waits_launched true (Ok tt) s h = h
+  waits_launched true (Err x) s h = h
 
-  waits_wished : (w : Wish) (s : Runner) → Waits d s → Waits d (wish_effect w s)
+  waits_wished : (w : Option Request) (s : Runner) → Waits d s → Waits d (wish_effect w s)
   unfolding wish_effect
-  waits_wished Wish.None s h = h
-  waits_wished (Wish.Request (Request.Terminate c)) s h = h
-  waits_wished (Wish.Request (Request.Discard x)) s h = h
-  waits_wished (Wish.Request Request.CloseInput) s h = h
-  waits_wished (Wish.Request Request.Settle) s h = h
+  waits_wished None s h = h
+  waits_wished (Some (Request.Terminate c)) s h = h
+  waits_wished (Some (Request.Discard x)) s h = h
+  waits_wished (Some Request.CloseInput) s h = h
+  waits_wished (Some Request.Settle) s h = h
 
   waits_effect : (m : Choice) (s : Runner) → Waits d s → Waits d (effect m s)
   unfolding effect output_sent output_paid
@@ -136,7 +136,7 @@ module _ (conf : Conf) (d t : ℕ) (below : t + conf.timers.grace + conf.timers.
   held_terminate now c s e l (right h) = (low_terminate (Soon sum) (soon_lower sum) now c s h).hold
 
   timed_out : (now : ℕ) (s : Runner) → s.timers ≡ conf.timers → now ≤ t → Waits d s → Before sum (rest now (timeout_if true now s))
-  timed_out now s e l h = before_rest sum now (timeout_if true now s) (begins now Cause.TimedOut (with_clocks (set_timeout_at Never s.clocks) s) e l h.0)
+  timed_out now s e l h = before_rest sum now (timeout_if true now s) (begins now Cause.TimedOut (with_clocks (set_timeout_at None s.clocks) s) e l h.0)
 
   waits_tick : (f : Bool) (now : ℕ) (s : Runner) → s.timers ≡ conf.timers → now ≤ t → Waits d s → Held (tick_if f now s)
   waits_tick true now s e l h = left h
@@ -157,12 +157,12 @@ module _ (conf : Conf) (d t : ℕ) (below : t + conf.timers.grace + conf.timers.
   held_cancel_if true now c s e l h = h
   held_cancel_if false now c s e l h = right (held_terminate now c s e l h)
 
-  held_cancel : (k : Admission) (now : ℕ) (c : Cause) (s : Runner) → s.timers ≡ conf.timers → now ≤ t → Held s → Held (cancel_next k now c s)
+  held_cancel : (k : Result Admission Refusal) (now : ℕ) (c : Cause) (s : Runner) → s.timers ≡ conf.timers → now ≤ t → Held s → Held (cancel_next k now c s)
   unfolding Life.cancel_next
-  held_cancel Admission.Own now c s e l h =
+  held_cancel (Ok Own) now c s e l h =
       let u : Runner = ticked s now in held_cancel_if (late u) now c u (ticked_timers now s e) l (held_ticked now s e l h)
-  held_cancel Admission.Stale now c s e l h = h
-  held_cancel (Admission.Refused x) now c s e l h = h
+  held_cancel (Ok Stale) now c s e l h = h
+  held_cancel (Err x) now c s e l h = h
 
   held_detach_if : (f b : Bool) (now : ℕ) (c : Cause) (s : Runner) → s.timers ≡ conf.timers → now ≤ t → Held s → Held (detach_if f b now c s)
   held_detach_if true b now c s e l h = h
@@ -221,7 +221,7 @@ module _ (conf : Conf) (d t : ℕ) (below : t + conf.timers.grace + conf.timers.
   -- the tick at t finds the timeout due
   due_ticked : (s : Runner) → s.flags.finished ≡ false → s.timers ≡ conf.timers → d ≤ t → Held s → Before sum (ticked s t)
   due_ticked s f e l (left h) =
-      let is_due : due s.clocks.timeout_at t ≡ true = ap (λ (x : Deadline). due x t) h.1 ∙ le-leb d t l in
+      let is_due : due s.clocks.timeout_at t ≡ true = ap (λ (x : (Option ℕ)). due x t) h.1 ∙ le-leb d t l in
       subst⁻¹ (Before sum) (tick_is s t)
       (subst⁻¹ (λ (b : Bool). Before sum (tick_if b t s)) f (subst⁻¹ (λ (b : Bool). Before sum (rest t (timeout_if b t s))) is_due (timed_out t s e (le_refl t) h)))
   due_ticked s f e l (right h) = (low_ticked (Soon sum) (soon_lower sum) t s h).hold
@@ -238,7 +238,7 @@ module _ (conf : Conf) (d t : ℕ) (below : t + conf.timers.grace + conf.timers.
 
 -- ---- the whole list
 
-waits_open : (conf : Conf) (now d : ℕ) (bytes lengths : List ℕ) → timeout_at conf.timers.timeout now ≡ At d → Waits d (begun conf now bytes lengths).runner
+waits_open : (conf : Conf) (now d : ℕ) (bytes lengths : List ℕ) → timeout_at conf.timers.timeout now ≡ Some d → Waits d (begun conf now bytes lengths).runner
 unfolding fresh
 waits_open conf now d bytes lengths e = (refl, e)
 
@@ -246,7 +246,7 @@ live_open : (conf : Conf) (now : ℕ) (bytes lengths : List ℕ) → (begun conf
 unfolding fresh
 live_open conf now bytes lengths = refl
 
-plain : (conf : Conf) (now : ℕ) (bytes lengths : List ℕ) (cs ds es : List Call) (d t n : ℕ) → timeout_at conf.timers.timeout now ≡ At d → d ≤ t → Unended t cs
+plain : (conf : Conf) (now : ℕ) (bytes lengths : List ℕ) (cs ds es : List Call) (d t n : ℕ) → timeout_at conf.timers.timeout now ≡ Some d → d ≤ t → Unended t cs
     → t + conf.timers.grace + conf.timers.settlement < 2 ^ 64 → t + conf.timers.grace + conf.timers.settlement ≤ n → 5 ≤ messages es
     → any_terminal (run (begun conf now bytes lengths) (cs ++ (Call.tick t ∷ (ds ++ (Call.tick n ∷ es))))) ≡ true
 plain conf now bytes lengths cs ds es d t n e l u below m v =

@@ -1,18 +1,13 @@
 -- A program that hangs, computed from the definitions: so the claim is not of lists that cannot be; and a list for each of its conditions, but that there
 -- is a timeout and that open is answered ok, on which Terminal does not come without it.
+use Rattle.std.specs.Prelude.{Some, None, Ok}
+use Rattle.std.proofs.lemmas.Option.{none-some, same_Some}
+use Rattle.exec.specs.declared.Cause.{Cause}
 use mathlib.Core.Bool.{true, false, true≢false}
 use mathlib.Core.Path.{◌≡◌, refl, subst}
 use mathlib.Core.List.{List, [], ◌∷◌, ◌++◌, map}
-use mathlib.Core.Option.{none, some, some-injective, none-ne-some}
 use Prim.Native.Nat.{ℕ, ◌≤◌}
 use native.Mathlib.Omega.{arith}
-use Rattle.exec.specs.declared.Cause.TheVariants as Cause
-use Rattle.exec.specs.declared.Deadline.TheVariants.{At}
-use Rattle.exec.specs.declared.LaunchResult.TheVariants as LaunchResult
-use Rattle.exec.specs.declared.MaybeCause.TheVariants as MaybeCause
-use Rattle.exec.specs.declared.MaybeDuration.TheVariants as MaybeDuration
-use Rattle.exec.specs.declared.MaybeLaunchFailure.TheVariants as MaybeLaunchFailure
-use Rattle.exec.specs.declared.MaybeStatus.TheVariants as MaybeStatus
 use Rattle.exec.specs.declared.Outcome.{Outcome}
 use Rattle.exec.specs.declared.Stream.TheVariants.{Stdout, Stderr}
 use Rattle.exec.specs.Limits.{bytes_with, bytes_window, limits_for}
@@ -36,7 +31,7 @@ abbrev with_grace : ℕ → Conf
 with_grace grace = record {
   key = record { id = 7; generation = 2 };
   limits = limits_for 1 (bytes_window 1) (bytes_window 1) false;
-  timers = record { timeout = MaybeDuration.Some 10; grace = grace; settlement = 3 };
+  timers = record { timeout = Some 10; grace = grace; settlement = 3 };
 }
 
 -- grace ends at 15, and give-up comes at 18
@@ -52,7 +47,7 @@ answers_of ds = map (λ (d : EntryDone). d.answer) ds
 
 -- launched, and just before its timeout nothing is asked for
 abbrev running : List Entry
-running = call (Call.launched LaunchResult.Started) ∷ call (Call.tick 9) ∷ call Call.next_request ∷ call Call.deadline ∷ []
+running = call (Call.launched (Ok tt)) ∷ call (Call.tick 9) ∷ call Call.next_request ∷ call Call.deadline ∷ []
 
 -- what the host is asked when its timeout has come; it does nothing
 abbrev asked : List Entry
@@ -71,9 +66,9 @@ list_of before t n messages = before ++ (call (Call.tick t) ∷ (asked ++ (call 
 -- both streams truncated, and nothing to be used again
 abbrev timed_out : Outcome
 timed_out = record {
-  status = MaybeStatus.None;
-  cause = MaybeCause.Some Cause.TimedOut;
-  launch_failure = MaybeLaunchFailure.None;
+  status = None;
+  cause = Some Cause.TimedOut;
+  launch_failure = None;
   stdout_truncated = true;
   stderr_truncated = true;
   reusable = false;
@@ -82,7 +77,7 @@ timed_out = record {
 pub record Computed : Type 0 where
   -- no request before 10 and the termination at it; after the tick at 18 the fifth message is Terminal
   pub answers : answers_of (run_entries (begins conf) (list_of running 10 18 five))
-      ≡ Call.Ok ∷ Call.Ok ∷ Call.Nothing ∷ Call.Time (At 10)
+      ≡ Call.Ok ∷ Call.Ok ∷ Call.Nothing ∷ Call.Time (Some 10)
       ∷ Call.Ok ∷ Call.Asks (Call.Terminate Cause.TimedOut)
       ∷ Call.Ok ∷ Call.Says Call.Started ∷ Call.Says Call.InputClosed ∷ Call.Says (Call.End Stdout) ∷ Call.Says (Call.End Stderr) ∷ Call.Says (Call.Terminal timed_out) ∷ []
   -- four messages do not do, nor does a last tick before 18, nor a first one before 10
@@ -90,7 +85,7 @@ pub record Computed : Type 0 where
   pub not_earlier : any_terminal_in (run_entries (begins conf) (list_of running 10 17 five)) ≡ false
   pub not_before : any_terminal_in (run_entries (begins conf) (list_of running 9 17 five)) ≡ false
   -- nor where an exit was reported: it clears the timeout, and a stream that hung up is waited for
-  pub not_exited : any_terminal_in (run_entries (begins conf) (list_of (call (Call.output_hung_up Stdout) ∷ call (Call.exited 0 MaybeStatus.None) ∷ running) 10 18 five)) ≡ false
+  pub not_exited : any_terminal_in (run_entries (begins conf) (list_of (call (Call.output_hung_up Stdout) ∷ call (Call.exited 0 None) ∷ running) 10 18 five)) ≡ false
   -- nor where a time was above that of the tick: the timeout's termination was at 12
   pub not_above : any_terminal_in (run_entries (begins conf) (list_of (call (Call.tick 12) ∷ running) 10 18 five)) ≡ false
   -- nor where the sum is past the last instant: no end of grace is set
@@ -110,14 +105,14 @@ computed = record {
 
 -- ---- the first of these lists meets every condition
 
-untimed : (now : ℕ) → none ≡ some now → now ≤ 10
-untimed now e = absurd (none-ne-some now e)
+untimed : (now : ℕ) → None ≡ Some now → now ≤ 10
+untimed now e = absurd (none-some now e)
 
-launched : RunsOn 10 (Call.launched LaunchResult.Started)
+launched : RunsOn 10 (Call.launched (Ok tt))
 launched = (λ now x e. (let z : true ≡ false = cc in true≢false z), untimed)
 
 ticked : RunsOn 10 (Call.tick 9)
-ticked = (λ now x e. (let z : true ≡ false = cc in true≢false z), λ now e. subst (λ (m : ℕ). m ≤ 10) (some-injective 9 now e) (omega arith))
+ticked = (λ now x e. (let z : true ≡ false = cc in true≢false z), λ now e. subst (λ (m : ℕ). m ≤ 10) (same_Some 9 now e) (omega arith))
 
 requested : RunsOn 10 Call.next_request
 requested = (λ now x e. (let z : true ≡ false = cc in true≢false z), untimed)

@@ -1,10 +1,8 @@
 -- A program that hangs: its timeout passes. Where up to a tick at t, at or past the timeout's instant, no exit was reported of it and no call had a time
 -- above t, Terminal has come by the fifth message asked for after a tick at or past t + grace + settlement, whatever else was called before, and
 -- whatever between the two ticks and after them.
-use Rattle.std.specs.Prelude.{true, ◌≡◌, List, [], ◌∷◌, ◌++◌, ℕ, ◌+◌, ◌^◌, ◌≤◌, ◌<◌}
-use Rattle.std.proofs.Math.Option.{some}
-use Rattle.exec.specs.declared.Deadline.TheVariants.{At}
-use Rattle.exec.specs.declared.MaybeStatus.{MaybeStatus}
+use Rattle.std.specs.Prelude.{true, ◌≡◌, List, [], ◌∷◌, ◌++◌, ℕ, ◌+◌, ◌^◌, ◌≤◌, ◌<◌, Option, Some}
+use Rattle.exec.specs.declared.Status.{Status}
 use Rattle.exec.specs.Time.{timeout_at}
 use Rattle.calls.specs.Call.{Conf, Call, exited, tick, time_of}
 use Rattle.account.specs.Step.{opened}
@@ -13,7 +11,7 @@ use Rattle.account.specs.Records.{Entry, call, next_entry, after_entries, run_en
 
 -- the program runs on: the call reports no exit, and its own time is not above t
 abbrev pub RunsOn : ℕ → Call → Type 0
-RunsOn t c = ((now : ℕ) (x : MaybeStatus) → c ≡ exited now x → ⊥) × ((now : ℕ) → time_of c ≡ some now → now ≤ t)
+RunsOn t c = ((now : ℕ) (x : Option Status) → c ≡ exited now x → ⊥) × ((now : ℕ) → time_of c ≡ Some now → now ≤ t)
 
 -- up to t, by each of the calls
 abbrev pub Unended : ℕ → List Call → Type 0
@@ -26,7 +24,7 @@ Hung conf now bytes lengths =
     (cs ds es : List Entry) (d t n : ℕ)
     → let ticked = next_entry (after_entries (opened conf now bytes lengths) cs) (call (tick t)) in
     let before = after_entries ticked ds in
-    timeout_at conf.timers.timeout now ≡ At d → d ≤ t
+    timeout_at conf.timers.timeout now ≡ Some d → d ≤ t
     → Unended t (calls_of conf (run_entries (opened conf now bytes lengths) cs))
     → t + conf.timers.grace + conf.timers.settlement < 2 ^ 64 → t + conf.timers.grace + conf.timers.settlement ≤ n
     → 5 ≤ messages (calls_of conf (run_entries (next_entry before (call (tick n))) es))

@@ -1,18 +1,18 @@
 -- Each call sees no more of a runner than is shown: it leaves what is alike, and answers alike.
+use Rattle.std.specs.Prelude.{Option, Result, Some, None, Ok, Err}
+use Rattle.exec.specs.declared.Admission.TheVariants.{Own, Stale}
+use Rattle.exec.specs.declared.Admission.{Admission}
+use Rattle.runner.specs.declared.answer.Request.{Request}
+use Rattle.exec.specs.declared.LaunchFailure.{LaunchFailure}
+use Rattle.exec.specs.declared.Receipt.{Receipt}
+use Rattle.exec.specs.declared.Refusal.{Refusal}
 use mathlib.Core.Bool.{Bool, true, false, cond, not, ◌&&◌, ◌||◌, true≢false}
 use mathlib.Core.Path.{◌≡◌, refl, sym, ◌∙◌, ap}
 use mathlib.Core.List.{List}
 use Prim.Native.Nat.{ℕ}
 use lib.Dec.{ltb}
 use lib.ListN.{length}
-use Rattle.exec.specs.declared.Admission.{Admission}
 use Rattle.exec.specs.declared.Cause.TheVariants.{Dropped, Reset, Disconnected}
-use Rattle.exec.specs.declared.Deadline.{Deadline}
-use Rattle.exec.specs.declared.Deadline.TheVariants.{Never}
-use Rattle.exec.specs.declared.LaunchResult.{LaunchResult}
-use Rattle.exec.specs.declared.PoolIndex.{PoolIndex}
-use Rattle.exec.specs.declared.Received.{Received}
-use Rattle.exec.specs.declared.Reply.{Reply}
 use Rattle.exec.specs.declared.Settlement.{Settlement}
 use Rattle.exec.specs.declared.Stream.{Stream}
 use Rattle.exec.specs.Key.{admits}
@@ -25,11 +25,9 @@ use Rattle.choice.specs.declared.Choice.{Choice}
 use Rattle.output.specs.declared.Output.{Output}
 use Rattle.output.specs.Output.{is_held, closed_out, failed_out, hung_up, lost_out, intake, ended_out, asked_out, sent_out}
 use Rattle.output.specs.Outputs.{any_held}
-use Rattle.runner.specs.declared.answer.Request.TheVariants as Request
-use Rattle.runner.specs.declared.message.Wish.{Wish}
 use Rattle.runner.specs.declared.runner.Runner.{Runner}
 use Rattle.runner.specs.Calls as Calls
-use Rattle.runner.specs.Calls.{noting, hearing, stores_do, input_by, output_by, pending_by, written_by, request_by, message_by, when_by}
+use Rattle.runner.specs.Calls.{noting, hearing, stores_do, input_by, output_by, written_by, request_by, message_by, unless as given}
 use Rattle.runner.specs.Life.{awaits_launch, is_cleaned_up, close_runner_input, note_started, note_launch, launched_next, settled_next, deadline_of, is_ready, outcome_of, cancel_answer, cancel_next}
 use Rattle.runner.specs.Message.{MessageAfter, sendable_of, choose, output_paid, output_sent, effect, payload, buffer_after, said_for, wish, handed, wish_effect}
 use Rattle.runner.specs.Range.{in_range, stop, bytes_do, lengths_do}
@@ -43,16 +41,16 @@ use Rattle.idle.proofs.Passes.{tick_sees, cancel_sees, cancel_shows, exited_sees
 
 -- ---- launch and settlement
 
-pub launched_sees : (x : LaunchResult) → Sees (λ (z : Runner). launched_next z x)
+pub launched_sees : (x : (Result (Unit {0}) LaunchFailure)) → Sees (λ (z : Runner). launched_next z x)
 unfolding launched_next note_launch note_started close_runner_input
 launched_sees x r = by (awaits_launch r) x refl
   where
-    by : (b : Bool) (x : LaunchResult) → awaits_launch r ≡ b → calm (cond b (note_launch (calm r) x) (calm r)) ≡ calm (cond b (note_launch r x) r)
+    by : (b : Bool) (x : Result (Unit {0}) LaunchFailure) → awaits_launch r ≡ b → calm (cond b (note_launch (calm r) x) (calm r)) ≡ calm (cond b (note_launch r x) r)
     by false x e = still r
-    by true LaunchResult.Started e =
-        plain r (note_launch r LaunchResult.Started) refl refl (λ c. absurd (true≢false (sym e ∙ clean_awaits r c))) (λ m. absurd (true≢false (sym e ∙ moot_awaits r m)))
-    by true (LaunchResult.Failed f) e =
-        plain r (note_launch r (LaunchResult.Failed f)) refl refl (λ c. absurd (true≢false (sym e ∙ clean_awaits r c))) (λ m. absurd (true≢false (sym e ∙ moot_awaits r m)))
+    by true (Ok tt) e =
+        plain r (note_launch r (Ok tt)) refl refl (λ c. absurd (true≢false (sym e ∙ clean_awaits r c))) (λ m. absurd (true≢false (sym e ∙ moot_awaits r m)))
+    by true (Err f) e =
+        plain r (note_launch r (Err f)) refl refl (λ c. absurd (true≢false (sym e ∙ clean_awaits r c))) (λ m. absurd (true≢false (sym e ∙ moot_awaits r m)))
 
 settle_settled : (s : Settling) (y : Settlement) → is_settled s ≡ true → is_settled (settle_with s y) ≡ true
 settle_settled Idle y e = e
@@ -89,28 +87,28 @@ output_sees x n r =
 
 -- ---- the calls of the peer, by whether the key is the execution's own
 
-credit_shows : (a : Admission) (p : PoolIndex) (u : ℕ) (r : Runner) → credit_answer a p (calm r) u ≡ credit_answer a p r u
+credit_shows : (a : Result Admission Refusal) (p : Result ℕ Refusal) (u : ℕ) (r : Runner) → credit_answer a p (calm r) u ≡ credit_answer a p r u
 unfolding credit_answer credit_in
-credit_shows (Admission.Refused x) p u r = refl
-credit_shows Admission.Stale p u r = refl
-credit_shows Admission.Own (PoolIndex.Refused x) u r = refl
-credit_shows Admission.Own (PoolIndex.At i) u r = refl
+credit_shows (Err x) p u r = refl
+credit_shows (Ok Stale) p u r = refl
+credit_shows (Ok Own) (Err x) u r = refl
+credit_shows (Ok Own) (Ok i) u r = refl
 
-credit_sees : (a : Admission) (p : PoolIndex) (u : ℕ) → Sees (λ (x : Runner). credit_next a p x u)
+credit_sees : (a : (Result Admission Refusal)) (p : (Result ℕ Refusal)) (u : ℕ) → Sees (λ (x : Runner). credit_next a p x u)
 unfolding credit_next
 credit_sees a p u r = plain r (credit_next a p r u) refl refl (λ e. e) (λ e. e)
 
-end_shows : (a : Admission) (r : Runner) → end_answer a (calm r) ≡ end_answer a r
+end_shows : (a : Result Admission Refusal) (r : Runner) → end_answer a (calm r) ≡ end_answer a r
 unfolding end_answer
-end_shows (Admission.Refused x) r = refl
-end_shows Admission.Stale r = refl
-end_shows Admission.Own r = refl
+end_shows (Err x) r = refl
+end_shows (Ok Stale) r = refl
+end_shows (Ok Own) r = refl
 
-end_sees : (a : Admission) → Sees (end_next a)
+end_sees : (a : Result Admission Refusal) → Sees (end_next a)
 unfolding end_next
-end_sees (Admission.Refused x) r = still r
-end_sees Admission.Stale r = still r
-end_sees Admission.Own r = plain r (end_next Admission.Own r) refl refl (λ e. e) (λ e. e)
+end_sees (Err x) r = still r
+end_sees (Ok Stale) r = still r
+end_sees (Ok Own) r = plain r (end_next (Ok Own) r) refl refl (λ e. e) (λ e. e)
 
 -- ---- messages and requests
 
@@ -127,13 +125,13 @@ effect_sees (Choice.Output x n) r =
     plain r (effect (Choice.Output x n) r) refl refl (put_clean x o r (λ e. e)) (put_moot x o r (λ e. e))
 effect_sees Choice.Terminal r = plain r (effect Choice.Terminal r) refl refl (λ e. e) (λ e. e)
 
-wish_sees : (w : Wish) → Sees (wish_effect w)
+wish_sees : (w : Option Request) → Sees (wish_effect w)
 unfolding wish_effect
-wish_sees Wish.None r = still r
-wish_sees (Wish.Request (Request.Terminate c)) r = plain r (handed (Request.Terminate c) r) refl refl (λ e. e) (λ e. e)
-wish_sees (Wish.Request (Request.Discard x)) r = at_sees x asked_out r (λ e. e) (λ e. e)
-wish_sees (Wish.Request Request.CloseInput) r = plain r (handed Request.CloseInput r) refl refl (λ e. e) (λ e. e)
-wish_sees (Wish.Request Request.Settle) r = plain r (handed Request.Settle r) refl refl (λ e. e) (λ e. e)
+wish_sees None r = still r
+wish_sees (Some (Request.Terminate c)) r = plain r (handed (Request.Terminate c) r) refl refl (λ e. e) (λ e. e)
+wish_sees (Some (Request.Discard x)) r = at_sees x asked_out r (λ e. e) (λ e. e)
+wish_sees (Some Request.CloseInput) r = plain r (handed Request.CloseInput r) refl refl (λ e. e) (λ e. e)
+wish_sees (Some Request.Settle) r = plain r (handed Request.Settle r) refl refl (λ e. e) (λ e. e)
 
 -- what next_message leaves: the runner, the answer and the buffer
 pub record Messages (a b : MessageAfter) : Type 0 where
@@ -141,9 +139,9 @@ pub record Messages (a b : MessageAfter) : Type 0 where
   pub said : a.saying.said ≡ b.saying.said
   pub buffer : a.buffer ≡ b.buffer
 
-pub message_sees : (p : Reply) (r : Runner) (store buffer : List ℕ) → Messages (message_by p (calm r) store buffer) (message_by p r store buffer)
+pub message_sees : (p : Result (Unit {0}) Refusal) (r : Runner) (store buffer : List ℕ) → Messages (message_by p (calm r) store buffer) (message_by p r store buffer)
 unfolding choose is_ready sendable_of effect said_for outcome_of buffer_after payload
-message_sees Reply.Ok r store buffer = by (choose r (length buffer))
+message_sees (Ok tt) r store buffer = by (choose r (length buffer))
   where
     by : (m : Choice) → Messages (Calls.chosen_by m (calm r) store buffer) (Calls.chosen_by m r store buffer)
     by Choice.None = record { runner = still r; said = refl; buffer = refl }
@@ -153,28 +151,28 @@ message_sees Reply.Ok r store buffer = by (choose r (length buffer))
     by (Choice.End x) = record { runner = effect_sees (Choice.End x) r; said = refl; buffer = refl }
     by (Choice.Output x n) = record { runner = effect_sees (Choice.Output x n) r; said = refl; buffer = refl }
     by Choice.Terminal = record { runner = effect_sees Choice.Terminal r; said = refl; buffer = refl }
-message_sees (Reply.Refused x) r store buffer = record { runner = still r; said = refl; buffer = refl }
+message_sees (Err x) r store buffer = record { runner = still r; said = refl; buffer = refl }
 
 -- ---- the deadline
 
 -- with these times of give-up and abandonment, where they count
-abbrev first_with : Runner → Deadline → Deadline → Deadline
+abbrev first_with : Runner → Option ℕ → Option ℕ → Option ℕ
 first_with r g b =
-    cond r.flags.finished Never
+    cond r.flags.finished None
     (earliest (earliest (earliest (earliest r.clocks.timeout_at r.clocks.grace_until) (expected_by r.life.settling)) g) b)
 
 pub deadline_shows : (r : Runner) → deadline_of (calm r) ≡ deadline_of r
 unfolding deadline_of
 deadline_shows r =
     let a : Bool = awaits_launch r in let f : Bool = is_fenced r.life.settling in let h : Bool = any_held r.outputs in
-    ap (λ (g : Deadline). first_with r g (cond (a || (f && h)) (abandon_shown r) Never)) (give_up_lem (is_cleaned_up r) r.clocks.give_up_at)
-    ∙ ap (first_with r (cond (not (is_cleaned_up r)) r.clocks.give_up_at Never)) (abandon a f h r.clocks.abandon_at)
+    ap (λ (g : (Option ℕ)). first_with r g (cond (a || (f && h)) (abandon_shown r) None)) (give_up_lem (is_cleaned_up r) r.clocks.give_up_at)
+    ∙ ap (first_with r (cond (not (is_cleaned_up r)) r.clocks.give_up_at None)) (abandon a f h r.clocks.abandon_at)
   where
-    give_up_lem : (c : Bool) (g : Deadline) → cond (not c) (unless c g) Never ≡ cond (not c) g Never
+    give_up_lem : (c : Bool) (g : Option ℕ) → cond (not c) (unless c g) None ≡ cond (not c) g None
     give_up_lem true g = refl
     give_up_lem false g = refl
 
-    abandon : (a f h : Bool) (b : Deadline) → cond (a || (f && h)) (unless ((not a && f) && not h) b) Never ≡ cond (a || (f && h)) b Never
+    abandon : (a f h : Bool) (b : Option ℕ) → cond (a || (f && h)) (unless ((not a && f) && not h) b) None ≡ cond (a || (f && h)) b None
     abandon true f h b = refl
     abandon false true true b = refl
     abandon false true false b = refl
@@ -198,65 +196,64 @@ module _ (s : State) where
   pub getting : (a : Answer) → Alike (calm_s s) a s a
   getting a = record { left = kept_state s; answered = refl }
 
-  noted : (p : Reply) (x y : Runner) → calm x ≡ calm y
+  noted : (p : Result (Unit {0}) Refusal) (x y : Runner) → calm x ≡ calm y
       → Alike (on_runner (noting p x (calm r)).runner s) (replied (noting p x (calm r)).reply) (on_runner (noting p y r).runner s) (replied (noting p y r).reply)
-  noted Reply.Ok x y e = record { left = ap (λ (z : Runner). on_runner z s) e; answered = refl }
-  noted (Reply.Refused z) x y e = getting (Call.Refused _)
+  noted (Ok tt) x y e = record { left = ap (λ (z : Runner). on_runner z s) e; answered = refl }
+  noted (Err z) x y e = getting (Call.Refused _)
 
-  heard : (p : Reply) (a b : Received) (x y : Runner) → a ≡ b → calm x ≡ calm y
+  heard : (p : Result (Unit {0}) Refusal) (a b : Result Receipt Refusal) (x y : Runner) → a ≡ b → calm x ≡ calm y
       → Alike (on_runner (hearing p a x (calm r)).runner s) (received_as (hearing p a x (calm r)).received) (on_runner (hearing p b y r).runner s) (received_as (hearing p b y r).received)
-  heard Reply.Ok a b x y e f = record { left = ap (λ (z : Runner). on_runner z s) f; answered = ap received_as e }
-  heard (Reply.Refused z) a b x y e f = getting (Call.Refused _)
+  heard (Ok tt) a b x y e f = record { left = ap (λ (z : Runner). on_runner z s) f; answered = ap received_as e }
+  heard (Err z) a b x y e f = getting (Call.Refused _)
 
   abbrev input_left : InputAfter → State
   input_left x = record { runner = x.hearing.runner; bytes = x.bytes; lengths = x.lengths }
 
-  inputted : (p : Reply) (a : Admission) (b : List ℕ) → (let x = input_by p a (calm r) b s.bytes s.lengths in let y = input_by p a r b s.bytes s.lengths in
+  inputted : (p : Result (Unit {0}) Refusal) (a : Result Admission Refusal) (b : List ℕ) → (let x = input_by p a (calm r) b s.bytes s.lengths in let y = input_by p a r b s.bytes s.lengths in
       Alike (input_left x) (received_as x.hearing.received) (input_left y) (received_as y.hearing.received))
   unfolding received input_next input_answer input_store input_lengths
-  inputted (Reply.Refused x) a b = getting (Call.Refused _)
-  inputted Reply.Ok a b = by a
+  inputted (Err x) a b = getting (Call.Refused _)
+  inputted (Ok tt) a b = by a
     where
-      by : (a : Admission) → (let x = received a (calm r) b s.bytes s.lengths in let y = received a r b s.bytes s.lengths in
+      by : (a : Result Admission Refusal) → (let x = received a (calm r) b s.bytes s.lengths in let y = received a r b s.bytes s.lengths in
           Alike (input_left x) (received_as x.hearing.received) (input_left y) (received_as y.hearing.received))
-      by (Admission.Refused x) = record { left = ap (λ (z : Runner). on_runner z s) (still r); answered = refl }
-      by Admission.Stale = record { left = ap (λ (z : Runner). on_runner z s) (still r); answered = refl }
-      by Admission.Own = record {
-        left = ap (λ (z : Runner). record { runner = z; bytes = input_store Admission.Own r b s.bytes; lengths = input_lengths Admission.Own r (length b) s.lengths })
-            (plain r (input_next Admission.Own r (length b)) refl refl (λ e. e) (λ e. e));
+      by (Err x) = record { left = ap (λ (z : Runner). on_runner z s) (still r); answered = refl }
+      by (Ok Stale) = record { left = ap (λ (z : Runner). on_runner z s) (still r); answered = refl }
+      by (Ok Own) = record {
+        left = ap (λ (z : Runner). record { runner = z; bytes = input_store (Ok Own) r b s.bytes; lengths = input_lengths (Ok Own) r (length b) s.lengths })
+            (plain r (input_next (Ok Own) r (length b)) refl refl (λ e. e) (λ e. e));
         answered = refl;
       }
 
   -- ---- the calls that hand over bytes
 
-  taken : (p : Reply) (x : Stream) (b : List ℕ) → (let y = output_by p (calm r) x b s.bytes in let z = output_by p r x b s.bytes in
+  taken : (p : Result (Unit {0}) Refusal) (x : Stream) (b : List ℕ) → (let y = output_by p (calm r) x b s.bytes in let z = output_by p r x b s.bytes in
       Alike (record { runner = y.taking.runner; bytes = y.bytes; lengths = s.lengths }) (took y.taking.taken) (record { runner = z.taking.runner; bytes = z.bytes; lengths = s.lengths }) (took z.taking.taken))
   unfolding output_took output_taken output_store
-  taken Reply.Ok x b = record {
+  taken (Ok tt) x b = record {
     left = ap (λ (z : Runner). record { runner = z; bytes = output_store r x b s.bytes; lengths = s.lengths }) (output_sees x (length b) r);
     answered = refl;
   }
-  taken (Reply.Refused z) x b = getting (Call.Refused _)
+  taken (Err z) x b = getting (Call.Refused _)
 
-  handed_over : (p : Reply) (n : ℕ) → (let y = written_by p (calm r) n s.lengths in let z = written_by p r n s.lengths in
+  handed_over : (p : Result (Unit {0}) Refusal) (n : ℕ) → (let y = written_by p (calm r) n s.lengths in let z = written_by p r n s.lengths in
       Alike (record { runner = y.noting.runner; bytes = s.bytes; lengths = y.lengths }) (replied y.noting.reply) (record { runner = z.noting.runner; bytes = s.bytes; lengths = z.lengths }) (replied z.noting.reply))
   unfolding written_next written_lengths
-  handed_over Reply.Ok n = record {
+  handed_over (Ok tt) n = record {
     left = ap (λ (z : Runner). record { runner = z; bytes = s.bytes; lengths = written_lengths r n s.lengths }) (plain r (written_next r n s.lengths) refl refl (λ e. e) (λ e. e));
     answered = refl;
   }
-  handed_over (Reply.Refused z) n = getting (Call.Refused _)
+  handed_over (Err z) n = getting (Call.Refused _)
 
-  waiting : (p : Reply) → (let y = pending_by p (calm r) s.bytes in let z = pending_by p r s.bytes in
-      Alike (calm_s s) (waits y.refusal y.pending) s (waits z.refusal z.pending))
+  waiting : (p : Result (Unit {0}) Refusal) → Alike (calm_s s) (waits (given p (pending_of (calm r) s.bytes))) s (waits (given p (pending_of r s.bytes)))
   unfolding pending_of
-  waiting Reply.Ok = getting _
-  waiting (Reply.Refused z) = getting _
+  waiting (Ok tt) = getting _
+  waiting (Err z) = getting _
 
-  wished : (p : Reply) → Alike (on_runner (request_by p (calm r)).runner s) (asks (request_by p (calm r)).asked) (on_runner (request_by p r).runner s) (asks (request_by p r).asked)
+  wished : (p : Result (Unit {0}) Refusal) → Alike (on_runner (request_by p (calm r)).runner s) (asks (request_by p (calm r)).asked) (on_runner (request_by p r).runner s) (asks (request_by p r).asked)
   unfolding wish
-  wished Reply.Ok = record { left = ap (λ (z : Runner). on_runner z s) (wish_sees (wish r) r); answered = refl }
-  wished (Reply.Refused z) = getting (Call.Refused _)
+  wished (Ok tt) = record { left = ap (λ (z : Runner). on_runner z s) (wish_sees (wish r) r); answered = refl }
+  wished (Err z) = getting (Call.Refused _)
 
 pub call_sees : (c : Call) (s : State) → Alike (next (calm_s s) c) (answer (calm_s s) c) (next s c) (answer s c)
 unfolding next answer stop in_range Calls.key Calls.limits Calls.credit Calls.input Calls.end_input Calls.cancel Calls.launched Calls.read_allowance Calls.output Calls.discarded Calls.output_closed Calls.output_failed Calls.output_hung_up Calls.pending_input Calls.input_written Calls.input_closed Calls.exited Calls.settled Calls.dropped Calls.reset Calls.disconnect Calls.tick Calls.deadline Calls.next_request Calls.next_message Calls.is_finished Calls.is_detached Calls.awaits_settlement Calls.memory_bound Calls.buffered Calls.high_water read_allowance_of discarded_next closed_next failed_next hung_up_next close_runner_input
@@ -264,16 +261,16 @@ call_sees Call.key s = getting s _
 call_sees Call.limits s = getting s _
 call_sees (Call.credit k p u) s =
     let r : Runner = s.runner in
-    let a : Admission = admits r.key k in let q : PoolIndex = output_pool r.limits.shared p in
+    let a : (Result Admission Refusal) = admits r.key k in let q : (Result ℕ Refusal) = output_pool r.limits.shared p in
     heard s (stop r true) (credit_answer a q (calm r) u) (credit_answer a q r u) (credit_next a q (calm r) u) (credit_next a q r u) (credit_shows a q u r) (credit_sees a q u r)
 call_sees (Call.input k b) s = inputted s (stop s.runner (stores_do s.runner s.bytes s.lengths)) (admits s.runner.key k) b
 call_sees (Call.end_input k) s =
     let r : Runner = s.runner in
-    let a : Admission = admits r.key k in
+    let a : (Result Admission Refusal) = admits r.key k in
     heard s (stop r true) (end_answer a (calm r)) (end_answer a r) (end_next a (calm r)) (end_next a r) (end_shows a r) (end_sees a r)
 call_sees (Call.cancel now k c) s =
     let r : Runner = s.runner in
-    let a : Admission = admits r.key k in
+    let a : (Result Admission Refusal) = admits r.key k in
     heard s (stop r true) (cancel_answer a (calm r) now) (cancel_answer a r now) (cancel_next a (calm r) now c) (cancel_next a r now c) (cancel_shows a now r) (cancel_sees a now c r)
 call_sees (Call.launched x) s = noted s (stop s.runner true) _ _ (launched_sees x s.runner)
 call_sees (Call.read_allowance x) s = getting s _
@@ -293,7 +290,7 @@ call_sees (Call.disconnect now) s = noted s (stop s.runner true) _ _ (detach_see
 call_sees (Call.tick now) s = noted s (stop s.runner true) _ _ (tick_sees now s.runner)
 call_sees Call.deadline s = record {
   left = kept_state s;
-  answered = ap (λ (d : Deadline). fires (when_by (stop s.runner true) d)) (deadline_shows s.runner);
+  answered = ap (λ (d : (Option ℕ)). fires (given (stop s.runner true) d)) (deadline_shows s.runner);
 }
 call_sees Call.next_request s = wished s (stop s.runner true)
 call_sees (Call.next_message buffer) s =

@@ -1,9 +1,8 @@
 -- The runner as far as it shows. Two timers may stand that nothing asks for any more: that of a give-up which finds all cleaned up, and
 -- that of an abandonment which finds nothing to abandon. Runners that are equal without them answer alike, and stay so.
+use Rattle.std.specs.Prelude.{Option, None, ℕ}
 use mathlib.Core.Bool.{Bool, true, false, cond, not, ◌&&◌, false≢true}
 use mathlib.Core.Path.{◌≡◌, refl, sym, ◌∙◌, ap}
-use Rattle.exec.specs.declared.Deadline.{Deadline}
-use Rattle.exec.specs.declared.Deadline.TheVariants.{Never}
 use Rattle.exec.specs.declared.Stream.{Stream}
 use Rattle.exec.specs.Stream.{every_stream_lem}
 use Rattle.lifecycle.specs.declared.life.Settling.{Settling}
@@ -25,17 +24,17 @@ abbrev pub is_moot : Runner → Bool
 is_moot r = (not (awaits_launch r) && is_fenced r.life.settling) && not (any_held r.outputs)
 
 -- with these times of give-up and abandonment
-abbrev pub swap : (give_up abandon : Deadline) → Runner → Runner
+abbrev pub swap : (give_up abandon : Option ℕ) → Runner → Runner
 swap g b r =
     with (set_give_up_at g (set_abandon_at b r.clocks)) r.life r.flags r.input (each_output (λ (o : Output). o) r.outputs) r
 
-abbrev pub unless : Bool → Deadline → Deadline
-unless b d = cond b Never d
+abbrev pub unless : Bool → Option ℕ → Option ℕ
+unless b d = cond b None d
 
-abbrev pub give_up_shown : Runner → Deadline
+abbrev pub give_up_shown : Runner → Option ℕ
 give_up_shown r = unless (is_cleaned_up r) r.clocks.give_up_at
 
-abbrev pub abandon_shown : Runner → Deadline
+abbrev pub abandon_shown : Runner → Option ℕ
 abandon_shown r = unless (is_moot r) r.clocks.abandon_at
 
 abbrev pub calm : Runner → Runner
@@ -50,7 +49,7 @@ calm_s s = on_runner (calm s.runner) s
 abbrev pub Sees : (Runner → Runner) → Type 0
 Sees f = (r : Runner) → calm (f (calm r)) ≡ calm (f r)
 
-pub kept : (c d : Bool) (x : Deadline) → (c ≡ true → d ≡ true) → unless d (unless c x) ≡ unless d x
+pub kept : (c d : Bool) (x : Option ℕ) → (c ≡ true → d ≡ true) → unless d (unless c x) ≡ unless d x
 kept true true x h = refl
 kept true false x h = absurd (false≢true (h refl))
 kept false d x h = refl
@@ -59,7 +58,7 @@ kept false d x h = refl
 pub anew : (r t : Runner) → t.clocks.abandon_at ≡ r.clocks.abandon_at → (is_moot r ≡ true → is_moot t ≡ true)
     → calm (swap t.clocks.give_up_at (abandon_shown r) t) ≡ calm t
 anew r t e m =
-    ap (λ (b : Deadline). swap (give_up_shown t) b t)
+    ap (λ (b : (Option ℕ)). swap (give_up_shown t) b t)
     (kept (is_moot r) (is_moot t) r.clocks.abandon_at m ∙ ap (unless (is_moot t)) (sym e))
 
 -- it leaves both, and brings back neither
@@ -67,7 +66,7 @@ pub plain : (r t : Runner) → t.clocks.give_up_at ≡ r.clocks.give_up_at → t
     → (is_cleaned_up r ≡ true → is_cleaned_up t ≡ true) → (is_moot r ≡ true → is_moot t ≡ true)
     → calm (swap (give_up_shown r) (abandon_shown r) t) ≡ calm t
 plain r t eg eb c m =
-    ap (λ (g : Deadline). swap g (unless (is_moot t) (abandon_shown r)) t)
+    ap (λ (g : (Option ℕ)). swap g (unless (is_moot t) (abandon_shown r)) t)
     (kept (is_cleaned_up r) (is_cleaned_up t) r.clocks.give_up_at c ∙ ap (unless (is_cleaned_up t)) (sym eg)) ∙ anew r t eb m
 
 pub still : (r : Runner) → calm (calm r) ≡ calm r

@@ -1,17 +1,16 @@
 -- Idle ticks make no difference, over every list.
+use Rattle.std.specs.Prelude.{Option, Result, Some, None, Ok, Err}
+use Rattle.exec.specs.declared.Refusal.{Refusal}
 use mathlib.Core.Bool.{true, false}
 use mathlib.Core.Path.{◌≡◌, refl, sym, ◌∙◌, ap, subst}
 use mathlib.Core.List.{List, [], ◌∷◌}
 use Prim.Native.Nat.{ℕ, ◌≤◌, ◌<◌}
 use native.Mathlib.Omega.{arith}
 use borrow.Author.Tests.{ltb-true, lt-ltb, lt-leb, leb-false}
-use Rattle.exec.specs.declared.Deadline.{Deadline}
-use Rattle.exec.specs.declared.Deadline.TheVariants.{Never, At}
-use Rattle.exec.specs.declared.Reply.{Reply}
 use Rattle.exec.specs.Time.{due}
 use Rattle.runner.specs.declared.runner.Runner.{Runner}
 use Rattle.runner.specs.Calls as Calls
-use Rattle.runner.specs.Calls.{noting, when_by}
+use Rattle.runner.specs.Calls.{noting, unless}
 use Rattle.runner.specs.Life.{ticked, deadline_of}
 use Rattle.runner.specs.Range.{in_range, stop, bytes_do}
 use Rattle.calls.specs.Call as Call
@@ -50,38 +49,38 @@ module _ (s t : State) (h : calm_s s ≡ calm_s t) where
 
 -- ---- a tick
 
-before_waits : (d : Deadline) (t : ℕ) → is_before t d ≡ true → due d t ≡ false
-before_waits Never t h = refl
-before_waits (At d) t h = lt-leb d t (ltb-true t d h)
+before_waits : (d : Option ℕ) (t : ℕ) → is_before t d ≡ true → due d t ≡ false
+before_waits None t h = refl
+before_waits (Some d) t h = lt-leb d t (ltb-true t d h)
 
-waits_before : (d : Deadline) (t : ℕ) → due d t ≡ false → is_before t d ≡ true
-waits_before Never t h = refl
-waits_before (At d) t h = lt-ltb t d (leb-false d t h)
+waits_before : (d : Option ℕ) (t : ℕ) → due d t ≡ false → is_before t d ≡ true
+waits_before None t h = refl
+waits_before (Some d) t h = lt-ltb t d (leb-false d t h)
 
 pub idle_still : (t : ℕ) (s : State) → is_before t (reported s) ≡ true → calm_s (next s (Call.tick t)) ≡ calm_s s
 unfolding next answer Calls.tick Calls.deadline
 idle_still t s h = by (stop s.runner true) h
   where
-    by : (p : Reply) → is_before t (deadline_in (fires (when_by p (deadline_of s.runner)))) ≡ true → calm_s (on_runner (noting p (ticked s.runner t) s.runner).runner s) ≡ calm_s s
-    by Reply.Ok h = ap (λ (z : Runner). on_runner z s) (tick_idle t s.runner (before_waits (deadline_of s.runner) t h))
-    by (Reply.Refused x) h = refl
+    by : (p : Result (Unit {0}) Refusal) → is_before t (deadline_in (fires (unless p (deadline_of s.runner)))) ≡ true → calm_s (on_runner (noting p (ticked s.runner t) s.runner).runner s) ≡ calm_s s
+    by (Ok tt) h = ap (λ (z : Runner). on_runner z s) (tick_idle t s.runner (before_waits (deadline_of s.runner) t h))
+    by (Err x) h = refl
 
 pub reported_later : (t : ℕ) (s : State) → is_before t (reported (next s (Call.tick t))) ≡ true
 unfolding next answer Calls.tick Calls.deadline
 reported_later t s = by (stop s.runner true) refl
   where
-    answered : (q : Reply) (d : Deadline) → due d t ≡ false → is_before t (deadline_in (fires (when_by q d))) ≡ true
-    answered Reply.Ok d h = waits_before d t h
-    answered (Reply.Refused x) d h = refl
+    answered : (q : Result (Unit {0}) Refusal) (d : Option ℕ) → due d t ≡ false → is_before t (deadline_in (fires (unless q d))) ≡ true
+    answered (Ok tt) d h = waits_before d t h
+    answered (Err x) d h = refl
 
-    by : (p : Reply) → stop s.runner true ≡ p
-        → (let r = (noting p (ticked s.runner t) s.runner).runner in is_before t (deadline_in (fires (when_by (stop r true) (deadline_of r)))) ≡ true)
-    by Reply.Ok e = answered (stop (ticked s.runner t) true) (deadline_of (ticked s.runner t)) (tick_later t s.runner)
-    by (Reply.Refused x) e = rw e refl
+    by : (p : Result (Unit {0}) Refusal) → stop s.runner true ≡ p
+        → (let r = (noting p (ticked s.runner t) s.runner).runner in is_before t (deadline_in (fires (unless (stop r true) (deadline_of r)))) ≡ true)
+    by (Ok tt) e = answered (stop (ticked s.runner t) true) (deadline_of (ticked s.runner t)) (tick_later t s.runner)
+    by (Err x) e = rw e refl
 
-told_otherwise : (t d : ℕ) (s : State) → d ≤ t → reported (next s (Call.tick t)) ≡ At d → ⊥
+told_otherwise : (t d : ℕ) (s : State) → d ≤ t → reported (next s (Call.tick t)) ≡ Some d → ⊥
 told_otherwise t d s l e =
-    let b = subst (λ (x : Deadline). is_before t x ≡ true) e (reported_later t s) in let k : t < d = ltb-true t d b in omega arith
+    let b = subst (λ (x : (Option ℕ)). is_before t x ≡ true) e (reported_later t s) in let k : t < d = ltb-true t d b in omega arith
 
 -- ---- a list: s in the first run, t in the second
 
@@ -104,14 +103,14 @@ spared_idle : (ws : List Woven) (s t : State) → calm_s s ≡ calm_s t → AllS
 spared_idle [] s t h a = tt
 spared_idle (made e ∷ ws) s t h a = spared_idle ws (next_entry s e) (next_entry t e) (alike_left s t h e) a
 spared_idle (idle n ∷ ws) s t h a =
-    let b = subst (λ (d : Deadline). is_before n d ≡ true) (alike_reported s t h) a.0 in
+    let b = subst (λ (d : (Option ℕ)). is_before n d ≡ true) (alike_reported s t h) a.0 in
     (b, spared_idle ws s (next t (Call.tick n)) (h ∙ sym (idle_still n t b)) a.1)
 
 idle_spared : (ws : List Woven) (s t : State) → calm_s s ≡ calm_s t → AllIdle t ws → AllSpared s ws
 idle_spared [] s t h a = tt
 idle_spared (made e ∷ ws) s t h a = idle_spared ws (next_entry s e) (next_entry t e) (alike_left s t h e) a
 idle_spared (idle n ∷ ws) s t h a = (
-  subst (λ (d : Deadline). is_before n d ≡ true) (sym (alike_reported s t h)) a.0,
+  subst (λ (d : (Option ℕ)). is_before n d ≡ true) (sym (alike_reported s t h)) a.0,
   idle_spared ws s (next t (Call.tick n)) (h ∙ sym (idle_still n t a.0)) a.1,
 )
 

@@ -1,14 +1,15 @@
 -- The timers, pass by pass, and what ticks: each sees no more of a runner than is shown.
+use Rattle.std.specs.Prelude.{Option, Result, None, Ok, Err}
+use Rattle.exec.specs.declared.Admission.TheVariants.{Own, Stale}
+use Rattle.exec.specs.declared.Admission.{Admission}
+use Rattle.exec.specs.declared.Status.{Status}
+use Rattle.exec.specs.declared.Refusal.{Refusal}
 use mathlib.Core.Bool.{Bool, true, false, cond, not, ◌&&◌, ◌||◌, true≢false}
 use mathlib.Core.Path.{◌≡◌, refl, sym, ◌∙◌, ap}
 use mathlib.Core.List.{List}
 use Prim.Native.Nat.{ℕ}
-use Rattle.exec.specs.declared.Admission.{Admission}
 use Rattle.exec.specs.declared.Cause.{Cause}
 use Rattle.exec.specs.declared.Cause.TheVariants.{TimedOut}
-use Rattle.exec.specs.declared.Deadline.{Deadline}
-use Rattle.exec.specs.declared.Deadline.TheVariants.{Never}
-use Rattle.exec.specs.declared.MaybeStatus.{MaybeStatus}
 use Rattle.exec.specs.Time.{after, earliest, due}
 use Rattle.lifecycle.specs.declared.life.Settling.{Settling}
 use Rattle.lifecycle.specs.declared.life.Settling.TheVariants.{Idle, Requested, Settled, Fenced}
@@ -72,7 +73,7 @@ pass_settlement_lem now r =
 -- ---- give-up
 
 -- where all is cleaned up its time is not shown, and nothing else is changed
-pub given_clean : (b : Bool) (r : Runner) → is_cleaned_up r ≡ true → calm (cond b (with_clocks (set_give_up_at Never r.clocks) r) r) ≡ calm r
+pub given_clean : (b : Bool) (r : Runner) → is_cleaned_up r ≡ true → calm (cond b (with_clocks (set_give_up_at None r.clocks) r) r) ≡ calm r
 given_clean true r e = rw e refl
 given_clean false r e = refl
 
@@ -90,8 +91,8 @@ unfolding pass_give_up give_up_unless_clean
 pass_give_up_lem now r = by (is_cleaned_up r) refl
   where
     by : (c : Bool) → is_cleaned_up r ≡ c
-        → calm (cond (due (unless c r.clocks.give_up_at) now) (cond c (with_clocks (set_give_up_at Never (calm r).clocks) (calm r)) (give_up (calm r))) (calm r))
-        ≡ calm (cond (due r.clocks.give_up_at now) (cond c (with_clocks (set_give_up_at Never r.clocks) r) (give_up r)) r)
+        → calm (cond (due (unless c r.clocks.give_up_at) now) (cond c (with_clocks (set_give_up_at None (calm r).clocks) (calm r)) (give_up (calm r))) (calm r))
+        ≡ calm (cond (due r.clocks.give_up_at now) (cond c (with_clocks (set_give_up_at None r.clocks) r) (give_up r)) r)
     by true e = still r ∙ sym (given_clean (due r.clocks.give_up_at now) r e)
     by false e = branch (due r.clocks.give_up_at now) (give_up (calm r)) (calm r) (give_up r) r (give_up_sees r) (still r)
 
@@ -115,7 +116,7 @@ drop_streams_lem r = by (is_fenced r.life.settling) refl
     by : (b : Bool) → is_fenced r.life.settling ≡ b → calm (cond b (abandon_open_streams (calm r)) (calm r)) ≡ calm (cond b (abandon_open_streams r) r)
     by true e =
         let t : Runner = abandon_open_streams r in
-        ap (λ (g : Deadline). swap g (abandon_shown t) t)
+        ap (λ (g : (Option ℕ)). swap g (abandon_shown t) t)
         (kept (is_cleaned_up r) (is_cleaned_up t) r.clocks.give_up_at (λ c. absurd (unsettled r.life.settling e (clean_settled r c))))
     by false e = still r
 
@@ -129,11 +130,11 @@ unheld o false false e f n = absurd (true≢false n)
 moot_streams : (r : Runner) → is_moot r ≡ true → calm (abandon_open_streams r) ≡ calm r
 unfolding abandon_open_streams
 moot_streams r m =
-    ap (λ (os : List Output). calm (with (set_abandon_at Never r.clocks) r.life r.flags r.input os r))
+    ap (λ (os : List Output). calm (with (set_abandon_at None r.clocks) r.life r.flags r.input os r))
     (each_same abandoned (λ (o : Output). o) r.outputs (λ x. unheld (out_of x r) (out_of x r).closed (out_of x r).hung_up refl refl (moot_held r m x)))
-    ∙ ap (λ (d : Deadline). swap (give_up_shown r) d r) (hidden (is_moot r) m)
+    ∙ ap (λ (d : (Option ℕ)). swap (give_up_shown r) d r) (hidden (is_moot r) m)
   where
-    hidden : (b : Bool) → b ≡ true → unless b Never ≡ unless b r.clocks.abandon_at
+    hidden : (b : Bool) → b ≡ true → unless b None ≡ unless b r.clocks.abandon_at
     hidden true e = refl
     hidden false e = absurd (true≢false (sym e))
 
@@ -174,23 +175,23 @@ tick_sees now r = branch r.flags.finished (calm r) (fire (calm r) now) r (fire r
 
 -- ---- the other calls that tick
 
-pub cancel_sees : (a : Admission) (now : ℕ) (c : Cause) → Sees (λ (x : Runner). cancel_next a x now c)
+pub cancel_sees : (a : (Result Admission Refusal)) (now : ℕ) (c : Cause) → Sees (λ (x : Runner). cancel_next a x now c)
 unfolding cancel_next
-cancel_sees (Admission.Refused x) now c r = still r
-cancel_sees Admission.Stale now c r = still r
-cancel_sees Admission.Own now c r =
+cancel_sees (Err x) now c r = still r
+cancel_sees (Ok Stale) now c r = still r
+cancel_sees (Ok Own) now c r =
     let t : Runner = ticked r now in let u : Runner = ticked (calm r) now in
     rw (ap is_late (tick_sees now r))
     (branch (is_late t) u (terminate u now c) t (terminate t now c) (tick_sees now r) (on (λ x. terminate x now c) (terminate_sees now c) u t (tick_sees now r)))
 
-pub cancel_shows : (a : Admission) (now : ℕ) (r : Runner) → cancel_answer a (calm r) now ≡ cancel_answer a r now
+pub cancel_shows : (a : Result Admission Refusal) (now : ℕ) (r : Runner) → cancel_answer a (calm r) now ≡ cancel_answer a r now
 unfolding cancel_answer
-cancel_shows (Admission.Refused x) now r = refl
-cancel_shows Admission.Stale now r = refl
-cancel_shows Admission.Own now r = rw (ap is_late (tick_sees now r)) refl
+cancel_shows (Err x) now r = refl
+cancel_shows (Ok Stale) now r = refl
+cancel_shows (Ok Own) now r = rw (ap is_late (tick_sees now r)) refl
 
 -- an exit that counts finds nothing cleaned up, and sets the time of abandonment anew
-exit_sees : (now : ℕ) (x : MaybeStatus) → Sees (λ (z : Runner). note_exit_once z now x)
+exit_sees : (now : ℕ) (x : (Option Status)) → Sees (λ (z : Runner). note_exit_once z now x)
 unfolding note_exit_once note_exit close_runner_input
 exit_sees now x r = by (is_over r) refl
   where
@@ -198,10 +199,10 @@ exit_sees now x r = by (is_over r) refl
     by true e = still r
     by false e =
         let t : Runner = note_exit r now x in
-        ap (λ (g : Deadline). swap g (abandon_shown t) t)
+        ap (λ (g : (Option ℕ)). swap g (abandon_shown t) t)
         (kept (is_cleaned_up r) (is_cleaned_up t) r.clocks.give_up_at (λ c. absurd (true≢false (sym (or_left (exit_known r.life.exit) _ (clean_exit r c)) ∙ e))))
 
-pub exited_sees : (now : ℕ) (x : MaybeStatus) → Sees (λ (z : Runner). exited_next z now x)
+pub exited_sees : (now : ℕ) (x : (Option Status)) → Sees (λ (z : Runner). exited_next z now x)
 unfolding exited_next
 exited_sees now x r =
     on (λ y. note_exit_once y now x) (exit_sees now x) _ _ (on (λ y. ticked y now) (tick_sees now) (timeout_cleared (calm r)) (timeout_cleared r) (cleared_sees r))
@@ -214,10 +215,10 @@ silenced_sees r = plain r (silenced r) refl refl (λ e. e) (λ e. e)
 soon_sees : (now : ℕ) → Sees (λ (x : Runner). give_up_soon x now)
 unfolding give_up_soon
 soon_sees now r =
-    ap (λ (g : Deadline). swap g (unless (is_moot r) (abandon_shown r)) r) (sooner (is_cleaned_up r) r.clocks.give_up_at (after now r.timers.settlement))
+    ap (λ (g : (Option ℕ)). swap g (unless (is_moot r) (abandon_shown r)) r) (sooner (is_cleaned_up r) r.clocks.give_up_at (after now r.timers.settlement))
     ∙ anew r (give_up_soon r now) refl (λ e. e)
   where
-    sooner : (c : Bool) (g x : Deadline) → unless c (earliest (unless c g) x) ≡ unless c (earliest g x)
+    sooner : (c : Bool) (g x : Option ℕ) → unless c (earliest (unless c g) x) ≡ unless c (earliest g x)
     sooner true g x = refl
     sooner false g x = refl
 

@@ -1,4 +1,5 @@
 -- A host that misses no deadline is answered as one that ticks at every instant.
+use Rattle.std.specs.Prelude.{Option, Some, None}
 use mathlib.Core.Bool.{Bool, true, false, cond, true≢false}
 use mathlib.Core.Path.{◌≡◌, refl, sym, ◌∙◌, ap, subst, subst⁻¹}
 use mathlib.Core.List.{List, [], ◌∷◌}
@@ -6,8 +7,6 @@ use Prim.Native.Nat.{ℕ, zero, suc, ◌+◌, ◌≤◌}
 use native.Mathlib.Omega.{arith}
 use lib.Dec.{leb}
 use borrow.Author.Tests.{ltb-true, ltb-false, lt-ltb, leb-true, leb-false, le-leb}
-use Rattle.exec.specs.declared.Deadline.{Deadline}
-use Rattle.exec.specs.declared.Deadline.TheVariants.{Never, At}
 use Rattle.calls.specs.Call as Call
 use Rattle.calls.specs.Call.{Conf, Answer}
 use Rattle.account.specs.Step.{State, next, opened}
@@ -20,34 +19,34 @@ use Rattle.idle.proofs.Idle.{alike_left, alike_answer, alike_reported, idle_stil
 -- ---- before a deadline, and at it
 
 -- what is before it is by it one instant later
-next_by : (t : ℕ) (d : Deadline) → is_before t d ≡ true → is_by (suc t) d ≡ true
-next_by t Never h = refl
-next_by t (At d) h = le-leb (suc t) d (omega (arith, ltb-true t d h))
+next_by : (t : ℕ) (d : Option ℕ) → is_before t d ≡ true → is_by (suc t) d ≡ true
+next_by t None h = refl
+next_by t (Some d) h = le-leb (suc t) d (omega (arith, ltb-true t d h))
 
-by_before : (t : ℕ) (d : Deadline) → is_by (suc t) d ≡ true → is_before t d ≡ true
-by_before t Never h = refl
-by_before t (At d) h = lt-ltb t d (omega (arith, leb-true (suc t) d h))
+by_before : (t : ℕ) (d : Option ℕ) → is_by (suc t) d ≡ true → is_before t d ≡ true
+by_before t None h = refl
+by_before t (Some d) h = lt-ltb t d (omega (arith, leb-true (suc t) d h))
 
-by_less : (u t : ℕ) (d : Deadline) → u ≤ t → is_by t d ≡ true → is_by u d ≡ true
-by_less u t Never l h = refl
-by_less u t (At d) l h = le-leb u d (omega (arith, leb-true t d h))
+by_less : (u t : ℕ) (d : Option ℕ) → u ≤ t → is_by t d ≡ true → is_by u d ≡ true
+by_less u t None l h = refl
+by_less u t (Some d) l h = le-leb u d (omega (arith, leb-true t d h))
 
-from_zero : (d : Deadline) → is_by 0 d ≡ true
-from_zero Never = refl
-from_zero (At d) = le-leb 0 d (omega arith)
+from_zero : (d : Option ℕ) → is_by 0 d ≡ true
+from_zero None = refl
+from_zero (Some d) = le-leb 0 d (omega arith)
 
-earlier : (u t : ℕ) (d : Deadline) → u ≤ t → is_before t d ≡ true → is_before u d ≡ true
-earlier u t Never l h = refl
-earlier u t (At d) l h = lt-ltb u d (omega (arith, ltb-true t d h))
+earlier : (u t : ℕ) (d : Option ℕ) → u ≤ t → is_before t d ≡ true → is_before u d ≡ true
+earlier u t None l h = refl
+earlier u t (Some d) l h = lt-ltb u d (omega (arith, ltb-true t d h))
 
 -- by it and not before it: at it
-at_it : (t : ℕ) (d : Deadline) → is_by t d ≡ true → is_before t d ≡ false → d ≡ At t
-at_it t Never h k = absurd (true≢false k)
-at_it t (At d) h k = ap At (omega (arith, leb-true t d h, ltb-false t d k))
+at_it : (t : ℕ) (d : Option ℕ) → is_by t d ≡ true → is_before t d ≡ false → d ≡ Some t
+at_it t None h k = absurd (true≢false k)
+at_it t (Some d) h k = ap Some (omega (arith, leb-true t d h, ltb-false t d k))
 
-abbrev at_of : Deadline → ℕ
-at_of Never = 0
-at_of (At d) = d
+abbrev at_of : Option ℕ → ℕ
+at_of None = 0
+at_of (Some d) = d
 
 -- ---- up to an entry: s is the host's, t that of the one that ticks at every instant
 
@@ -56,23 +55,23 @@ module _ (clock : ℕ) where
   unreached : (ts : List ℕ) (s t : State) → calm_s s ≡ calm_s t → is_before clock (reported t) ≡ true → Punctual clock s ts → calm_s (after_ticks s ts) ≡ calm_s t
   unreached [] s t h b p = h
   unreached (n ∷ ts) s t h b p =
-      let i = idle_still n s (earlier n clock (reported s) p.0 (subst⁻¹ (λ (d : Deadline). is_before clock d ≡ true) (alike_reported s t h) b)) in
+      let i = idle_still n s (earlier n clock (reported s) p.0 (subst⁻¹ (λ (d : (Option ℕ)). is_before clock d ≡ true) (alike_reported s t h) b)) in
       unreached ts (next s (Call.tick n)) t (i ∙ h) b p.2
 
   -- it has: of the ticks up to it the first that is not idle is at the deadline
-  caught : (u : ℕ) (t end : State) → reported t ≡ At u → u ≤ clock
+  caught : (u : ℕ) (t end : State) → reported t ≡ Some u → u ≤ clock
       → ((ts : List ℕ) (s : State) → calm_s s ≡ calm_s (next t (Call.tick u)) → Punctual clock s ts → calm_s (after_ticks s ts) ≡ calm_s end)
       → (ts : List ℕ) (s : State) → calm_s s ≡ calm_s t → Punctual clock s ts → calm_s (after_ticks s ts) ≡ calm_s end
   unfolding next_entry
   caught u t end d l on [] s h p =
-      absurd (let e = subst (λ (x : Deadline). is_before clock x ≡ true) (alike_reported s t h ∙ d) p in omega (arith, ltb-true clock u e))
+      absurd (let e = subst (λ (x : (Option ℕ)). is_before clock x ≡ true) (alike_reported s t h ∙ d) p in omega (arith, ltb-true clock u e))
   caught u t end d l on (n ∷ ts) s h p =
       by (is_before n (reported s)) refl (λ e. caught u t end d l on ts (next s (Call.tick n)) (idle_still n s e ∙ h) p.2)
     where
       by : (b : Bool) → is_before n (reported s) ≡ b → (is_before n (reported s) ≡ true → calm_s (after_ticks (next s (Call.tick n)) ts) ≡ calm_s end) → calm_s (after_ticks (next s (Call.tick n)) ts) ≡ calm_s end
       by true e skip = skip e
       by false e skip =
-          let k : At n ≡ At u = sym (at_it n (reported s) p.1 e) ∙ alike_reported s t h ∙ d in
+          let k : Some n ≡ Some u = sym (at_it n (reported s) p.1 e) ∙ alike_reported s t h ∙ d in
           let m : n ≡ u = ap at_of k in
           on ts (next s (Call.tick n)) (alike_left s t h (call (Call.tick n)) ∙ ap (λ (x : ℕ). calm_s (next t (Call.tick x))) m) p.2
 
@@ -104,13 +103,13 @@ module _ (clock : ℕ) where
   )
 
   -- nor does ticking at the deadlines that it has reached
-  due_at : (s : State) (d : ℕ) (ts : List ℕ) (b : Bool) → leb d clock ≡ b → reported s ≡ At d → Punctual clock (next s (Call.tick d)) ts → Punctual clock s (cond b (d ∷ ts) [])
+  due_at : (s : State) (d : ℕ) (ts : List ℕ) (b : Bool) → leb d clock ≡ b → reported s ≡ Some d → Punctual clock (next s (Call.tick d)) ts → Punctual clock s (cond b (d ∷ ts) [])
   due_at s d ts true k r p = (leb-true d clock k, ap (is_by d) r ∙ le-leb d d (omega arith), p)
   due_at s d ts false k r p = ap (is_before clock) r ∙ lt-ltb clock d (leb-false d clock k)
 
-  if_due_lem : (s : State) (ts : ℕ → List ℕ) (x : Deadline) → reported s ≡ x → ((d : ℕ) → x ≡ At d → Punctual clock (next s (Call.tick d)) (ts d)) → Punctual clock s (if_due x clock (λ (d : ℕ). d ∷ ts d))
-  if_due_lem s ts Never r on = ap (is_before clock) r
-  if_due_lem s ts (At d) r on = due_at s d (ts d) (leb d clock) refl r (on d refl)
+  if_due_lem : (s : State) (ts : ℕ → List ℕ) (x : (Option ℕ)) → reported s ≡ x → ((d : ℕ) → x ≡ Some d → Punctual clock (next s (Call.tick d)) (ts d)) → Punctual clock s (if_due x clock (λ (d : ℕ). d ∷ ts d))
+  if_due_lem s ts None r on = ap (is_before clock) r
+  if_due_lem s ts (Some d) r on = due_at s d (ts d) (leb d clock) refl r (on d refl)
 
   dues_punctual : (n u : ℕ) (s : State) → is_by u (reported s) ≡ true → suc clock ≤ u + n → Punctual clock s (dues n clock s)
   dues_punctual zero u s b e = by_before clock (reported s) (by_less (suc clock) u (reported s) (omega (arith, e)) b)
@@ -118,7 +117,7 @@ module _ (clock : ℕ) where
       if_due_lem s (λ (d : ℕ). dues n clock (next s (Call.tick d))) (reported s) refl
       (λ d r.
       dues_punctual n (suc d) (next s (Call.tick d)) (next_by d (reported (next s (Call.tick d))) (reported_later d s))
-      (omega (arith, e, leb-true u d (subst (λ (x : Deadline). is_by u x ≡ true) r b))))
+      (omega (arith, e, leb-true u d (subst (λ (x : (Option ℕ)). is_by u x ≡ true) r b))))
 
 -- ---- a list
 
@@ -181,7 +180,7 @@ spared (idle n ∷ ws) s t h =
     by : (b : Bool) → is_before n (reported s) ≡ b → (calm_s s ≡ calm_s (next t (Call.tick n)) → amid s (when_due s ws) ≡ amid (next t (Call.tick n)) ws)
         → amid (next s (Call.tick n)) (when_due (next s (Call.tick n)) ws) ≡ amid (next t (Call.tick n)) ws
         → amid s (cond b (when_due s ws) (idle n ∷ when_due (next s (Call.tick n)) ws)) ≡ amid (next t (Call.tick n)) ws
-    by true e skip tick = skip (h ∙ sym (idle_still n t (subst (λ (d : Deadline). is_before n d ≡ true) (alike_reported s t h) e)))
+    by true e skip tick = skip (h ∙ sym (idle_still n t (subst (λ (d : (Option ℕ)). is_before n d ≡ true) (alike_reported s t h) e)))
     by false e skip tick = tick
 
 -- ---- from open

@@ -1,4 +1,7 @@
 -- A record that is read or written sees no more of a runner than is shown, as the calls do.
+use Rattle.std.specs.Prelude.{Result, Ok, Err}
+use Rattle.exec.specs.declared.Receipt.{Receipt}
+use Rattle.exec.specs.declared.Refusal.{Refusal}
 use mathlib.Core.Bool.{Bool, true, false, cond}
 use mathlib.Core.Path.{◌≡◌, refl, sym, ◌∙◌, ap, subst}
 use mathlib.Core.List.{List}
@@ -7,9 +10,6 @@ use lib.Dec.{leb}
 use lib.ListN.{length, take, drop}
 use Rattle.exec.specs.declared.Pool.TheVariants as Pool
 use Rattle.exec.specs.declared.Refusal.TheVariants.{BufferShort, UntoldStatus}
-use Rattle.exec.specs.declared.Received.{Received}
-use Rattle.exec.specs.declared.Reply.{Reply}
-use Rattle.codec.specs.declared.Parsed.{Parsed}
 use Rattle.codec.specs.declared.Record.{Record}
 use Rattle.codec.specs.Codec.{read}
 use Rattle.runner.specs.declared.runner.Runner.{Runner}
@@ -32,10 +32,10 @@ abbrev Reads : ReadAfter → ReadAfter → Type 0
 Reads x y = Alike (leaves x) (read_as x.reading.answer) (leaves y) (read_as y.reading.answer)
 
 -- it answers as its call does
-as_heard : {s t : State} (x y : Received) → Alike s (received_as x) t (received_as y) → Alike s (read_as (heard_as x)) t (read_as (heard_as y))
+as_heard : {s t : State} (x y : Result Receipt Refusal) → Alike s (received_as x) t (received_as y) → Alike s (read_as (heard_as x)) t (read_as (heard_as y))
 as_heard x y k = record { left = k.left; answered = heard_as_lem x ∙ k.answered ∙ sym (heard_as_lem y) }
 
-as_noted : {s t : State} (x y : Reply) → Alike s (replied x) t (replied y) → Alike s (read_as (noted_as x)) t (read_as (noted_as y))
+as_noted : {s t : State} (x y : Result (Unit {0}) Refusal) → Alike s (replied x) t (replied y) → Alike s (read_as (noted_as x)) t (read_as (noted_as y))
 as_noted x y k = record { left = k.left; answered = noted_as_lem x ∙ k.answered ∙ sym (noted_as_lem y) }
 
 made_sees : (rec : Record) (now : ℕ) (b : List ℕ) (s : State)
@@ -55,17 +55,17 @@ made_sees Record.Eof now b s =
 made_sees Record.Close now b s =
     as_noted (Calls.disconnect (calm s.runner) now).reply (Calls.disconnect s.runner now).reply (call_sees (Call.disconnect now) s)
 
-parsed_sees : (p : Parsed) (now : ℕ) (b : List ℕ) (s : State)
+parsed_sees : (p : Result Record Refusal) (now : ℕ) (b : List ℕ) (s : State)
     → Reads (parsed_read p (calm s.runner) now b s.bytes s.lengths) (parsed_read p s.runner now b s.bytes s.lengths)
 unfolding parsed_read
-parsed_sees (Parsed.Read rec) now b s = made_sees rec now b s
-parsed_sees (Parsed.Refused x) now b s = getting s _
+parsed_sees (Ok rec) now b s = made_sees rec now b s
+parsed_sees (Err x) now b s = getting s _
 
-read_sees : (a : Reply) (now channel : ℕ) (b : List ℕ) (s : State)
+read_sees : (a : Result (Unit {0}) Refusal) (now channel : ℕ) (b : List ℕ) (s : State)
     → Reads (admitted_read a (calm s.runner) now channel b s.bytes s.lengths) (admitted_read a s.runner now channel b s.bytes s.lengths)
 unfolding admitted_read
-read_sees Reply.Ok now channel b s = parsed_sees (read channel b) now b s
-read_sees (Reply.Refused x) now channel b s = getting s _
+read_sees (Ok tt) now channel b s = parsed_sees (read channel b) now b s
+read_sees (Err x) now channel b s = getting s _
 
 -- ---- a record written
 
@@ -97,14 +97,14 @@ module _ (channel : ℕ) (store buffer : List ℕ) (r : Runner) where
       subst (λ (b : Bool). Writes (writes b (asked (calm r) store buffer) (calm r)) (writes (is_left (asked r store buffer).saying.said) (asked r store buffer) r))
       (sym (ap is_left m.said)) (writes_alike (is_left (asked r store buffer).saying.said) (asked (calm r) store buffer) (asked r store buffer) m)
 
-  write_sees : (a : Reply) → Writes (admitted_write a (calm r) channel store buffer) (admitted_write a r channel store buffer)
+  write_sees : (a : Result (Unit {0}) Refusal) → Writes (admitted_write a (calm r) channel store buffer) (admitted_write a r channel store buffer)
   unfolding admitted_write roomy_write
-  write_sees Reply.Ok = by (leb (room r.limits) (length buffer))
+  write_sees (Ok tt) = by (leb (room r.limits) (length buffer))
     where
       by : (b : Bool) → Writes (cond b (sent (calm r) channel store buffer) (write_after (unwritten BufferShort (calm r)) buffer)) (cond b (sent r channel store buffer) (write_after (unwritten BufferShort r) buffer))
       by true = sent_sees
       by false = record { runner = still r; wrote = refl; buffer = refl }
-  write_sees (Reply.Refused x) = record { runner = still r; wrote = refl; buffer = refl }
+  write_sees (Err x) = record { runner = still r; wrote = refl; buffer = refl }
 
   pub record_sees : Writes (Channel.write_record (calm r) channel store buffer) (Channel.write_record r channel store buffer)
   unfolding Channel.write_record admitted stop in_range

@@ -1,14 +1,10 @@
 -- Idle ticks, computed from the definitions: so the claims are not of lists that cannot be, and none of their conditions can be spared.
+use Rattle.std.specs.Prelude.{Option, Some, None, Ok}
 use mathlib.Core.Bool.{Bool, true, false, true≢false}
 use mathlib.Core.Path.{◌≡◌, refl, sym, ◌∙◌, ap}
 use mathlib.Core.List.{List, [], ◌∷◌, map}
 use Prim.Native.Nat.{ℕ}
 use Rattle.exec.specs.declared.Cause.TheVariants as Cause
-use Rattle.exec.specs.declared.Deadline.{Deadline}
-use Rattle.exec.specs.declared.Deadline.TheVariants.{Never, At}
-use Rattle.exec.specs.declared.LaunchResult.TheVariants as LaunchResult
-use Rattle.exec.specs.declared.MaybeDuration.{MaybeDuration}
-use Rattle.exec.specs.declared.MaybeStatus.TheVariants as MaybeStatus
 use Rattle.exec.specs.declared.Settlement as Settlements
 use Rattle.exec.specs.declared.Settlement.TheVariants as Settlement
 use Rattle.exec.specs.declared.Stream.TheVariants.{Stdout, Stderr}
@@ -38,7 +34,7 @@ use Rattle.idle.proofs.Idle.{idle_ticks}
 use Rattle.idle.proofs.Polls.{polls}
 
 -- chunks of one byte, windows of one byte
-abbrev timed : MaybeDuration → (grace settlement : ℕ) → Conf
+abbrev timed : Option ℕ → (grace settlement : ℕ) → Conf
 timed timeout grace settlement = record {
   key = record { id = 7; generation = 2 };
   limits = limits_for 1 (bytes_window 1) (bytes_window 1) false;
@@ -56,15 +52,15 @@ answers_of ds = map (λ (d : EntryDone). d.answer) ds
 
 -- the timeout comes at 10
 abbrev short : Conf
-short = timed (MaybeDuration.Some 10) 5 3
+short = timed (Some 10) 5 3
 
 -- and never
 abbrev none : Conf
-none = timed MaybeDuration.None 0 0
+none = timed None 0 0
 
 abbrev between : List Woven
 between = idle 0
-    ∷ made (call (Call.launched LaunchResult.Started))
+    ∷ made (call (Call.launched (Ok tt)))
     ∷ idle 9
     ∷ made (call (Call.output Stdout (97 ∷ 98 ∷ [])))
     ∷ idle 9
@@ -74,26 +70,26 @@ between = idle 0
     ∷ []
 
 pub between_idle : AllIdle (begins short) between
-    × (answers_of (amid (begins short) between) ≡ Call.Ok ∷ Call.Taken 1 ∷ Call.Time (At 10) ∷ Call.Value 1 ∷ [])
+    × (answers_of (amid (begins short) between) ≡ Call.Ok ∷ Call.Taken 1 ∷ Call.Time (Some 10) ∷ Call.Value 1 ∷ [])
 unfolding Step.next Step.answer next_entry answer_entry Calls.«open» Calls.launched Calls.output Calls.tick Calls.deadline Calls.buffered Range.fresh Range.stop Range.in_range output_fits bytes_with wrap ring_write copied Life.pass_grace Life.pass_timeout Life.pass_settlement Life.pass_give_up Life.pass_abandonment Life.fire Life.ticked Life.deadline_of Life.note_started Life.note_launch Life.launched_next Streams.output_taken Streams.output_next Streams.output_store Streams.output_took
 between_idle = ((refl, (refl, (refl, (refl, tt)))), refl)
 
 -- and the first run, without them
-pub between_alone : answers_of (run_entries (begins short) (alone between)) ≡ Call.Ok ∷ Call.Taken 1 ∷ Call.Time (At 10) ∷ Call.Value 1 ∷ []
+pub between_alone : answers_of (run_entries (begins short) (alone between)) ≡ Call.Ok ∷ Call.Taken 1 ∷ Call.Time (Some 10) ∷ Call.Value 1 ∷ []
 between_alone = ap answers_of (sym ((idle_ticks short 0 (0 ∷ 0 ∷ 0 ∷ []) []).answers between between_idle.0)) ∙ between_idle.1
 
 -- none is reported: a tick at the last instant; and on a refused open, where tick and deadline are refused alike
 abbrev at_last : List Woven
 at_last = idle 18446744073709551615 ∷ made (call (Call.tick 18446744073709551615)) ∷ made (call Call.deadline) ∷ []
 
-pub none_idle : (AllIdle (begins none) at_last × (answers_of (amid (begins none) at_last) ≡ Call.Ok ∷ Call.Time Never ∷ []))
+pub none_idle : (AllIdle (begins none) at_last × (answers_of (amid (begins none) at_last) ≡ Call.Ok ∷ Call.Time None ∷ []))
     × (AllIdle (Step.opened short 0 [] []) at_last × (answers_of (amid (Step.opened short 0 [] []) at_last) ≡ Call.Refused 10 ∷ Call.Refused 10 ∷ []))
 unfolding Step.next Step.answer next_entry answer_entry Calls.«open» Calls.tick Calls.deadline Range.fresh Range.stop Range.in_range output_fits bytes_with Life.pass_grace Life.pass_timeout Life.pass_settlement Life.pass_give_up Life.pass_abandonment Life.fire Life.ticked Life.deadline_of
 none_idle = (((refl, tt), refl), ((refl, tt), refl))
 
 -- the same on a channel: a record read, and three written into 43 bytes; no deadline is reported
 abbrev on_channel : List Woven
-on_channel = made (call (Call.launched LaunchResult.Started))
+on_channel = made (call (Call.launched (Ok tt)))
     ∷ made adjust
     ∷ idle 1000
     ∷ made (call (Call.output Stdout (97 ∷ 98 ∷ 99 ∷ [])))
@@ -113,8 +109,8 @@ channel_idle = ((refl, (refl, (refl, tt))), refl)
 -- ---- what a tick put in may move: two timers that no answer shows, so that the two runs do not end in the same state
 
 abbrev ended : Settlements.Settlement → List Woven → List Woven
-ended result ws = made (call (Call.launched LaunchResult.Started))
-    ∷ made (call (Call.exited 0 MaybeStatus.None))
+ended result ws = made (call (Call.launched (Ok tt)))
+    ∷ made (call (Call.exited 0 None))
     ∷ made (call (Call.settled result))
     ∷ made (call (Call.output_closed Stdout))
     ∷ made (call (Call.output_closed Stderr))
@@ -129,17 +125,17 @@ abbrev clean : List Woven
 clean = ended Settlement.Settled (made (call (Call.cancel 0 (record { id = 7; generation = 2 }) Cause.Cancelled)) ∷ idle 0 ∷ [])
 
 unseen : (AllIdle (begins none) fenced
-    × ((after_entries (begins none) (alone fenced)).runner.clocks.abandon_at ≡ At 0)
-    × ((after_entries (begins none) (woven fenced)).runner.clocks.abandon_at ≡ Never))
+    × ((after_entries (begins none) (alone fenced)).runner.clocks.abandon_at ≡ Some 0)
+    × ((after_entries (begins none) (woven fenced)).runner.clocks.abandon_at ≡ None))
     × (AllIdle (begins none) clean
-    × ((after_entries (begins none) (alone clean)).runner.clocks.give_up_at ≡ At 0)
-    × ((after_entries (begins none) (woven clean)).runner.clocks.give_up_at ≡ Never))
+    × ((after_entries (begins none) (alone clean)).runner.clocks.give_up_at ≡ Some 0)
+    × ((after_entries (begins none) (woven clean)).runner.clocks.give_up_at ≡ None))
 unfolding Step.next Step.answer next_entry Calls.«open» Calls.launched Calls.exited Calls.settled Calls.output_closed Calls.cancel Calls.tick Calls.deadline Range.fresh Range.stop Range.in_range output_fits bytes_with admits Life.close_runner_input Life.end_grace Life.begin_termination Life.terminate Life.abandon_open_streams Life.pass_grace Life.pass_timeout Life.pass_settlement Life.give_up_unless_clean Life.pass_give_up Life.drop_launch Life.drop_streams Life.pass_abandonment Life.fire Life.ticked Life.deadline_of Life.cancel_next Life.note_started Life.note_launch Life.launched_next Life.note_exit Life.note_exit_once Life.exited_next Life.settled_next Streams.closed_next
 unseen = (((refl, tt), refl, refl), ((refl, tt), refl, refl))
 
-abbrev is_never : Deadline → Bool
-is_never Never = true
-is_never (At d) = false
+abbrev is_never : Option ℕ → Bool
+is_never None = true
+is_never (Some d) = false
 
 -- equal states would be false, though every answer is alike; and neither timer is reported, which would wake a host for nothing
 pub moves_unseen : (AllIdle (begins none) fenced × (after_entries (begins none) (woven fenced) ≡ after_entries (begins none) (alone fenced) → ⊥))
@@ -160,8 +156,8 @@ seen ticks clock = record { ticks = ticks; clock = clock; entry = call Call.dead
 
 -- no timeout; an exit at 5, settlement to 8, abandonment at 13
 abbrev left : List ℕ → (clock : ℕ) → List Beat
-left ticks clock = record { ticks = []; clock = 5; entry = call (Call.launched LaunchResult.Started) }
-    ∷ record { ticks = []; clock = 5; entry = call (Call.exited 5 MaybeStatus.None) }
+left ticks clock = record { ticks = []; clock = 5; entry = call (Call.launched (Ok tt)) }
+    ∷ record { ticks = []; clock = 5; entry = call (Call.exited 5 None) }
     ∷ record { ticks = ticks; clock = clock; entry = call Call.deadline }
     ∷ record { ticks = []; clock = clock; entry = call Call.awaits_settlement }
     ∷ record { ticks = []; clock = clock; entry = call (Call.read_allowance Stdout) }
@@ -171,43 +167,43 @@ abbrev told : List ℕ → (clock : ℕ) → List Answer
 told ticks clock = answers_of (amid (begins short) (polled (seen ticks clock)))
 
 abbrev told_left : List ℕ → (clock : ℕ) → List Answer
-told_left ticks clock = answers_of (amid (begins (timed MaybeDuration.None 5 3)) (polled (left ticks clock)))
+told_left ticks clock = answers_of (amid (begins (timed None 5 3)) (polled (left ticks clock)))
 
-abbrev told_of : MaybeDuration → ℕ → List Answer
+abbrev told_of : Option ℕ → ℕ → List Answer
 told_of timeout tick = answers_of (amid (begins (timed timeout 1 0)) (polled (seen (tick ∷ []) tick)))
 
 -- cancelled at 12 besides, so that grace ends at 17 and give-up comes at 20; and the next request then
 abbrev lately : List ℕ → Answer
 lately ticks =
-    Step.answer (after_ticks (after_entries (begins (timed MaybeDuration.None 5 3)) (call (Call.launched LaunchResult.Started)
-    ∷ call (Call.exited 5 MaybeStatus.None)
+    Step.answer (after_ticks (after_entries (begins (timed None 5 3)) (call (Call.launched (Ok tt))
+    ∷ call (Call.exited 5 None)
     ∷ call (Call.cancel 12 (record { id = 7; generation = 2 }) Cause.Cancelled)
     ∷ [])) ticks) Call.next_request
 
 abbrev running : List Answer
-running = Call.Time (At 10) ∷ Call.Nothing ∷ Call.Value 1 ∷ []
+running = Call.Time (Some 10) ∷ Call.Nothing ∷ Call.Value 1 ∷ []
 
 -- the timeout has come
-abbrev timed_out : Deadline → (allowance : ℕ) → List Answer
+abbrev timed_out : Option ℕ → (allowance : ℕ) → List Answer
 timed_out next allowance = Call.Time next ∷ Call.Asks (Call.Terminate Cause.TimedOut) ∷ Call.Value allowance ∷ []
 
-abbrev after : Deadline → (awaited : Bool) (allowance : ℕ) → List Answer
+abbrev after : Option ℕ → (awaited : Bool) (allowance : ℕ) → List Answer
 after next awaited allowance = Call.Ok ∷ Call.Ok ∷ Call.Time next ∷ Call.Truth awaited ∷ Call.Value allowance ∷ []
 
 pub record Computed : Type 0 where
   -- by a clock at 9: no tick, and one before the deadline, are alike; one at the deadline is not, as it is later than the clock
-  pub before_it : (told [] 9 ≡ running) × (told (9 ∷ []) 9 ≡ running) × (told (10 ∷ []) 9 ≡ timed_out (At 15) 1)
+  pub before_it : (told [] 9 ≡ running) × (told (9 ∷ []) 9 ≡ running) × (told (10 ∷ []) 9 ≡ timed_out (Some 15) 1)
   -- by a clock at 11: a tick at the deadline is in time; none, and one that is later than the deadline, are not
-  pub after_it : (told (10 ∷ []) 11 ≡ timed_out (At 15) 1) × (told [] 11 ≡ running) × (told (11 ∷ []) 11 ≡ timed_out (At 16) 1)
+  pub after_it : (told (10 ∷ []) 11 ≡ timed_out (Some 15) 1) × (told [] 11 ≡ running) × (told (11 ∷ []) 11 ≡ timed_out (Some 16) 1)
   -- the end of grace and give-up, each before it and at it
-  pub grace : (told (10 ∷ 14 ∷ []) 14 ≡ timed_out (At 15) 1) × (told (10 ∷ 15 ∷ []) 15 ≡ timed_out (At 18) 0)
-  pub give_up_lem : (told (10 ∷ 15 ∷ 17 ∷ []) 17 ≡ timed_out (At 18) 0) × (told (10 ∷ 15 ∷ 18 ∷ []) 18 ≡ timed_out Never 0)
+  pub grace : (told (10 ∷ 14 ∷ []) 14 ≡ timed_out (Some 15) 1) × (told (10 ∷ 15 ∷ []) 15 ≡ timed_out (Some 18) 0)
+  pub give_up_lem : (told (10 ∷ 15 ∷ 17 ∷ []) 17 ≡ timed_out (Some 18) 0) × (told (10 ∷ 15 ∷ 18 ∷ []) 18 ≡ timed_out None 0)
   -- settlement and abandonment likewise
-  pub settlement : (told_left [] 7 ≡ after (At 8) true 1) × (told_left (7 ∷ []) 7 ≡ after (At 8) true 1) × (told_left (8 ∷ []) 8 ≡ after (At 13) false 1)
-  pub abandonment : (told_left (8 ∷ 12 ∷ []) 12 ≡ after (At 13) false 1) × (told_left (8 ∷ 13 ∷ []) 13 ≡ after Never false 0)
+  pub settlement : (told_left [] 7 ≡ after (Some 8) true 1) × (told_left (7 ∷ []) 7 ≡ after (Some 8) true 1) × (told_left (8 ∷ []) 8 ≡ after (Some 13) false 1)
+  pub abandonment : (told_left (8 ∷ 12 ∷ []) 12 ≡ after (Some 13) false 1) × (told_left (8 ∷ 13 ∷ []) 13 ≡ after None false 0)
   -- a timeout of 0, and one at the last instant, after which no grace can end
-  pub ends : (told_of (MaybeDuration.Some 0) 0 ≡ timed_out (At 1) 1) × (told_of (MaybeDuration.Some 18446744073709551615) 18446744073709551614 ≡ Call.Time (At 18446744073709551615) ∷ Call.Nothing ∷ Call.Value 1 ∷ [])
-      × (told_of (MaybeDuration.Some 18446744073709551615) 18446744073709551615 ≡ timed_out Never 1)
+  pub ends : (told_of (Some 0) 0 ≡ timed_out (Some 1) 1) × (told_of (Some 18446744073709551615) 18446744073709551614 ≡ Call.Time (Some 18446744073709551615) ∷ Call.Nothing ∷ Call.Value 1 ∷ [])
+      × (told_of (Some 18446744073709551615) 18446744073709551615 ≡ timed_out None 1)
   -- who ticks at the reported deadlines alone ticks at these
   pub deadlines : at_deadlines (begins short) (seen [] 100) ≡ seen (10 ∷ 15 ∷ 18 ∷ []) 100
   -- late ticks differ for other timers too: abandonment at 13 closes the streams before grace ends at 17, which then has none to discard

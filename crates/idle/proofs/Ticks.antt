@@ -1,12 +1,11 @@
 -- A tick before the deadline changes nothing that shows; and the deadline that is reported after a tick is later.
+use Rattle.std.specs.Prelude.{Option, Some, None}
 use mathlib.Core.Bool.{Bool, true, false, cond, not, ◌&&◌, ◌||◌, true≢false}
 use mathlib.Core.Path.{◌≡◌, refl, sym, ◌∙◌, ap}
 use Prim.Native.Nat.{ℕ}
 use native.Mathlib.Omega.{arith}
 use lib.Dec.{leb, ltb}
 use borrow.Author.Tests.{ltb-true, ltb-false, leb-true, le-leb}
-use Rattle.exec.specs.declared.Deadline.{Deadline}
-use Rattle.exec.specs.declared.Deadline.TheVariants.{Never, At}
 use Rattle.exec.specs.declared.Cause.TheVariants.{TimedOut}
 use Rattle.exec.specs.Time.{earliest, due}
 use Rattle.lifecycle.specs.declared.life.Settling.{Settling}
@@ -23,16 +22,16 @@ use Rattle.idle.proofs.Calm.{calm, false_not}
 use Rattle.idle.proofs.Passes.{given_clean, moot_drops, abandonment_sees}
 
 -- the earlier of two is due where one of them is
-earliest_due : (a b : Deadline) (now : ℕ) → due (earliest a b) now ≡ (due a now || due b now)
-earliest_due Never b now = refl
-earliest_due (At a) Never now = sym (or_none (leb a now))
+earliest_due : (a b : Option ℕ) (now : ℕ) → due (earliest a b) now ≡ (due a now || due b now)
+earliest_due None b now = refl
+earliest_due (Some a) None now = sym (or_none (leb a now))
   where
     or_none : (x : Bool) → (x || false) ≡ x
     or_none true = refl
     or_none false = refl
-earliest_due (At a) (At b) now = by (ltb b a) (leb a now) (leb b now) refl refl refl
+earliest_due (Some a) (Some b) now = by (ltb b a) (leb a now) (leb b now) refl refl refl
   where
-    by : (t x y : Bool) → ltb b a ≡ t → leb a now ≡ x → leb b now ≡ y → due (cond t (At b) (At a)) now ≡ (x || y)
+    by : (t x y : Bool) → ltb b a ≡ t → leb a now ≡ x → leb b now ≡ y → due (cond t (Some b) (Some a)) now ≡ (x || y)
     by true true y h e f = le-leb b now (omega (arith, ltb-true b a h, leb-true a now e))
     by true false y h e f = f
     by false true y h e f = e
@@ -47,17 +46,17 @@ abandons r = awaits_launch r || (is_fenced r.life.settling && any_held r.outputs
 
 -- what is not due, where the deadline is not
 module _ (now : ℕ) (r : Runner) where
-  abbrev first2 : Deadline
+  abbrev first2 : Option ℕ
   first2 = earliest r.clocks.timeout_at r.clocks.grace_until
 
-  abbrev first3 : Deadline
+  abbrev first3 : Option ℕ
   first3 = earliest first2 (expected_by r.life.settling)
 
-  abbrev gives : Deadline
-  gives = cond (not (is_cleaned_up r)) r.clocks.give_up_at Never
+  abbrev gives : Option ℕ
+  gives = cond (not (is_cleaned_up r)) r.clocks.give_up_at None
 
-  abbrev leaves_at : Deadline
-  leaves_at = cond (abandons r) r.clocks.abandon_at Never
+  abbrev leaves_at : Option ℕ
+  leaves_at = cond (abandons r) r.clocks.abandon_at None
 
   pub record Waits : Type 0 where
     pub timeout : due r.clocks.timeout_at now ≡ false
@@ -96,8 +95,8 @@ module _ (now : ℕ) (r : Runner) where
   unfolding pass_give_up give_up_unless_clean
   gives_nothing e = by (is_cleaned_up r) refl e
     where
-      by : (c : Bool) → is_cleaned_up r ≡ c → due (cond (not c) r.clocks.give_up_at Never) now ≡ false
-          → calm (cond (due r.clocks.give_up_at now) (cond c (with_clocks (set_give_up_at Never r.clocks) r) (give_up r)) r) ≡ calm r
+      by : (c : Bool) → is_cleaned_up r ≡ c → due (cond (not c) r.clocks.give_up_at None) now ≡ false
+          → calm (cond (due r.clocks.give_up_at now) (cond c (with_clocks (set_give_up_at None r.clocks) r) (give_up r)) r) ≡ calm r
       by true c e = given_clean (due r.clocks.give_up_at now) r c
       by false c e = rw e refl
 
@@ -118,7 +117,7 @@ module _ (now : ℕ) (r : Runner) where
   unfolding pass_abandonment
   abandons_nothing e = by (abandons r) (due r.clocks.abandon_at now) refl refl e
     where
-      by : (a d : Bool) → abandons r ≡ a → due r.clocks.abandon_at now ≡ d → due (cond a r.clocks.abandon_at Never) now ≡ false
+      by : (a d : Bool) → abandons r ≡ a → due r.clocks.abandon_at now ≡ d → due (cond a r.clocks.abandon_at None) now ≡ false
           → calm (cond d (drop_streams (drop_launch r)) r) ≡ calm r
       by a false ea ed e = refl
       by true true ea ed e = absurd (true≢false (sym ed ∙ e))
@@ -140,7 +139,7 @@ module _ (now : ℕ) (r : Runner) where
   unfolding ticked deadline_of
   tick_idle e = by r.flags.finished e
     where
-      by : (f : Bool) → due (cond f Never (first_of r.clocks (expected_by r.life.settling) (not (is_cleaned_up r)) (abandons r))) now ≡ false → calm (cond f r (fire r now)) ≡ calm r
+      by : (f : Bool) → due (cond f None (first_of r.clocks (expected_by r.life.settling) (not (is_cleaned_up r)) (abandons r))) now ≡ false → calm (cond f r (fire r now)) ≡ calm r
       by true e = refl
       by false e = fire_idle (waits e)
 
@@ -190,7 +189,7 @@ module _ (now : ℕ) where
   unfolding pass_give_up give_up_unless_clean give_up
   given r h = by (due r.clocks.give_up_at now) (is_cleaned_up r) refl
     where
-      by : (b c : Bool) → due r.clocks.give_up_at now ≡ b → GiveUp (cond b (cond c (with_clocks (set_give_up_at Never r.clocks) r) (give_up r)) r)
+      by : (b c : Bool) → due r.clocks.give_up_at now ≡ b → GiveUp (cond b (cond c (with_clocks (set_give_up_at None r.clocks) r) (give_up r)) r)
       by true true e = (h, refl)
       by true false e = (((h.0.0, refl), refl), refl)
       by false c e = (h, e)
@@ -215,7 +214,7 @@ module _ (now : ℕ) where
   unfolding drop_streams abandon_open_streams
   streamed r h a = by (is_fenced r.life.settling) refl
     where
-      none : (b : Bool) → due (cond b Never Never) now ≡ false
+      none : (b : Bool) → due (cond b None None) now ≡ false
       none true = refl
       none false = refl
 
@@ -223,7 +222,7 @@ module _ (now : ℕ) where
       by true e = (h, none (abandons (abandon_open_streams r)))
       by false e = (h, rw (a, e) refl)
 
-  waiting : (b : Bool) (d : Deadline) → due d now ≡ false → due (cond b d Never) now ≡ false
+  waiting : (b : Bool) (d : Option ℕ) → due d now ≡ false → due (cond b d None) now ≡ false
   waiting true d e = e
   waiting false d e = refl
 
@@ -248,7 +247,7 @@ module _ (now : ℕ) where
   unfolding ticked deadline_of
   tick_later r = by r.flags.finished refl
     where
-      unfinished : (f : Bool) (d : Deadline) → due d now ≡ false → due (cond f Never d) now ≡ false
+      unfinished : (f : Bool) (d : Option ℕ) → due d now ≡ false → due (cond f None d) now ≡ false
       unfinished true d e = refl
       unfinished false d e = e
 

@@ -1,8 +1,6 @@
 -- Idle ticks make no difference. 'From one open, two runs make the same calls, the second with ticks put in, each before the deadline
 -- reported just then, or at any time if none was reported. Every other call answers alike in both, for every such list.'
-use Rattle.std.specs.Prelude.{Bool, true, ◌≡◌, List, [], ◌∷◌, ℕ, ◌≤◌, ltb}
-use Rattle.exec.specs.declared.Deadline.{Deadline}
-use Rattle.exec.specs.declared.Deadline.TheVariants.{Never, At}
+use Rattle.std.specs.Prelude.{Bool, true, ◌≡◌, List, [], ◌∷◌, ℕ, ◌≤◌, ltb, Option, Some, None}
 use Rattle.runner.specs.Calls as Calls
 use Rattle.channel.specs.Calls as Channel
 use Rattle.calls.specs.Call as Call
@@ -41,31 +39,31 @@ amid s ws = others ws (run_entries s (woven ws))
 
 -- ---- the deadline reported just then
 
-abbrev pub deadline_in : Answer → Deadline
-deadline_in Call.Ok = Never
-deadline_in Call.Applied = Never
-deadline_in Call.Stale = Never
-deadline_in Call.Late = Never
-deadline_in (Call.Refused n) = Never
-deadline_in (Call.Taken n) = Never
-deadline_in (Call.Pending b) = Never
-deadline_in (Call.Value n) = Never
+abbrev pub deadline_in : Answer → Option ℕ
+deadline_in Call.Ok = None
+deadline_in Call.Applied = None
+deadline_in Call.Stale = None
+deadline_in Call.Late = None
+deadline_in (Call.Refused n) = None
+deadline_in (Call.Taken n) = None
+deadline_in (Call.Pending b) = None
+deadline_in (Call.Value n) = None
 deadline_in (Call.Time d) = d
-deadline_in (Call.Truth b) = Never
-deadline_in (Call.Asks r) = Never
-deadline_in (Call.Says m) = Never
-deadline_in (Call.IsKey k) = Never
-deadline_in (Call.AreLimits l) = Never
-deadline_in Call.Nothing = Never
+deadline_in (Call.Truth b) = None
+deadline_in (Call.Asks r) = None
+deadline_in (Call.Says m) = None
+deadline_in (Call.IsKey k) = None
+deadline_in (Call.AreLimits l) = None
+deadline_in Call.Nothing = None
 
 -- what the call deadline answers; a refused one reports none
-abbrev pub reported : State → Deadline
+abbrev pub reported : State → Option ℕ
 reported s = deadline_in (answer s Call.deadline)
 
 -- before it, or at any time if none was reported
-abbrev pub is_before : ℕ → Deadline → Bool
-is_before t Never = true
-is_before t (At d) = ltb t d
+abbrev pub is_before : ℕ → Option ℕ → Bool
+is_before t None = true
+is_before t (Some d) = ltb t d
 
 -- each tick put in is before the deadline that a run reports just then; what such a tick leaves in that run is said
 abbrev pub AllBefore : (ticks : State → ℕ → State) → State → List Woven → Type 0
@@ -108,5 +106,5 @@ pub record IdleTicks (conf : Conf) (now : ℕ) (bytes lengths : List ℕ) : Type
       → (AllSpared (opened conf now bytes lengths) ws → AllIdle (opened conf now bytes lengths) ws)
       × (AllIdle (opened conf now bytes lengths) ws → AllSpared (opened conf now bytes lengths) ws)
   -- and no other tick is idle: after one at the deadline or later, another is reported
-  pub sharp : (es : List Entry) (d t : ℕ) → reported (after_entries (opened conf now bytes lengths) es) ≡ At d → d ≤ t
-      → reported (next (after_entries (opened conf now bytes lengths) es) (Call.tick t)) ≡ At d → ⊥
+  pub sharp : (es : List Entry) (d t : ℕ) → reported (after_entries (opened conf now bytes lengths) es) ≡ Some d → d ≤ t
+      → reported (next (after_entries (opened conf now bytes lengths) es) (Call.tick t)) ≡ Some d → ⊥

@@ -1,8 +1,6 @@
 -- How often a host has to tick: at each deadline that is reported, with that deadline as its time, though its clock may show more by then.
 -- It is then answered as one that ticks at every instant. And of instants at which it looks, it may spare those before the deadline.
-use Rattle.std.specs.Prelude.{Bool, true, cond, ◌≡◌, List, [], ◌∷◌, ℕ, zero, suc, ◌≤◌, leb}
-use Rattle.exec.specs.declared.Deadline.{Deadline}
-use Rattle.exec.specs.declared.Deadline.TheVariants.{Never, At}
+use Rattle.std.specs.Prelude.{Bool, true, cond, ◌≡◌, List, [], ◌∷◌, ℕ, zero, suc, ◌≤◌, leb, Option, Some, None}
 use Rattle.calls.specs.Call as Call
 use Rattle.calls.specs.Call.{Conf}
 use Rattle.account.specs.Step.{State, next, opened}
@@ -33,9 +31,9 @@ after_ticks s (t ∷ ts) = after_ticks (next s (Call.tick t)) ts
 -- ---- one that misses no deadline
 
 -- not later than a deadline, if one was reported
-abbrev pub is_by : ℕ → Deadline → Bool
-is_by t Never = true
-is_by t (At d) = leb t d
+abbrev pub is_by : ℕ → Option ℕ → Bool
+is_by t None = true
+is_by t (Some d) = leb t d
 
 -- no tick is later than the clock shows, nor than the deadline reported just then; and in the end the clock has reached none
 abbrev pub Punctual : (clock : ℕ) → State → List ℕ → Type 0
@@ -59,9 +57,9 @@ at_every_instant (b ∷ bs) = record { ticks = instants 0 (suc b.clock); clock =
 
 -- ---- and one that ticks at the reported deadlines alone
 
-abbrev pub if_due : Deadline → (clock : ℕ) → (ℕ → List ℕ) → List ℕ
-if_due Never clock ticks = []
-if_due (At d) clock ticks = cond (leb d clock) (ticks d) []
+abbrev pub if_due : Option ℕ → (clock : ℕ) → (ℕ → List ℕ) → List ℕ
+if_due None clock ticks = []
+if_due (Some d) clock ticks = cond (leb d clock) (ticks d) []
 
 -- at each that the clock has reached, with the deadline's own time; each is later than the last
 abbrev pub dues : (most clock : ℕ) → State → List ℕ

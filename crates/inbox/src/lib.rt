@@ -77,32 +77,27 @@ impl Inbox {
     {
         let base = rings(limits);
         let size = limits.input_bytes();
-        let start = self.start;
-        let held = self.length;
         let n = bytes.len();
-        ring::push(store, base, size, start, held, bytes, n);
-        let window = limits.input;
-        self.push_frame(window, lengths, n)
+        ring::push(store, base, size, self.start, self.length, bytes, n);
+        self.push_frame(limits.input, lengths, n)
     }
 
     // Counts a message of n bytes, and in Frames appends its length.
     #[tactic(auto, unfolding(crate::specs::Inbox::pushed_frame))]
-    fn push_frame(self, window: Window, lengths: &mut [u32], n: usize) -> Inbox
+    fn push_frame(mut self, window: Window, lengths: &mut [u32], n: usize) -> Inbox
         requires { FrameRoom window self n lengths.old }
         ensures { frame_after result lengths.new ≡ pushed_frame window self n lengths.old }
     {
-        let unit = window.unit;
-        let mut inbox = self;
-        inbox.length = self.length + n;
-        match unit {
-            Unit::Bytes => inbox,
+        self.length += n;
+        match window.unit {
+            Unit::Bytes => self,
             Unit::Frames => {
                 let size = window.size as usize;
                 let first = self.first as usize;
                 let frames = self.frames as usize;
                 ring::push_length(lengths, size, first, frames, n as u32);
-                inbox.frames = self.frames + 1;
-                inbox
+                self.frames += 1;
+                self
             }
         }
     }
@@ -115,9 +110,7 @@ impl Inbox {
     {
         let base = rings(limits);
         let size = limits.input_bytes();
-        let start = self.start;
-        let held = self.length;
-        ring::pending(store, base, size, start, held)
+        ring::pending(store, base, size, self.start, self.length)
     }
 
     // Removes the first `count` bytes, at most as many as wait, and frees units for them: each byte's, or that of each frame
@@ -127,32 +120,22 @@ impl Inbox {
         requires { Poppable limits self lengths.old }
         ensures { pop_after result lengths.new ≡ pop limits self count lengths.old }
     {
-        let size = limits.input_bytes();
-        let begun = self.start;
-        let held = self.length;
-        let n = ring::smaller(count, held);
-        let start = ring::advance(size, begun, n);
-        let length = held - n;
-        let window = limits.input;
-        let mut popping = self.pop_units(window, lengths, n);
-        let mut inbox = popping.inbox;
-        inbox.start = start;
-        inbox.length = length;
-        popping.inbox = inbox;
+        let n = count.min(self.length);
+        let mut popping = self.pop_units(limits.input, lengths, n);
+        popping.inbox.start = ring::advance(limits.input_bytes(), self.start, n);
+        popping.inbox.length = self.length - n;
         popping
     }
 
     // The units that n bytes free, the frames that they finish removed.
     #[tactic(auto, unfolding(crate::specs::Inbox::pop_units))]
-    fn pop_units(self, window: Window, lengths: &mut [u32], n: usize) -> Popping
+    fn pop_units(mut self, window: Window, lengths: &mut [u32], n: usize) -> Popping
         requires { Slots window self n lengths.old }
         ensures { pop_after result lengths.new ≡ pop_units window self n lengths.old }
     {
-        let unit = window.unit;
-        let mut inbox = self;
-        match unit {
+        match window.unit {
             Unit::Bytes => Popping {
-                inbox,
+                inbox: self,
                 freed: n as u32,
             },
             Unit::Frames => {
@@ -160,11 +143,10 @@ impl Inbox {
                 let first = self.first as usize;
                 let frames = self.frames as usize;
                 let freed = ring::pop_frames(lengths, size, first, frames, n);
-                let next = ring::advance(size, first, freed);
-                inbox.first = next as u32;
-                inbox.frames = (frames - freed) as u32;
+                self.first = ring::advance(size, first, freed) as u32;
+                self.frames = (frames - freed) as u32;
                 Popping {
-                    inbox,
+                    inbox: self,
                     freed: freed as u32,
                 }
             }
@@ -190,21 +172,19 @@ impl Inbox {
     pub fn within(self, limits: Limits, granted: Granted) -> bool
         ensures { result ≡ inbox_within limits.input.unit limits.input.size limits.chunk granted self }
     {
-        let window = limits.input;
-        let unit = window.unit;
-        let size = window.size as usize;
-        match unit {
+        let size = limits.input.size as usize;
+        match limits.input.unit {
             Unit::Bytes => {
-                let units = granted.fits(self.length, window.size);
+                let units = granted.fits(self.length, limits.input.size);
                 (self.start < size) & (units & ((self.first == 0) & (self.frames == 0)))
             }
             Unit::Frames => {
                 let chunk = limits.chunk as usize;
                 let frames = self.frames as usize;
                 let most = frames * chunk;
-                let units = granted.fits(frames, window.size);
+                let units = granted.fits(frames, limits.input.size);
                 (self.start < size * chunk)
-                    & (units & ((self.first < window.size) & (self.length <= most)))
+                    & (units & ((self.first < limits.input.size) & (self.length <= most)))
             }
         }
     }
@@ -214,10 +194,9 @@ impl Inbox {
         ensures { result ≡ inbox_fits limits granted self }
     {
         let size = limits.input_bytes();
-        let window = limits.input;
-        let unit = window.unit;
-        let held = self.held(unit);
+        let held = self.held(limits.input.unit);
         (ring_fits(self.start, size) & (self.length <= size))
-            & (granted.fits(held, window.size) & self.frames_fit(unit, window.size, limits.chunk))
+            & (granted.fits(held, limits.input.size)
+                & self.frames_fit(limits.input.unit, limits.input.size, limits.chunk))
     }
 }

@@ -23,10 +23,8 @@ pub fn byte_need(limits: Limits) -> usize
 pub fn length_need(limits: Limits) -> usize
     ensures { result ≡ length_need limits }
 {
-    let input = limits.input;
-    let unit = input.unit;
-    match unit {
+    match limits.input.unit {
         Unit::Bytes => 0,
-        Unit::Frames => input.size as usize,
+        Unit::Frames => limits.input.size as usize,
     }
 }

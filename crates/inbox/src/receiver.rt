@@ -2,20 +2,13 @@
 ghost use Rattle.std.specs.Prelude.{◌≡◌, ◌+◌, ◌<◌, ◌^◌};
 ghost use Rattle.inbox.specs.Receiver.{new_granted, charge, freed, take_grant, units_fit};
 
-use exec::{Refusal, Reply};
+use exec::Refusal;
 
 // The units that the sender may still send, and those that the consumer freed, or that were never granted, to be granted next.
 #[derive(Clone, Copy)]
 pub struct Granted {
     pub open: u32,
     pub returnable: u32,
-}
-
-// What a charge leaves, and its answer.
-#[derive(Clone, Copy)]
-pub struct Charging {
-    pub granted: Granted,
-    pub reply: Reply,
 }
 
 // What taking a grant leaves, and its units; none where they are 0.
@@ -37,21 +30,14 @@ impl Granted {
     }
 
     // Charges a data message; one beyond the units that are open is refused.
-    pub fn charge(self, cost: u32) -> Charging
+    pub fn charge(mut self, cost: u32) -> Result<Granted, Refusal>
         ensures { result ≡ charge self cost }
     {
         if self.open < cost {
-            return Charging {
-                granted: self,
-                reply: Reply::Refused(Refusal::Window),
-            };
+            return Err(Refusal::Window);
         }
-        let open = self.open - cost;
-        let returnable = self.returnable;
-        Charging {
-            granted: Granted { open, returnable },
-            reply: Reply::Ok,
-        }
+        self.open -= cost;
+        Ok(self)
     }
 
     // Frees units that the consumer took, to grant them again.
@@ -59,7 +45,7 @@ impl Granted {
         requires { self.returnable + units < 2 ^ 32 }
         ensures { result ≡ freed self units }
     {
-        self.returnable = self.returnable + units;
+        self.returnable += units;
         self
     }
 
@@ -84,9 +70,6 @@ impl Granted {
         ensures { result ≡ units_fit self held size }
     {
         let most = size as usize;
-        if most < held {
-            return false;
-        }
-        self.open as usize + self.returnable as usize + held <= most
+        held <= most && self.open as usize + self.returnable as usize + held <= most
     }
 }

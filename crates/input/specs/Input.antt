@@ -1,11 +1,10 @@
 -- The workload's input: what each call does to it and to the stores.
-use Rattle.std.specs.Prelude.{ℕ, ◌-◌, ◌≤◌, ◌≡◌, refl, Bool, true, false, cond, not, ◌&&◌, ◌||◌, List, [], ltb, eqb, length}
+use Rattle.std.specs.Prelude.{ℕ, ◌-◌, ◌≤◌, ◌≡◌, refl, Bool, true, false, cond, not, ◌&&◌, ◌||◌, List, [], ltb, eqb, length, Result, Ok, Err}
 use Rattle.std.proofs.lemmas.Bool.{false≢true}
+use Rattle.exec.specs.declared.Receipt.{Receipt}
+use Rattle.exec.specs.declared.Refusal.{Refusal}
 use Rattle.exec.specs.declared.Limits.{Limits}
 use Rattle.exec.specs.declared.Receipt.TheVariants.{Applied, Stale, Late}
-use Rattle.exec.specs.declared.Received.{Received}
-use Rattle.exec.specs.declared.Received.TheVariants.{Receipt, Refused}
-use Rattle.exec.specs.declared.Refusal.TheVariants as Refusal
 use Rattle.exec.specs.Limits.{cost, off_chunk}
 use Rattle.inbox.specs.Inbox.{new_inbox, pushed, bytes_pushed, lengths_pushed, front, pop_freed, pop_inbox, pop_lengths}
 use Rattle.inbox.specs.Need.{byte_need, length_need}
@@ -60,22 +59,22 @@ close_when_taken i = set_input_closed (is_used_up i || i.closed) (set_close_requ
 abbrev pub off_window : Limits → Input → ℕ → Bool
 off_window l i n = ltb i.window.open (cost l.input.unit n)
 
-unfoldable pub receive_answer : Limits → Input → ℕ → Received
+unfoldable pub receive_answer : Limits → Input → ℕ → Result Receipt Refusal
 receive_answer l i n =
-    cond i.peer_ended (Refused Refusal.Ended)
-    (cond (off_chunk l n) (Refused Refusal.Chunk)
-    (cond (off_window l i n) (Refused Refusal.Window)
-    (cond i.closed (Receipt Late) (Receipt Applied))))
+    cond i.peer_ended (Err Refusal.Ended)
+    (cond (off_chunk l n) (Err Refusal.Chunk)
+    (cond (off_window l i n) (Err Refusal.Window)
+    (cond i.closed (Ok Late) (Ok Applied))))
 
-abbrev pub is_receipt : Received → Bool
-is_receipt (Refused x) = false
-is_receipt (Receipt x) = true
+abbrev pub is_receipt : Result Receipt Refusal → Bool
+is_receipt (Err x) = false
+is_receipt (Ok x) = true
 
-abbrev pub is_applied : Received → Bool
-is_applied (Refused x) = false
-is_applied (Receipt Applied) = true
-is_applied (Receipt Stale) = false
-is_applied (Receipt Late) = false
+abbrev pub is_applied : Result Receipt Refusal → Bool
+is_applied (Err x) = false
+is_applied (Ok Applied) = true
+is_applied (Ok Stale) = false
+is_applied (Ok Late) = false
 
 -- the message is charged unless it is refused, and kept where it is applied
 abbrev pub is_paid : Limits → Input → ℕ → Bool
@@ -131,9 +130,9 @@ pub record Paid (l : Limits) (i : Input) (n : ℕ) : Type 0 where
   pub window : off_window l i n ≡ false
 
 -- what holds of each answer that there is holds of this one
-module _ (l : Limits) (i : Input) (n : ℕ) (P : Received → Type 0) (ended : P (Refused Refusal.Ended)) (chunk : P (Refused Refusal.Chunk)) (window : P (Refused Refusal.Window)) (late : Paid l i n → P (Receipt Late)) (applied : Paid l i n → P (Receipt Applied)) where
+module _ (l : Limits) (i : Input) (n : ℕ) (P : Result Receipt Refusal → Type 0) (ended : P (Err Refusal.Ended)) (chunk : P (Err Refusal.Chunk)) (window : P (Err Refusal.Window)) (late : Paid l i n → P (Ok Late)) (applied : Paid l i n → P (Ok Applied)) where
   by_tests : (over off unpaid closed : Bool) → (over ≡ false → off ≡ false → unpaid ≡ false → Paid l i n)
-      → P (cond over (Refused Refusal.Ended) (cond off (Refused Refusal.Chunk) (cond unpaid (Refused Refusal.Window) (cond closed (Receipt Late) (Receipt Applied)))))
+      → P (cond over (Err Refusal.Ended) (cond off (Err Refusal.Chunk) (cond unpaid (Err Refusal.Window) (cond closed (Ok Late) (Ok Applied)))))
   by_tests true off unpaid closed paid = ended
   by_tests false true unpaid closed paid = chunk
   by_tests false false true closed paid = window
@@ -157,8 +156,8 @@ module _ (l : Limits) (i : Input) (n : ℕ) where
 abbrev pub peer_ends : Input → Input
 peer_ends i = set_peer_ended true i
 
-unfoldable pub end_answer : Input → Received
-end_answer i = cond i.peer_ended (Refused Refusal.Ended) (cond i.closed (Receipt Late) (Receipt Applied))
+unfoldable pub end_answer : Input → Result Receipt Refusal
+end_answer i = cond i.peer_ended (Err Refusal.Ended) (cond i.closed (Ok Late) (Ok Applied))
 
 unfoldable pub end_input : Input → Input
 end_input i = cond i.peer_ended i (close_when_taken (peer_ends i))

@@ -25,9 +25,9 @@ ghost use Rattle.input.specs.Input.{
   close_asked,
 };
 
-use exec::{ChunkLength, Limits, Receipt, Received, Refusal, Reply};
+use exec::{Limits, Receipt, Refusal};
 use inbox::Inbox;
-use inbox::receiver::{Charging, Granted};
+use inbox::receiver::Granted;
 
 #[derive(Clone, Copy)]
 pub struct Input {
@@ -49,7 +49,7 @@ pub struct Input {
 #[derive(Clone, Copy)]
 pub struct Receiving {
     pub input: Input,
-    pub received: Received,
+    pub received: Result<Receipt, Refusal>,
 }
 
 // What is left once credit is taken, and its units.
@@ -86,55 +86,49 @@ impl Input {
     pub fn can_grant(self) -> bool
         ensures { result ≡ can_grant self }
     {
-        let window = self.window;
-        (!self.closed & !self.peer_ended) & (0 < window.returnable)
+        (!self.closed & !self.peer_ended) & (0 < self.window.returnable)
     }
 
     // Grants all that is returnable.
-    pub fn take_credit(self) -> Crediting
+    pub fn take_credit(mut self) -> Crediting
         requires { self.window.open + self.window.returnable < 2 ^ 32 }
         ensures { result ≡ take_credit self }
     {
-        let window = self.window;
-        let taking = window.take_grant();
-        let granted = taking.granted;
-        let mut input = self;
-        input.window = granted;
-        let units = taking.units;
-        Crediting { input, units }
+        let taking = self.window.take_grant();
+        self.window = taking.granted;
+        Crediting {
+            input: self,
+            units: taking.units,
+        }
     }
 
     // Closes the input, other than by the runner's request: what waits is dropped, and the peer is told unless it ended the
     // input or is gone.
-    pub fn close(self, detached: bool) -> Input
+    pub fn close(mut self, detached: bool) -> Input
         ensures { result ≡ close_input self detached }
     {
         if self.closed {
             return self;
         }
-        let mut input = self;
-        let inbox = Inbox::new();
-        input.inbox = inbox;
-        input.closed = true;
-        input.closed_message = !self.peer_ended & !detached;
-        input
+        self.inbox = Inbox::new();
+        self.closed = true;
+        self.closed_message = !self.peer_ended & !detached;
+        self
     }
 
     // Requests to close the input once it is used up: the peer ended it, and the workload took every byte.
     fn close_when_taken(mut self) -> Input
         ensures { result ≡ close_when_taken self }
     {
-        let inbox = self.inbox;
-        let used_up = (self.peer_ended & !self.closed) & (inbox.length == 0);
+        let used_up = (self.peer_ended & !self.closed) & (self.inbox.length == 0);
         self.closed = used_up | self.closed;
         self.close_requested = used_up | self.close_requested;
         self
     }
 
     // Takes bytes from the peer: they are charged to the window, and dropped once the input is closed.
-    #[tactic(auto, unfolding(crate::specs::Input::receive_answer, crate::specs::Input::receive_input, crate::specs::Input::receive_bytes, crate::specs::Input::receive_lengths))]
     pub fn receive(
-        self,
+        mut self,
         limits: Limits,
         store: &mut [u8],
         lengths: &mut [u32],
@@ -143,123 +137,57 @@ impl Input {
         requires { Lent limits self store.old lengths.old }
         ensures { receive_after result store.new lengths.new ≡ receive limits self bytes.now store.old lengths.old }
     {
-        if self.peer_ended {
-            return Receiving {
-                input: self,
-                received: Received::Refused(Refusal::Ended),
-            };
-        }
-        let checked = limits.check_chunk(bytes.len());
-        self.receive_checked(checked, limits, store, lengths, bytes)
-    }
-
-    #[tactic(auto, unfolding(crate::specs::Input::receive_answer, crate::specs::Input::receive_input, crate::specs::Input::receive_bytes, crate::specs::Input::receive_lengths, exec::specs::Limits::check_chunk))]
-    fn receive_checked(
-        self,
-        checked: ChunkLength,
-        limits: Limits,
-        store: &mut [u8],
-        lengths: &mut [u32],
-        bytes: &[u8],
-    ) -> Receiving
-        requires lent { Lent limits self store.old lengths.old }
-        requires checked_length { (self.peer_ended ≡ false) × (checked ≡ check_chunk limits (length bytes.now)) }
-        ensures { receive_after result store.new lengths.new ≡ receive limits self bytes.now store.old lengths.old }
-    {
-        match checked {
-            ChunkLength::Refused(refusal) => Receiving {
-                input: self,
-                received: Received::Refused(refusal),
-            },
-            ChunkLength::Is(length) => {
-                let agreed = limits.input;
-                let window = self.window;
-                let charging = window.charge(agreed.cost(length));
-                self.receive_charged(charging, limits, store, lengths, bytes)
-            }
-        }
-    }
-
-    #[tactic(auto, unfolding(crate::specs::Input::receive_answer, crate::specs::Input::receive_input, crate::specs::Input::receive_bytes, crate::specs::Input::receive_lengths))]
-    fn receive_charged(
-        self,
-        charging: Charging,
-        limits: Limits,
-        store: &mut [u8],
-        lengths: &mut [u32],
-        bytes: &[u8],
-    ) -> Receiving
-        requires lent { Lent limits self store.old lengths.old }
-        requires charged { (self.peer_ended ≡ false) × (off_chunk limits (length bytes.now) ≡ false) × (charging ≡ charge self.window (cost limits.input.unit (length bytes.now))) }
-        ensures { receive_after result store.new lengths.new ≡ receive limits self bytes.now store.old lengths.old }
-    {
-        let reply = charging.reply;
-        match reply {
-            Reply::Refused(refusal) => Receiving {
-                input: self,
-                received: Received::Refused(refusal),
-            },
-            Reply::Ok => {
-                let granted = charging.granted;
-                self.receive_paid(granted, limits, store, lengths, bytes)
-            }
-        }
-    }
-
-    // Keeps a message that is paid for, unless the input is closed: then the charge stands, and the bytes are dropped.
-    #[tactic(auto, unfolding(crate::specs::Input::receive_answer, crate::specs::Input::receive_input, crate::specs::Input::receive_bytes, crate::specs::Input::receive_lengths, inbox::specs::Inbox::push))]
-    fn receive_paid(
-        self,
-        granted: Granted,
-        limits: Limits,
-        store: &mut [u8],
-        lengths: &mut [u32],
-        bytes: &[u8],
-    ) -> Receiving
-        requires lent { Lent limits self store.old lengths.old }
-        requires paid { Paid limits self (length bytes.now) × (granted ≡ (charge self.window (cost limits.input.unit (length bytes.now))).granted) }
-        ensures { receive_after result store.new lengths.new ≡ receive limits self bytes.now store.old lengths.old }
-    {
-        let mut input = self;
-        input.window = granted;
-        if self.closed {
-            return Receiving {
-                input,
-                received: Received::Receipt(Receipt::Late),
-            };
-        }
-        let held = self.inbox;
-        let inbox = held.push(limits, store, lengths, bytes);
-        input.inbox = inbox;
+        let received = self.take(limits, store, lengths, bytes);
         Receiving {
-            input,
-            received: Received::Receipt(Receipt::Applied),
+            input: self,
+            received,
         }
+    }
+
+    // Refused, a message changes nothing. Once the input is closed the charge stands, and the bytes are dropped.
+    #[tactic(auto, unfolding(crate::specs::Input::receive_answer, crate::specs::Input::receive_input, crate::specs::Input::receive_bytes, crate::specs::Input::receive_lengths, exec::specs::Limits::check_chunk, inbox::specs::Inbox::push))]
+    fn take(
+        &mut self,
+        limits: Limits,
+        store: &mut [u8],
+        lengths: &mut [u32],
+        bytes: &[u8],
+    ) -> Result<Receipt, Refusal>
+        requires { Lent limits self.old store.old lengths.old }
+        ensures { receive_after (record { input = self.new; received = result }) store.new lengths.new ≡ receive limits self.old bytes.now store.old lengths.old }
+    {
+        if self.peer_ended {
+            return Err(Refusal::Ended);
+        }
+        let length = limits.check_chunk(bytes.len())?;
+        self.window = self.window.charge(limits.input.cost(length))?;
+        if self.closed {
+            return Ok(Receipt::Late);
+        }
+        self.inbox = self.inbox.push(limits, store, lengths, bytes);
+        Ok(Receipt::Applied)
     }
 
     // Takes the end of the input from the peer.
     #[tactic(auto, unfolding(crate::specs::Input::end_input, crate::specs::Input::end_answer))]
-    pub fn end(self) -> Receiving
+    pub fn end(mut self) -> Receiving
         ensures { result ≡ input_ended self }
     {
         if self.peer_ended {
             return Receiving {
                 input: self,
-                received: Received::Refused(Refusal::Ended),
+                received: Err(Refusal::Ended),
             };
         }
-        let mut ended = self;
-        ended.peer_ended = true;
-        let input = ended.close_when_taken();
-        if self.closed {
-            return Receiving {
-                input,
-                received: Received::Receipt(Receipt::Late),
-            };
-        }
+        let receipt = if self.closed {
+            Receipt::Late
+        } else {
+            Receipt::Applied
+        };
+        self.peer_ended = true;
         Receiving {
-            input,
-            received: Received::Receipt(Receipt::Applied),
+            input: self.close_when_taken(),
+            received: Ok(receipt),
         }
     }
 
@@ -272,28 +200,22 @@ impl Input {
         if self.closed {
             return &store[0..0];
         }
-        let inbox = self.inbox;
-        inbox.front(limits, store)
+        self.inbox.front(limits, store)
     }
 
     // Notes how many of the waiting bytes the workload took, whose units are granted again.
     #[tactic(auto, unfolding(crate::specs::Input::written_input, crate::specs::Input::written_lengths, inbox::specs::Inbox::pop))]
-    pub fn written(self, limits: Limits, lengths: &mut [u32], count: usize) -> Input
+    pub fn written(mut self, limits: Limits, lengths: &mut [u32], count: usize) -> Input
         requires { Writable limits self lengths.old }
         ensures { written_after result lengths.new ≡ written limits self count lengths.old }
     {
         if self.closed {
             return self;
         }
-        let held = self.inbox;
-        let popping = held.pop(limits, lengths, count);
-        let window = self.window;
-        let granted = window.free(popping.freed);
-        let inbox = popping.inbox;
-        let mut input = self;
-        input.inbox = inbox;
-        input.window = granted;
-        input.close_when_taken()
+        let popping = self.inbox.pop(limits, lengths, count);
+        self.inbox = popping.inbox;
+        self.window = self.window.free(popping.freed);
+        self.close_when_taken()
     }
 
     // The message that the input closed was returned.

@@ -1,7 +1,5 @@
 -- The deadlines: what a termination and a detachment set, which comes first, and that those not reached wait on.
-use Rattle.std.specs.Prelude.{ℕ, ◌≡◌, refl, Bool, true, false, cond, ◌||◌}
-use Rattle.exec.specs.declared.Deadline.{Deadline}
-use Rattle.exec.specs.declared.Deadline.TheVariants.{Never}
+use Rattle.std.specs.Prelude.{ℕ, ◌≡◌, refl, Bool, true, false, cond, ◌||◌, Option, None}
 use Rattle.exec.specs.Time.{after, then, earliest, due}
 use Rattle.lifecycle.specs.declared.clocks.Clocks.{Clocks}
 use Rattle.lifecycle.specs.Setters.{set_grace_until, set_give_up_at}
@@ -9,7 +7,7 @@ use Rattle.lifecycle.specs.Setters.{set_grace_until, set_give_up_at}
 -- a termination: no timeout any more, the end of grace, and the time to give up after that
 abbrev pub terminate_clocks : Clocks → (now grace settlement : ℕ) → Clocks
 terminate_clocks c now grace settlement = record {
-  timeout_at = Never;
+  timeout_at = None;
   grace_until = after now grace;
   give_up_at = then (after now grace) settlement;
   abandon_at = c.abandon_at;
@@ -18,7 +16,7 @@ terminate_clocks c now grace settlement = record {
 
 -- neither the end of grace nor the time to give up is waited for
 abbrev pub stop_waiting : Clocks → Clocks
-stop_waiting c = set_grace_until Never (set_give_up_at Never c)
+stop_waiting c = set_grace_until None (set_give_up_at None c)
 
 -- the runner gives up a settlement time after now at the latest
 abbrev pub give_up_by : Clocks → (now settlement : ℕ) → Clocks
@@ -30,10 +28,10 @@ clocks_due c now =
     ((due c.timeout_at now || due c.grace_until now) || due c.give_up_at now) || due c.abandon_at now
 
 -- the first to fire, with the settlement's, and those of give-up and abandonment where they would still do anything
-abbrev pub first_of : Clocks → Deadline → (give_up abandon : Bool) → Deadline
+abbrev pub first_of : Clocks → Option ℕ → (give_up abandon : Bool) → Option ℕ
 first_of c settlement give_up abandon =
     earliest (earliest (earliest (earliest c.timeout_at c.grace_until) settlement)
-    (cond give_up c.give_up_at Never)) (cond abandon c.abandon_at Never)
+    (cond give_up c.give_up_at None)) (cond abandon c.abandon_at None)
 
 -- neither of two, where their disjunction fails
 left : (a b : Bool) → a || b ≡ false → a ≡ false

@@ -1,13 +1,9 @@
 -- Launch, exit and settling; the life that holds them, and what each event does to it.
-use Rattle.std.specs.Prelude.{ℕ, ◌≡◌, refl, Bool, true, false, cond}
+use Rattle.std.specs.Prelude.{ℕ, ◌≡◌, refl, Bool, true, false, cond, Option, Result, Some, None, Ok, Err}
 use Rattle.std.proofs.Common.{ap, sym}
+use Rattle.exec.specs.declared.LaunchFailure.{LaunchFailure}
+use Rattle.exec.specs.declared.Status.{Status}
 use Rattle.exec.specs.declared.Cause.{Cause}
-use Rattle.exec.specs.declared.Deadline.{Deadline}
-use Rattle.exec.specs.declared.Deadline.TheVariants.{Never}
-use Rattle.exec.specs.declared.LaunchResult.{LaunchResult}
-use Rattle.exec.specs.declared.MaybeCause.{MaybeCause}
-use Rattle.exec.specs.declared.MaybeLaunchFailure.{MaybeLaunchFailure}
-use Rattle.exec.specs.declared.MaybeStatus.{MaybeStatus}
 use Rattle.exec.specs.declared.Outcome.{Outcome}
 use Rattle.exec.specs.declared.Settlement.{Settlement}
 use Rattle.exec.specs.Time.{due}
@@ -20,31 +16,31 @@ use Rattle.lifecycle.specs.declared.life.Settling.TheVariants.{Idle, Requested, 
 use Rattle.lifecycle.specs.declared.life.Life.{Life}
 use Rattle.lifecycle.specs.Setters.{set_exit, set_settling}
 
-abbrev pub launch_of : LaunchResult → Launch
-launch_of LaunchResult.Started = Started
-launch_of (LaunchResult.Failed failure) = Failed failure
+abbrev pub launch_of : Result (Unit {0}) LaunchFailure → Launch
+launch_of (Ok tt) = Started
+launch_of (Err failure) = Failed failure
 
 abbrev pub launch_known : Launch → Bool
 launch_known Awaited = false
 launch_known Started = true
 launch_known (Failed failure) = true
 
-abbrev pub failure_of : Launch → MaybeLaunchFailure
-failure_of Awaited = MaybeLaunchFailure.None
-failure_of Started = MaybeLaunchFailure.None
-failure_of (Failed failure) = MaybeLaunchFailure.Some failure
+abbrev pub failure_of : Launch → Option LaunchFailure
+failure_of Awaited = None
+failure_of Started = None
+failure_of (Failed failure) = Some failure
 
 abbrev pub exit_known : Exit → Bool
 exit_known Running = false
 exit_known (Ended status) = true
 
-abbrev pub status_of : Exit → MaybeStatus
-status_of Running = MaybeStatus.None
+abbrev pub status_of : Exit → Option Status
+status_of Running = None
 status_of (Ended status) = status
 
 -- the status of an end that is not known is lost
 abbrev pub or_lost : Exit → Exit
-or_lost Running = Ended MaybeStatus.None
+or_lost Running = Ended None
 or_lost (Ended status) = Ended status
 
 abbrev pub is_fenced : Settling → Bool
@@ -94,15 +90,15 @@ settle_with (Requested by) Settlement.Failed = Fenced
 settle_with Settled result = Settled
 settle_with Fenced result = Fenced
 
-abbrev pub expected_by : Settling → Deadline
-expected_by Idle = Never
+abbrev pub expected_by : Settling → Option ℕ
+expected_by Idle = None
 expected_by (Requested by) = by
-expected_by Settled = Never
-expected_by Fenced = Never
+expected_by Settled = None
+expected_by Fenced = None
 
 -- the cause, while the workload runs
-abbrev pub cause_for : Exit → Cause → MaybeCause → MaybeCause
-cause_for Running cause old = MaybeCause.Some cause
+abbrev pub cause_for : Exit → Cause → Option Cause → Option Cause
+cause_for Running cause old = Some cause
 cause_for (Ended status) cause old = old
 
 abbrev pub end_for_at : Exit → Life → Cause → Life
@@ -119,11 +115,11 @@ abbrev pub end_for : Life → Cause → Life
 end_for l cause = end_for_at l.exit l cause
 
 -- a life whose end is known stays as it is
-pub end_known : (l : Life) (cause : Cause) (status : MaybeStatus) → l.exit ≡ Ended status → l ≡ end_for l cause
+pub end_known : (l : Life) (cause : Cause) (status : Option Status) → l.exit ≡ Ended status → l ≡ end_for l cause
 end_known l cause status h = ap (λ (x : Exit). end_for_at x l cause) (sym h)
 
 -- the workload ended, and its settlement is requested
-abbrev pub end_with : Life → MaybeStatus → Deadline → Life
+abbrev pub end_with : Life → Option Status → Option ℕ → Life
 end_with l status by = set_settling (Requested by) (set_exit (Ended status) l)
 
 -- a missing exit becomes one of no status, and the execution is fenced
@@ -136,7 +132,7 @@ terminate_taken l = record {
   launch = l.launch;
   exit = l.exit;
   cause = l.cause;
-  terminate_request = MaybeCause.None;
+  terminate_request = None;
   settling = l.settling;
 }
 

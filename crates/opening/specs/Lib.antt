@@ -6,3 +6,4 @@ pub mod Says
 pub mod Timeout
 pub mod Only
 pub mod Table
+pub mod Begins

@@ -1,9 +1,8 @@
 -- And no other line opens: what a line opens with, it says. So a field that is not read is 30.
-use Rattle.std.specs.Prelude.{Bool, true, false, cond, ◌&&◌, ◌≡◌, refl, List, [], ℕ, eqb, length, get_or}
+use Rattle.std.specs.Prelude.{Bool, true, false, cond, ◌&&◌, ◌≡◌, refl, List, [], ℕ, eqb, length, get_or, Option, Some, None}
 use Rattle.std.proofs.Common.{sym, ap, eqb-true, true≢false}
-use Rattle.std.proofs.Math.Option.{Option, none, some, some-injective, none-ne-some}
+use Rattle.std.proofs.lemmas.Option.{none-some, same_Some}
 use Rattle.exec.specs.declared.Limits.{Limits}
-use Rattle.exec.specs.declared.MaybeDuration.{MaybeDuration}
 use Rattle.exec.specs.declared.Timers.{Timers}
 use Rattle.exec.specs.declared.Unit as Units
 use Rattle.exec.specs.Key.{new_key}
@@ -15,78 +14,78 @@ use Rattle.opening.specs.Open.{Opening, at, timeout, is_open, open_of, opening_o
 use Rattle.opening.specs.Says.{Says}
 
 record Parts (now id generation : Option ℕ) (l : Option Limits) (t : Option Timers) (o : Opening) : Type 0 where
-  now_is : now ≡ some o.now
-  id_is : id ≡ some o.conf.key.id
-  generation_is : generation ≡ some o.conf.key.generation
-  limits_are : l ≡ some o.conf.limits
-  timers_are : t ≡ some o.conf.timers
+  now_is : now ≡ Some o.now
+  id_is : id ≡ Some o.conf.key.id
+  generation_is : generation ≡ Some o.conf.key.generation
+  limits_are : l ≡ Some o.conf.limits
+  timers_are : t ≡ Some o.conf.timers
 
 parts : (now id generation : Option ℕ) (l : Option Limits) (t : Option Timers) (o : Opening)
-    → (on now λ n. on id λ i. on generation λ g. on l λ k. on t λ x. some (record { conf = record { key = new_key i g; limits = k; timers = x }; now = n })) ≡ some o
+    → (on now λ n. on id λ i. on generation λ g. on l λ k. on t λ x. Some (record { conf = record { key = new_key i g; limits = k; timers = x }; now = n })) ≡ Some o
     → Parts now id generation l t o
-parts none id generation l t o e = absurd (none-ne-some o e)
-parts (some n) none generation l t o e = absurd (none-ne-some o e)
-parts (some n) (some i) none l t o e = absurd (none-ne-some o e)
-parts (some n) (some i) (some g) none t o e = absurd (none-ne-some o e)
-parts (some n) (some i) (some g) (some k) none o e = absurd (none-ne-some o e)
-parts (some n) (some i) (some g) (some k) (some x) o e =
-    let h = some-injective _ o e in
+parts None id generation l t o e = absurd (none-some o e)
+parts (Some n) None generation l t o e = absurd (none-some o e)
+parts (Some n) (Some i) None l t o e = absurd (none-some o e)
+parts (Some n) (Some i) (Some g) None t o e = absurd (none-some o e)
+parts (Some n) (Some i) (Some g) (Some k) None o e = absurd (none-some o e)
+parts (Some n) (Some i) (Some g) (Some k) (Some x) o e =
+    let h = same_Some _ o e in
     record {
-      now_is = ap (λ (o : Opening). some o.now) h;
-      id_is = ap (λ (o : Opening). some o.conf.key.id) h;
-      generation_is = ap (λ (o : Opening). some o.conf.key.generation) h;
-      limits_are = ap (λ (o : Opening). some o.conf.limits) h;
-      timers_are = ap (λ (o : Opening). some o.conf.timers) h;
+      now_is = ap (λ (o : Opening). Some o.now) h;
+      id_is = ap (λ (o : Opening). Some o.conf.key.id) h;
+      generation_is = ap (λ (o : Opening). Some o.conf.key.generation) h;
+      limits_are = ap (λ (o : Opening). Some o.conf.limits) h;
+      timers_are = ap (λ (o : Opening). Some o.conf.timers) h;
     }
 
 record Bounds (chunk : Option ℕ) (iu : Option Units.Unit) (is : Option ℕ) (ou : Option Units.Unit) (os : Option ℕ) (s : Option Bool) (l : Limits) : Type 0 where
-  chunk_is : chunk ≡ some l.chunk
-  input_unit_is : iu ≡ some l.input.unit
-  input_size_is : is ≡ some l.input.size
-  output_unit_is : ou ≡ some l.output.unit
-  output_size_is : os ≡ some l.output.size
-  shared_is : s ≡ some l.shared
+  chunk_is : chunk ≡ Some l.chunk
+  input_unit_is : iu ≡ Some l.input.unit
+  input_size_is : is ≡ Some l.input.size
+  output_unit_is : ou ≡ Some l.output.unit
+  output_size_is : os ≡ Some l.output.size
+  shared_is : s ≡ Some l.shared
 
 bounds : (chunk : Option ℕ) (iu : Option Units.Unit) (is : Option ℕ) (ou : Option Units.Unit) (os : Option ℕ) (s : Option Bool) (l : Limits)
-    → (on chunk λ c. on (on iu λ u. on is λ k. some (record { unit = u; size = k })) λ i. on (on ou λ u. on os λ k. some (record { unit = u; size = k })) λ o. on s λ b. some (limits_for c i o b)) ≡ some l
+    → (on chunk λ c. on (on iu λ u. on is λ k. Some (record { unit = u; size = k })) λ i. on (on ou λ u. on os λ k. Some (record { unit = u; size = k })) λ o. on s λ b. Some (limits_for c i o b)) ≡ Some l
     → Bounds chunk iu is ou os s l
-bounds none iu is ou os s l e = absurd (none-ne-some l e)
-bounds (some c) none is ou os s l e = absurd (none-ne-some l e)
-bounds (some c) (some u) none ou os s l e = absurd (none-ne-some l e)
-bounds (some c) (some u) (some k) none os s l e = absurd (none-ne-some l e)
-bounds (some c) (some u) (some k) (some v) none s l e = absurd (none-ne-some l e)
-bounds (some c) (some u) (some k) (some v) (some m) none l e = absurd (none-ne-some l e)
-bounds (some c) (some u) (some k) (some v) (some m) (some b) l e =
-    let h = some-injective _ l e in
+bounds None iu is ou os s l e = absurd (none-some l e)
+bounds (Some c) None is ou os s l e = absurd (none-some l e)
+bounds (Some c) (Some u) None ou os s l e = absurd (none-some l e)
+bounds (Some c) (Some u) (Some k) None os s l e = absurd (none-some l e)
+bounds (Some c) (Some u) (Some k) (Some v) None s l e = absurd (none-some l e)
+bounds (Some c) (Some u) (Some k) (Some v) (Some m) None l e = absurd (none-some l e)
+bounds (Some c) (Some u) (Some k) (Some v) (Some m) (Some b) l e =
+    let h = same_Some _ l e in
     record {
-      chunk_is = ap (λ (l : Limits). some l.chunk) h;
-      input_unit_is = ap (λ (l : Limits). some l.input.unit) h;
-      input_size_is = ap (λ (l : Limits). some l.input.size) h;
-      output_unit_is = ap (λ (l : Limits). some l.output.unit) h;
-      output_size_is = ap (λ (l : Limits). some l.output.size) h;
-      shared_is = ap (λ (l : Limits). some l.shared) h;
+      chunk_is = ap (λ (l : Limits). Some l.chunk) h;
+      input_unit_is = ap (λ (l : Limits). Some l.input.unit) h;
+      input_size_is = ap (λ (l : Limits). Some l.input.size) h;
+      output_unit_is = ap (λ (l : Limits). Some l.output.unit) h;
+      output_size_is = ap (λ (l : Limits). Some l.output.size) h;
+      shared_is = ap (λ (l : Limits). Some l.shared) h;
     }
 
-record Clocks (x : Option MaybeDuration) (y z : Option ℕ) (t : Timers) : Type 0 where
-  limit_is : x ≡ some t.timeout
-  grace_is : y ≡ some t.grace
-  settlement_is : z ≡ some t.settlement
+record Clocks (x : Option (Option ℕ)) (y z : Option ℕ) (t : Timers) : Type 0 where
+  limit_is : x ≡ Some t.timeout
+  grace_is : y ≡ Some t.grace
+  settlement_is : z ≡ Some t.settlement
 
-clocks : (x : Option MaybeDuration) (y z : Option ℕ) (t : Timers)
-    → (on x λ a. on y λ b. on z λ c. some (record { timeout = a; grace = b; settlement = c })) ≡ some t → Clocks x y z t
-clocks none y z t e = absurd (none-ne-some t e)
-clocks (some a) none z t e = absurd (none-ne-some t e)
-clocks (some a) (some b) none t e = absurd (none-ne-some t e)
-clocks (some a) (some b) (some c) t e =
-    let h = some-injective _ t e in
+clocks : (x : Option (Option ℕ)) (y z : Option ℕ) (t : Timers)
+    → (on x λ a. on y λ b. on z λ c. Some (record { timeout = a; grace = b; settlement = c })) ≡ Some t → Clocks x y z t
+clocks None y z t e = absurd (none-some t e)
+clocks (Some a) None z t e = absurd (none-some t e)
+clocks (Some a) (Some b) None t e = absurd (none-some t e)
+clocks (Some a) (Some b) (Some c) t e =
+    let h = same_Some _ t e in
     record {
-      limit_is = ap (λ (t : Timers). some t.timeout) h;
-      grace_is = ap (λ (t : Timers). some t.grace) h;
-      settlement_is = ap (λ (t : Timers). some t.settlement) h;
+      limit_is = ap (λ (t : Timers). Some t.timeout) h;
+      grace_is = ap (λ (t : Timers). Some t.grace) h;
+      settlement_is = ap (λ (t : Timers). Some t.settlement) h;
     }
 
 -- WHAT A LINE OPENS WITH, IT SAYS
-pub line_says : (line : List ℕ) (o : Opening) → line_open line ≡ some o → Says line o
+pub line_says : (line : List ℕ) (o : Opening) → line_open line ≡ Some o → Says line o
 unfolding is_open open_of opening_of limits_of timers_of
 line_says line o e =
     let b = by (is_open fs) refl e in
@@ -114,9 +113,9 @@ line_says line o e =
     fs : List (List ℕ)
     fs = fields line
 
-    by : (b : Bool) → is_open fs ≡ b → cond b (opening_of fs) none ≡ some o → (is_open fs ≡ true) × (opening_of fs ≡ some o)
+    by : (b : Bool) → is_open fs ≡ b → cond b (opening_of fs) None ≡ Some o → (is_open fs ≡ true) × (opening_of fs ≡ Some o)
     by true h e = (h, e)
-    by false h e = absurd (none-ne-some o e)
+    by false h e = absurd (none-some o e)
 
     named : (b : Bool) → eqb (length fs) 13 ≡ b → (b && same (get_or fs 0 []) (bytes "open")) ≡ true → (length fs ≡ 13) × (get_or fs 0 [] ≡ bytes "open")
     named true h e = (eqb-true (length fs) 13 h, same_is (get_or fs 0 []) (bytes "open") e)

@@ -1,7 +1,7 @@
 -- How long the texts of numbers are, and the first bytes of an area that has fewer.
 use Rattle.std.specs.Prelude.{◌≡◌, List, ℕ, suc, ◌+◌, ◌≤◌, ◌<◌, min, ℤ, pos, negsuc, length, take}
-use Rattle.std.proofs.Common.{sym, ap, ◌∙◌, arith, take_all, SFits}
-use Rattle.std.proofs.Math.Decide.{dec_lt}
+use Rattle.std.proofs.Common.{ap, ◌∙◌, arith, SFits}
+use Rattle.std.proofs.lemmas.List.{take_min}
 use Rattle.std.specs.Int.{w32}
 use Rattle.ring.specs.Runs.{copied}
 use Rattle.printing.specs.Written.{Wrote, wrote, same_text}
@@ -18,11 +18,7 @@ signed_most (negsuc n) f =
     omega (arith, count_most 9 (suc n) (omega arith))
 
 pub take_fewer : (k n : ℕ) (s : List ℕ) → k ≡ min n (length s) → take k s ≡ take n s
-take_fewer k n s h =
-    elim (dec_lt (length s) n) [
-      | yes l ↦ take_all k s (omega arith) ∙ sym (take_all n s (omega arith))
-      | no l ↦ let e : k ≡ n = omega arith in ap (λ (x : ℕ). take x s) e
-    ]
+take_fewer k n s h = ap (λ (x : ℕ). take x s) h ∙ take_min n s
 
 -- z written as y, which it is
 pub wrote_signed : {out then : List ℕ} {at to : ℕ} (y z : ℤ) → y ≡ z → SFits w32 z → then ≡ copied out at (signed_of y) 0 (length (signed_of y))

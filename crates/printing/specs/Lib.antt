@@ -1,3 +1,4 @@
 -- Texts written one behind the other, and how long they are.
 pub mod Written
 pub mod Lengths
+pub mod Adding

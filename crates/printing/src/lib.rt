@@ -1,302 +1,249 @@
 // The fields of an answer written as text into a lent area, and an answer's parts by their kinds.
 #![tactic(auto)]
 
-ghost use Rattle.std.specs.Prelude.{◌≡◌, [], ◌∷◌, ◌++◌, ◌+◌, ◌≤◌, length, take};
+ghost use Rattle.std.specs.Prelude.{◌≡◌, List, ℕ, [], ◌∷◌, ◌++◌, ◌+◌, ◌≤◌, length, take};
 ghost use Rattle.decimal.specs.Decimal.{digits_of, signed_of};
-ghost use Rattle.hexadecimal.specs.Hexadecimal.{hex_of};
 ghost use Rattle.syntax.specs.Words.{bytes, stream_name, cause_name};
 ghost use Rattle.syntax.specs.Answers.{
   dash,
+  or_dash,
   flag,
   status_text,
-  cause_text,
   failure_text,
   three,
   word,
-  counted,
   filled,
   outcome_text,
-  time_text,
 };
-ghost use Rattle.printing.specs.Written.{Wrote};
+ghost use Rattle.printing.specs.Adding.{IsWord, HasRoom, Adds, answer_most};
 
-use exec::{
-    Cause, Deadline, LaunchFailure, MaybeCause, MaybeLaunchFailure, MaybeStatus, Outcome, Status,
-    Stream,
-};
+use exec::{Cause, LaunchFailure, Outcome, Status, Stream};
 
-// ---- fields: each writes from index `at` on and returns the index behind what it wrote
+// ---- a text
 
-pub fn put_byte(b: u8, out: &mut [u8], at: usize) -> usize
-    requires { at + 1 ≤ length out.old }
-    ensures { Wrote 1 out.old out.new at result (b ∷ []) }
-{
-    out[at] = b;
-    at + 1
+// Text that is written into a lent area, each piece behind the one before it.
+#[derive(Drop)]
+pub struct Text<'a> {
+    pub area: &'a mut [u8],
+    // The index behind what is written.
+    pub end: usize,
 }
 
-pub fn put(word: &[u8], out: &mut [u8], at: usize) -> usize
-    requires { at + length word.now ≤ length out.old }
-    ensures { Wrote (length word.now) out.old out.new at result word.now }
-{
-    let n = word.len();
-    ring::copy_in(out, at, word, 0, n);
-    at + n
+// What can stand in a field of an answer. (No `Display`: a flag is 1 or 0 here and what is missing `-`, and it would answer a Result
+// that is always Ok, through a `dyn Write`.)
+pub trait Field: Copy {
+    ghost text: { Self → List ℕ };
+
+    // The most bytes that the text takes.
+    ghost most: { ℕ };
+
+    fn put(self, out: &mut Text<'_>)
+        requires { HasRoom most out.old }
+        ensures { Adds most out.old out.new (text self) };
 }
 
-pub fn wide(n: u32) -> u64
-    ensures { result ≡ n }
-{
-    n as u64
-}
-
-pub fn put_number(n: u64, out: &mut [u8], at: usize) -> usize
-    requires { at + 20 ≤ length out.old }
-    ensures { Wrote 20 out.old out.new at result (digits_of n) }
-{
-    decimal::write(n, out, at)
-}
-
-fn put_signed(n: i32, out: &mut [u8], at: usize) -> usize
-    requires { at + 21 ≤ length out.old }
-    ensures { Wrote 12 out.old out.new at result (signed_of n) }
-{
-    decimal::write_signed(n, out, at)
-}
-
-fn put_hex(bytes: &[u8], out: &mut [u8], at: usize) -> usize
-    requires { (length bytes.now ≤ 65536) × (at + 131072 ≤ length out.old) }
-    ensures { Wrote 131072 out.old out.new at result (hex_of bytes.now) }
-{
-    hexadecimal::write(bytes, out, at)
-}
-
-#[tactic(auto, unfolding(syntax::specs::Words::bytes))]
-fn put_flag(b: bool, out: &mut [u8], at: usize) -> usize
-    requires { at + 1 ≤ length out.old }
-    ensures { Wrote 1 out.old out.new at result (flag b) }
-{
-    if b {
-        return put_byte(49, out, at);
+impl Text<'_> {
+    pub fn put_byte(&mut self, b: u8)
+        requires { HasRoom 1 self.old }
+        ensures { Adds 1 self.old self.new (b ∷ []) }
+    {
+        self.area[self.end] = b;
+        self.end += 1;
     }
-    put_byte(48, out, at)
+
+    pub fn put(&mut self, bytes: &[u8])
+        requires { HasRoom (length bytes.now) self.old }
+        ensures { Adds (length bytes.now) self.old self.new bytes.now }
+    {
+        let n = bytes.len();
+        ring::copy_in(self.area, self.end, bytes, 0, n);
+        self.end += n;
+    }
+
+    // A mark of one byte, and a field behind it.
+    fn put_after<T: Field>(&mut self, mark: u8, field: T)
+        requires { HasRoom (T.most + 1) self.old }
+        ensures { Adds (T.most + 1) self.old self.new (mark ∷ T.text field) }
+    {
+        self.put_byte(mark);
+        field.put(self);
+    }
+
+    // ---- answers by their kind: a word, a number or a name, bytes
+
+    pub fn alone(&mut self, name: &[u8])
+        requires { IsWord name.now × HasRoom 16 self.old }
+        ensures { Adds 16 self.old self.new (word name.now) }
+    {
+        self.put(name);
+        self.put(b",-,-");
+    }
+
+    pub fn with<T: Field>(&mut self, name: &[u8], field: T)
+        requires { IsWord name.now × HasRoom (T.most + 15) self.old }
+        ensures { Adds (T.most + 15) self.old self.new (three name.now (T.text field) dash) }
+    {
+        self.put(name);
+        self.put_after(b',', field);
+        self.put(b",-");
+    }
+
+    // The first n bytes of work, or all of them where there are fewer.
+    pub fn with_first(&mut self, name: &[u8], n: usize, work: &[u8])
+        requires { IsWord name.now × (length work.now ≤ 65536) × HasRoom answer_most self.old }
+        ensures { Adds answer_most self.old self.new (filled name.now (take n work.now)) }
+    {
+        let bytes = &work[..n.min(work.len())];
+        self.put(name);
+        self.put_after(b',', bytes.len());
+        self.put_byte(b',');
+        self.end = hexadecimal::write(bytes, self.area, self.end);
+    }
+}
+
+// ---- fields
+
+impl Field for u64 {
+    ghost text = { digits_of };
+
+    ghost most = { 20 };
+
+    fn put(self, out: &mut Text<'_>) {
+        out.end = decimal::write(self, out.area, out.end);
+    }
+}
+
+impl Field for u32 {
+    ghost text = { digits_of };
+
+    ghost most = { 20 };
+
+    fn put(self, out: &mut Text<'_>) {
+        u64::from(self).put(out);
+    }
+}
+
+impl Field for usize {
+    ghost text = { digits_of };
+
+    ghost most = { 20 };
+
+    fn put(self, out: &mut Text<'_>) {
+        (self as u64).put(out);
+    }
+}
+
+impl Field for i32 {
+    ghost text = { signed_of };
+
+    // (As many as `write_signed` asks for.)
+    ghost most = { 21 };
+
+    fn put(self, out: &mut Text<'_>) {
+        out.end = decimal::write_signed(self, out.area, out.end);
+    }
 }
 
 #[tactic(auto, unfolding(syntax::specs::Words::bytes))]
-fn put_stream(stream: Stream, out: &mut [u8], at: usize) -> usize
-    requires { at + 6 ≤ length out.old }
-    ensures { Wrote 6 out.old out.new at result (stream_name stream) }
+impl Field for bool {
+    ghost text = { flag };
+
+    ghost most = { 1 };
+
+    fn put(self, out: &mut Text<'_>) {
+        out.put_byte(if self { b'1' } else { b'0' });
+    }
+}
+
+// A stream's name, which is a field and, with its bytes, a word.
+#[tactic(auto, unfolding(syntax::specs::Words::bytes))]
+pub fn name_of(stream: Stream) -> &'static [u8]
+    ensures { (result.now ≡ stream_name stream) × (length result.now ≤ 6) }
 {
     match stream {
-        Stream::Stdout => put(b"Stdout", out, at),
-        Stream::Stderr => put(b"Stderr", out, at),
+        Stream::Stdout => b"Stdout",
+        Stream::Stderr => b"Stderr",
+    }
+}
+
+impl Field for Stream {
+    ghost text = { stream_name };
+
+    ghost most = { 6 };
+
+    fn put(self, out: &mut Text<'_>) {
+        out.put(name_of(self));
     }
 }
 
 #[tactic(auto, unfolding(syntax::specs::Words::bytes))]
-fn put_cause(cause: Cause, out: &mut [u8], at: usize) -> usize
-    requires { at + 12 ≤ length out.old }
-    ensures { Wrote 12 out.old out.new at result (cause_name cause) }
-{
-    match cause {
-        Cause::Cancelled => put(b"Cancelled", out, at),
-        Cause::Dropped => put(b"Dropped", out, at),
-        Cause::TimedOut => put(b"TimedOut", out, at),
-        Cause::Reset => put(b"Reset", out, at),
-        Cause::Disconnected => put(b"Disconnected", out, at),
+impl Field for Cause {
+    ghost text = { cause_name };
+
+    ghost most = { 12 };
+
+    fn put(self, out: &mut Text<'_>) {
+        match self {
+            Cause::Cancelled => out.put(b"Cancelled"),
+            Cause::Dropped => out.put(b"Dropped"),
+            Cause::TimedOut => out.put(b"TimedOut"),
+            Cause::Reset => out.put(b"Reset"),
+            Cause::Disconnected => out.put(b"Disconnected"),
+        }
     }
 }
 
 #[tactic(auto, unfolding(syntax::specs::Words::bytes))]
-fn put_maybe_cause(cause: MaybeCause, out: &mut [u8], at: usize) -> usize
-    requires { at + 12 ≤ length out.old }
-    ensures { Wrote 12 out.old out.new at result (cause_text cause) }
-{
-    match cause {
-        MaybeCause::None => put_byte(45, out, at),
-        MaybeCause::Some(x) => put_cause(x, out, at),
+impl Field for Status {
+    ghost text = { status_text };
+
+    ghost most = { 22 };
+
+    fn put(self, out: &mut Text<'_>) {
+        match self {
+            Status::Exited(n) => out.put_after(b'E', n),
+            Status::Signaled(n) => out.put_after(b'S', n),
+        }
     }
 }
 
-// A letter, and a number behind it.
-fn put_lettered(letter: u8, n: i32, out: &mut [u8], at: usize) -> usize
-    requires { at + 22 ≤ length out.old }
-    ensures { Wrote 13 out.old out.new at result ((letter ∷ []) ++ signed_of n) }
-{
-    let m = put_byte(letter, out, at);
-    put_signed(n, out, m)
-}
+impl Field for LaunchFailure {
+    ghost text = { failure_text };
 
-#[tactic(auto, unfolding(syntax::specs::Words::bytes))]
-fn put_status(status: Status, out: &mut [u8], at: usize) -> usize
-    requires { at + 22 ≤ length out.old }
-    ensures { Wrote 13 out.old out.new at result (status_text (MaybeStatus.Some status)) }
-{
-    match status {
-        Status::Exited(n) => put_lettered(69, n, out, at),
-        Status::Signaled(n) => put_lettered(83, n, out, at),
+    ghost most = { 42 };
+
+    fn put(self, out: &mut Text<'_>) {
+        self.stage.put(out);
+        out.put_after(b'/', self.error);
     }
 }
 
 #[tactic(auto, unfolding(syntax::specs::Words::bytes))]
-fn put_maybe_status(status: MaybeStatus, out: &mut [u8], at: usize) -> usize
-    requires { at + 22 ≤ length out.old }
-    ensures { Wrote 13 out.old out.new at result (status_text status) }
-{
-    match status {
-        MaybeStatus::None => put_byte(45, out, at),
-        MaybeStatus::Some(x) => put_status(x, out, at),
+impl<T: Field> Field for Option<T> {
+    ghost text = { or_dash T.text };
+
+    ghost most = { T.most + 1 };
+
+    fn put(self, out: &mut Text<'_>) {
+        match self {
+            None => out.put_byte(b'-'),
+            Some(x) => x.put(out),
+        }
     }
 }
 
-fn put_failure(failure: LaunchFailure, out: &mut [u8], at: usize) -> usize
-    requires { at + 42 ≤ length out.old }
-    ensures { Wrote 33 out.old out.new at result (failure_text (MaybeLaunchFailure.Some failure)) }
-{
-    let m = put_number(wide(failure.stage), out, at);
-    let m2 = put_byte(47, out, m);
-    put_signed(failure.error, out, m2)
-}
+impl Field for Outcome {
+    ghost text = { outcome_text };
 
-#[tactic(auto, unfolding(syntax::specs::Words::bytes))]
-fn put_maybe_failure(failure: MaybeLaunchFailure, out: &mut [u8], at: usize) -> usize
-    requires { at + 42 ≤ length out.old }
-    ensures { Wrote 33 out.old out.new at result (failure_text failure) }
-{
-    match failure {
-        MaybeLaunchFailure::None => put_byte(45, out, at),
-        MaybeLaunchFailure::Some(x) => put_failure(x, out, at),
-    }
-}
+    ghost most = { 99 };
 
-// ---- answers by their kind: a word of at most 12 bytes, a number or a name, bytes
-
-pub fn alone(name: &[u8], out: &mut [u8], at: usize) -> usize
-    requires { (length name.now ≤ 12) × (at + 16 ≤ length out.old) }
-    ensures { Wrote 16 out.old out.new at result (word name.now) }
-{
-    let m = put(name, out, at);
-    put(b",-,-", out, m)
-}
-
-pub fn with_number(name: &[u8], n: u64, out: &mut [u8], at: usize) -> usize
-    requires { (length name.now ≤ 12) × (at + 35 ≤ length out.old) }
-    ensures { Wrote 35 out.old out.new at result (counted name.now n) }
-{
-    let m = put(name, out, at);
-    let m2 = put_byte(44, out, m);
-    let m3 = put_number(n, out, m2);
-    put(b",-", out, m3)
-}
-
-pub fn with_stream(name: &[u8], stream: Stream, out: &mut [u8], at: usize) -> usize
-    requires { (length name.now ≤ 12) × (at + 35 ≤ length out.old) }
-    ensures { Wrote 35 out.old out.new at result (three name.now (stream_name stream) dash) }
-{
-    let m = put(name, out, at);
-    let m2 = put_byte(44, out, m);
-    let m3 = put_stream(stream, out, m2);
-    put(b",-", out, m3)
-}
-
-pub fn with_cause(name: &[u8], cause: Cause, out: &mut [u8], at: usize) -> usize
-    requires { (length name.now ≤ 12) × (at + 35 ≤ length out.old) }
-    ensures { Wrote 35 out.old out.new at result (three name.now (cause_name cause) dash) }
-{
-    let m = put(name, out, at);
-    let m2 = put_byte(44, out, m);
-    let m3 = put_cause(cause, out, m2);
-    put(b",-", out, m3)
-}
-
-pub fn with_flag(name: &[u8], b: bool, out: &mut [u8], at: usize) -> usize
-    requires { (length name.now ≤ 12) × (at + 35 ≤ length out.old) }
-    ensures { Wrote 35 out.old out.new at result (three name.now (flag b) dash) }
-{
-    let m = put(name, out, at);
-    let m2 = put_byte(44, out, m);
-    let m3 = put_flag(b, out, m2);
-    put(b",-", out, m3)
-}
-
-fn with_bytes(name: &[u8], bytes: &[u8], out: &mut [u8], at: usize) -> usize
-    requires { (length name.now ≤ 12) × (length bytes.now ≤ 65536) × (at + 131106 ≤ length out.old) }
-    ensures { Wrote 131106 out.old out.new at result (filled name.now bytes.now) }
-{
-    let m = put(name, out, at);
-    let m2 = put_byte(44, out, m);
-    let m3 = put_number(bytes.len() as u64, out, m2);
-    let m4 = put_byte(44, out, m3);
-    put_hex(bytes, out, m4)
-}
-
-// The first n bytes of work, or all of them where there are fewer.
-pub fn with_first(name: &[u8], n: usize, work: &[u8], out: &mut [u8], at: usize) -> usize
-    requires { (length name.now ≤ 12) × (length work.now ≤ 65536) × (at + 131106 ≤ length out.old) }
-    ensures { Wrote 131106 out.old out.new at result (filled name.now (take n work.now)) }
-{
-    let k = ring::smaller(n, work.len());
-    with_bytes(name, &work[0..k], out, at)
-}
-
-#[tactic(auto, unfolding(syntax::specs::Words::bytes))]
-pub fn put_output(stream: Stream, n: usize, work: &[u8], out: &mut [u8], at: usize) -> usize
-    requires { (length work.now ≤ 65536) × (at + 131106 ≤ length out.old) }
-    ensures { Wrote 131106 out.old out.new at result (filled (stream_name stream) (take n work.now)) }
-{
-    match stream {
-        Stream::Stdout => with_first(b"Stdout", n, work, out, at),
-        Stream::Stderr => with_first(b"Stderr", n, work, out, at),
-    }
-}
-
-// ---- a terminal outcome, in three parts
-
-fn put_ended(outcome: Outcome, out: &mut [u8], at: usize) -> usize
-    requires { at + 60 ≤ length out.old }
-    ensures { Wrote 39 out.old out.new at result
-        (word (bytes "Terminal") ++ bytes "," ++ status_text outcome.status ++ bytes "," ++ cause_text outcome.cause) }
-{
-    let status = outcome.status;
-    let cause = outcome.cause;
-    let m = put(b"Terminal,-,-,", out, at);
-    let m2 = put_maybe_status(status, out, m);
-    let m3 = put_byte(44, out, m2);
-    put_maybe_cause(cause, out, m3)
-}
-
-fn put_flags(outcome: Outcome, out: &mut [u8], at: usize) -> usize
-    requires { at + 4 ≤ length out.old }
-    ensures { Wrote 4 out.old out.new at result
-        (flag outcome.stdout_truncated ++ flag outcome.stderr_truncated ++ bytes "," ++ flag outcome.reusable) }
-{
-    let m = put_flag(outcome.stdout_truncated, out, at);
-    let m2 = put_flag(outcome.stderr_truncated, out, m);
-    let m3 = put_byte(44, out, m2);
-    put_flag(outcome.reusable, out, m3)
-}
-
-pub fn put_outcome(outcome: Outcome, out: &mut [u8], at: usize) -> usize
-    requires { at + 131106 ≤ length out.old }
-    ensures { Wrote 131106 out.old out.new at result (outcome_text outcome) }
-{
-    let failure = outcome.launch_failure;
-    let m = put_ended(outcome, out, at);
-    let m2 = put_byte(44, out, m);
-    let m3 = put_maybe_failure(failure, out, m2);
-    let m4 = put_byte(44, out, m3);
-    put_flags(outcome, out, m4)
-}
-
-// ---- a deadline
-
-#[tactic(auto, unfolding(syntax::specs::Words::bytes))]
-pub fn put_time(time: Deadline, out: &mut [u8], at: usize) -> usize
-    requires { at + 131106 ≤ length out.old }
-    ensures { Wrote 131106 out.old out.new at result (time_text time) }
-{
-    match time {
-        Deadline::Never => alone(b"none", out, at),
-        Deadline::At(t) => with_number(b"value", t, out, at),
+    fn put(self, out: &mut Text<'_>) {
+        out.put(b"Terminal,-,-");
+        out.put_after(b',', self.status);
+        out.put_after(b',', self.cause);
+        out.put_after(b',', self.launch_failure);
+        out.put_after(b',', self.stdout_truncated);
+        self.stderr_truncated.put(out);
+        out.put_after(b',', self.reusable);
     }
 }

@@ -1,98 +1,57 @@
--- A field looked up among names: its place among them, and what a table has at that place.
-use Rattle.std.specs.Prelude.{Bool, true, false, cond, ◌≡◌, refl, ℕ, zero, suc, ◌≤◌, take, drop}
-use Rattle.std.proofs.Math.Path.{sym}
-use Rattle.std.proofs.Common.{ap, ◌∙◌, arith}
-use mathlib.Core.List.{List, [], ◌∷◌}
-use Rattle.std.proofs.Math.Option.{Option, none, some, map}
+-- A field looked up in a table of names and what they stand for.
+use Rattle.std.specs.Prelude.{Bool, true, false, cond, ◌≡◌, refl, ℕ, List, [], ◌∷◌, eqb, map, Some, option_map}
+use Rattle.std.specs.Cmp.Lexicographic.{pointwise}
+use Rattle.std.specs.List as Lists
+use denote.Ref.{Bor}
 use Rattle.syntax.specs.Words.{same, named}
-use Rattle.syntax.specs.Lines.{Entry, find, on, calls1}
-use Rattle.calls.specs.Call.{Call}
+use Rattle.syntax.specs.Lines.{Entry, entry, find}
 
--- the place of what `named` finds; how many there are where it finds none
-unfoldable pub place_named : {A : Type 0} → (A → List ℕ) → List A → (field : List ℕ) → ℕ
-place_named name [] field = 0
-place_named name (x ∷ xs) field = cond (same field (name x)) 0 (suc (place_named name xs field))
+-- the table as the code holds it
+abbrev pub entries : {A : Type 0} → List (Bor (List ℕ) × A) → List (Entry A)
+entries table = map (λ e. entry e.0.now e.1) table
 
-abbrev pub place_among : (field : List ℕ) → List (List ℕ) → ℕ
-place_among field names = place_named (λ t. t) names field
+-- `==` of two texts
+pub same_pointwise : (s t : List ℕ) → pointwise eqb s t ≡ same s t
+unfolding same
+same_pointwise [] [] = refl
+same_pointwise [] (c ∷ t) = refl
+same_pointwise (b ∷ s) [] = refl
+same_pointwise (b ∷ s) (c ∷ t) = rw (same_pointwise s t) refl
 
--- what stands at a place of a list, or else behind the list
-unfoldable pub stands_at : {A : Type 0} → List A → ℕ → Option A → Option A
-stands_at [] k rest = rest
-stands_at (x ∷ xs) zero rest = some x
-stands_at (x ∷ xs) (suc k) rest = stands_at xs k rest
-
--- the last arm of a `match` on the place knows that it is none of the first n
-unfoldable pub Beyond : ℕ → ℕ → Type 0
-Beyond r zero = Unit {0}
-Beyond r (suc n) = Beyond r n × (r ≡ n → ⊥)
-
-beyond : (r n : ℕ) → Beyond r n → n ≤ r
-unfolding Beyond
-beyond r zero h = omega arith
-beyond r (suc n) h = let l = beyond r n h.0 in let e = h.1 in omega arith
-
-stands_rest : {A : Type 0} (xs : List A) (n k : ℕ) (rest : Option A) → n ≤ k → stands_at (take n xs) k rest ≡ rest
-unfolding stands_at
-stands_rest [] zero k rest h = refl
-stands_rest [] (suc n) k rest h = refl
-stands_rest (x ∷ xs) zero k rest h = refl
-stands_rest (x ∷ xs) (suc n) zero rest h = absurd (omega arith)
-stands_rest (x ∷ xs) (suc n) (suc k) rest h = stands_rest xs n k rest (omega arith)
-
--- n names of a table are looked at, and then what is left of it
-named_place : {A : Type 0} (name : A → List ℕ) (xs : List A) (field : List ℕ) (n : ℕ)
-    → stands_at (take n xs) (place_named name (take n xs) field) (named name (drop n xs) field) ≡ named name xs field
-unfolding named place_named stands_at
-named_place name [] field zero = refl
-named_place name [] field (suc n) = refl
-named_place name (x ∷ xs) field zero = refl
-named_place name (x ∷ xs) field (suc n) = by (same field (name x)) (named_place name xs field n)
+-- the first entry that has the name, and what it stands for
+pub find_entries : {A : Type 0} (field : List ℕ) (table : List (Bor (List ℕ) × A))
+    → option_map (λ e. e.1) (Lists.find (λ e. pointwise eqb field e.0.now) table) ≡ find field (entries table)
+unfolding find
+find_entries field [] = refl
+find_entries field (e ∷ t) = rw (same_pointwise field e.0.now) (by (same field e.0.now) (find_entries field t))
   where
-    by : (b : Bool) → stands_at (take n xs) (place_named name (take n xs) field) (named name (drop n xs) field) ≡ named name xs field
-        → stands_at (x ∷ take n xs) (cond b 0 (suc (place_named name (take n xs) field))) (named name (drop n xs) field) ≡ cond b (some x) (named name xs field)
+    by : (b : Bool) → option_map (λ e. e.1) (Lists.find (λ e. pointwise eqb field e.0.now) t) ≡ find field (entries t)
+        → option_map (λ e. e.1) (cond b (Some e) (Lists.find (λ e. pointwise eqb field e.0.now) t)) ≡ cond b (Some e.1) (find field (entries t))
     by true h = refl
     by false h = h
 
-module _ {A : Type 0} (name : A → List ℕ) (xs : List A) (field : List ℕ) {r : ℕ} (n : ℕ) where
-  pub named_at : (k : ℕ) → r ≡ place_named name (take n xs) field → r ≡ k → stands_at (take n xs) k (named name (drop n xs) field) ≡ named name xs field
-  named_at k p e = ap (λ (i : ℕ). stands_at (take n xs) i (named name (drop n xs) field)) (sym e ∙ p) ∙ named_place name xs field n
+-- what stands for something else, entry by entry
+abbrev pub map_calls : {A B : Type 0} → (A → B) → List (Entry A) → List (Entry B)
+map_calls f es = map (λ e. entry e.name (f e.call)) es
 
-  named_rest : r ≡ place_named name (take n xs) field → Beyond r n → named name (drop n xs) field ≡ named name xs field
-  named_rest p h = sym (stands_rest xs n r (named name (drop n xs) field) (beyond r n h)) ∙ named_at r p refl
-
-  pub named_none : r ≡ place_named name (take n xs) field → Beyond r n → drop n xs ≡ [] → none ≡ named name xs field
-  unfolding named
-  named_none p h e = sym (ap (λ (ys : List A). named name ys field) e) ∙ named_rest p h
+pub find_map : {A B : Type 0} (f : A → B) (field : List ℕ) (es : List (Entry A))
+    → option_map f (find field es) ≡ find field (map_calls f es)
+unfolding find
+find_map f field [] = refl
+find_map f field (e ∷ es) = by (same field e.name) (find_map f field es)
+  where
+    by : (b : Bool) → option_map f (find field es) ≡ find field (map_calls f es)
+        → option_map f (cond b (Some e.call) (find field es)) ≡ cond b (Some (f e.call)) (find field (map_calls f es))
+    by true h = refl
+    by false h = h
 
 -- a table of calls is a table of names
-find_named : {A : Type 0} (field : List ℕ) (es : List (Entry A)) → map (λ e. e.call) (named (λ e. e.name) es field) ≡ find field es
+pub find_named : {A : Type 0} (field : List ℕ) (es : List (Entry A)) → option_map (λ e. e.call) (named (λ e. e.name) es field) ≡ find field es
 unfolding find named
 find_named field [] = refl
 find_named field (e ∷ es) = by (same field e.name) (find_named field es)
   where
-    by : (b : Bool) → map (λ e. e.call) (named (λ e. e.name) es field) ≡ find field es
-        → map (λ e. e.call) (cond b (some e) (named (λ e. e.name) es field)) ≡ cond b (some e.call) (find field es)
+    by : (b : Bool) → option_map (λ e. e.call) (named (λ e. e.name) es field) ≡ find field es
+        → option_map (λ e. e.call) (cond b (Some e) (named (λ e. e.name) es field)) ≡ cond b (Some e.call) (find field es)
     by true h = refl
     by false h = h
-
-module _ {A : Type 0} (field : List ℕ) (es : List (Entry A)) {r : ℕ} (n : ℕ) where
-  pub find_at : (k : ℕ) → r ≡ place_named (λ e. e.name) (take n es) field → r ≡ k
-      → map (λ e. e.call) (stands_at (take n es) k (named (λ e. e.name) (drop n es) field)) ≡ find field es
-  find_at k p e = ap (map (λ (e : Entry A). e.call)) (named_at (λ e. e.name) es field n k p e) ∙ find_named field es
-
-  pub find_rest : r ≡ place_named (λ e. e.name) (take n es) field → Beyond r n → find field (drop n es) ≡ find field es
-  find_rest p h =
-      sym (find_named field (drop n es)) ∙ ap (map (λ (e : Entry A). e.call)) (named_rest (λ e. e.name) es field n p h) ∙ find_named field es
-
-  pub find_none : r ≡ place_named (λ e. e.name) (take n es) field → Beyond r n → drop n es ≡ [] → none ≡ find field es
-  unfolding find
-  find_none p h e = sym (ap (λ (ys : List (Entry A)). find field ys) e) ∙ find_rest p h
-
--- a call with one argument, by what is left of its table
-unfoldable pub call1_from : ℕ → (name a : List ℕ) → Option Call
-call1_from n name a = on (find name (drop n calls1)) λ f. f a
-
-pub made1 : (n : ℕ) (name a : List ℕ) (o : Option (List ℕ → Option Call)) → o ≡ find name (drop n calls1) → on o (λ f. f a) ≡ call1_from n name a
-unfolding call1_from
-made1 n name a o h = ap (λ (o : Option (List ℕ → Option Call)). on o λ f. f a) h

@@ -1,6 +1,6 @@
 // A session on channel 5, of small windows: records both ways, the refusals of a record, and the end of the session.
 use crate::step::{begin, channel, ended, output, read, read_all, taken, write};
-use exec::{MaybeStatus, Status};
+use exec::Status;
 use runner::runner::Runner;
 use std::io;
 use std::io::Write;
@@ -45,7 +45,7 @@ fn tell_late(to: &mut impl Write, runner: Runner, store: &[u8]) -> io::Result<Ru
     tell(to, waiting, store)
 }
 
-// The end of the input, and what is refused, each behind its length: an empty record; kind 98, which a runner writes and does
+// The end of the input, and what is refused, one after the other: an empty record; kind 98, which a runner writes and does
 // not read; data cut short; data whose length counts the header too; data for channel 6; extended data of type 2, and of type 1,
 // which is not for a runner to read; data after the end; a grant of no units; a 98 for channel 6, of which the kind is met first.
 fn refuse(to: &mut impl Write, runner: Runner, store: &mut [u8]) -> io::Result<Runner> {
@@ -53,23 +53,25 @@ fn refuse(to: &mut impl Write, runner: Runner, store: &mut [u8]) -> io::Result<R
         to,
         runner,
         5,
-        b"\x05\x60\x00\x00\x00\x05\
-        \x00\
-        \x05\x62\x00\x00\x00\x05\
-        \x0a\x5e\x00\x00\x00\x05\x00\x00\x00\x02h\
-        \x0b\x5e\x00\x00\x00\x05\x00\x00\x00\x0bhi\
-        \x0b\x5e\x00\x00\x00\x06\x00\x00\x00\x02hi\
-        \x0f\x5f\x00\x00\x00\x05\x00\x00\x00\x02\x00\x00\x00\x02hi\
-        \x0f\x5f\x00\x00\x00\x05\x00\x00\x00\x01\x00\x00\x00\x02hi\
-        \x0b\x5e\x00\x00\x00\x05\x00\x00\x00\x02hi\
-        \x09\x5d\x00\x00\x00\x05\x00\x00\x00\x00\
-        \x05\x62\x00\x00\x00\x06",
+        &[
+            b"\x60\x00\x00\x00\x05",
+            b"",
+            b"\x62\x00\x00\x00\x05",
+            b"\x5e\x00\x00\x00\x05\x00\x00\x00\x02h",
+            b"\x5e\x00\x00\x00\x05\x00\x00\x00\x0bhi",
+            b"\x5e\x00\x00\x00\x06\x00\x00\x00\x02hi",
+            b"\x5f\x00\x00\x00\x05\x00\x00\x00\x02\x00\x00\x00\x02hi",
+            b"\x5f\x00\x00\x00\x05\x00\x00\x00\x01\x00\x00\x00\x02hi",
+            b"\x5e\x00\x00\x00\x05\x00\x00\x00\x02hi",
+            b"\x5d\x00\x00\x00\x05\x00\x00\x00\x00",
+            b"\x62\x00\x00\x00\x06",
+        ],
         store,
     )
 }
 
 fn close(to: &mut impl Write, runner: Runner, store: &mut [u8]) -> io::Result<()> {
-    let done = ended(to, runner, MaybeStatus::Some(Status::Exited(0)))?;
+    let done = ended(to, runner, Some(Status::Exited(0)))?;
     let told = tell(to, done, store)?;
     read(to, told, 5, b"\x61\x00\x00\x00\x05", store)?;
     Ok(())

@@ -1,7 +1,7 @@
 // A session between OpenSSH's client and its server, `printf ab | ssh .. 'cat; printf bad >&2'`: the runner reads the records
 // that the client sent (channel 2), and writes those that the server did (channel 1). Both are in oracle/openssh/records.txt.
 use crate::step::{begin, channel, ended, output, read, read_all, taken, write};
-use exec::{MaybeStatus, Status};
+use exec::Status;
 use runner::runner::Runner;
 use std::io;
 use std::io::Write;
@@ -46,8 +46,10 @@ fn hear(to: &mut impl Write, runner: Runner, store: &mut [u8]) -> io::Result<Run
         to,
         runner,
         2,
-        b"\x0b\x5e\x00\x00\x00\x02\x00\x00\x00\x02ab\
-        \x05\x60\x00\x00\x00\x02",
+        &[
+            b"\x5e\x00\x00\x00\x02\x00\x00\x00\x02ab",
+            b"\x60\x00\x00\x00\x02",
+        ],
         store,
     )?;
     taken(to, heard, store)
@@ -55,7 +57,7 @@ fn hear(to: &mut impl Write, runner: Runner, store: &mut [u8]) -> io::Result<Run
 
 // The Terminal's two records are the server's own: the 98 that tells the status, and the 97.
 fn close(to: &mut impl Write, runner: Runner, store: &mut [u8]) -> io::Result<()> {
-    let done = ended(to, runner, MaybeStatus::Some(Status::Exited(0)))?;
+    let done = ended(to, runner, Some(Status::Exited(0)))?;
     let told = tell(to, done, store)?;
     read(to, told, 2, b"\x61\x00\x00\x00\x02", store)?;
     Ok(())

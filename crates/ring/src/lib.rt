@@ -12,7 +12,7 @@ ghost use Rattle.ring.specs.Frames.{popped, stop};
 pub fn smaller(a: usize, b: usize) -> usize
     ensures { result ≡ min a b }
 {
-    if a < b { a } else { b }
+    a.min(b)
 }
 
 // The place n further on than `start`: past the end of the area it goes on from the area's start. (No sum of the two: an area
@@ -26,58 +26,15 @@ pub fn advance(size: usize, start: usize, n: usize) -> usize
     if n < run { start + n } else { n - run }
 }
 
-// A copy of fewer bytes goes by one plain loop, which is the quickest for them.
-const FEW: usize = 256;
-
-// A longer one goes by blocks of so many.
-const BLOCK: usize = 4096;
-
-// What copy_in does, by one plain loop.
-fn copy_run(dst: &mut [u8], at: usize, src: &[u8], from: usize, n: usize)
-    requires { (at + n ≤ length dst.old) × (from + n ≤ length src.now) }
-    ensures { dst.new ≡ copied dst.old at src.now from n }
-{
-    let mut j = 0;
-    while j < n {
-        dst[at + j] = src[from + j];
-        j += 1;
-    }
-}
-
-// What copy_in does, for a block at most, by way of a local array. The compiler cannot know that dst and src are apart, but it
-// knows the array apart from both: so it makes one memmove of the two loops, and drops the array.
-#[tactic(auto, using(crate::specs::Lent::copied_through))]
-fn copy_block(dst: &mut [u8], at: usize, src: &[u8], from: usize, n: usize)
-    requires { (n ≤ 4096) × (at + n ≤ length dst.old) × (from + n ≤ length src.now) }
-    ensures { dst.new ≡ copied dst.old at src.now from n }
-{
-    let mut block = [0; BLOCK];
-    copy_run(&mut block, 0, src, from, n);
-    copy_run(dst, at, &block, 0, n);
-}
-
-// What copy_in does, block by block.
-fn copy_blocks(dst: &mut [u8], at: usize, src: &[u8], from: usize, n: usize)
-    requires { (at + n ≤ length dst.old) × (from + n ≤ length src.now) }
-    ensures { dst.new ≡ copied dst.old at src.now from n }
-{
-    let mut done = 0;
-    while done < n {
-        let k = smaller(n - done, BLOCK);
-        copy_block(dst, at + done, src, from + done, k);
-        done += k;
-    }
-}
-
 // Copies n bytes of src, from index `from`, into dst from index `at`. The rest of dst is kept.
+#[tactic(auto, using(crate::specs::Runs::copied_zero), unfolding(crate::specs::Runs::copied))]
 pub fn copy_in(dst: &mut [u8], at: usize, src: &[u8], from: usize, n: usize)
     requires { (at + n ≤ length dst.old) × (from + n ≤ length src.now) }
     ensures { dst.new ≡ copied dst.old at src.now from n }
 {
-    if n < FEW {
-        copy_run(dst, at, src, from, n);
-    } else {
-        copy_blocks(dst, at, src, from, n);
+    // A ring's second run is mostly empty: no call for that.
+    if n != 0 {
+        dst[at..at + n].copy_from_slice(&src[from..from + n]);
     }
 }
 
@@ -102,6 +59,7 @@ pub fn push(
 }
 
 // Writes the ring's first n bytes to the first n of buffer, and nothing else. The ring's start is the caller's to move.
+#[tactic(auto, using(crate::specs::RingLaws::read_copied))]
 pub fn take(store: &[u8], base: usize, size: usize, start: usize, n: usize, buffer: &mut [u8])
     requires { (base + size ≤ length store.now) × (start ≤ size) × (n ≤ size) × (n ≤ length buffer.old) }
     ensures { buffer.new ≡ ring_read base size start n store.now ++ drop n buffer.old }

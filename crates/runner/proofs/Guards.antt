@@ -1,9 +1,11 @@
 -- What a call meets, by the two halves of the code's own test, and what is so of one that meets nothing.
 use Rattle.std.proofs.Common.{◌≡◌, refl, sym, ◌∙◌, cond, ◌&&◌, Bool, true, false, ℕ, ◌≤◌, List, length, leb-true}
 use Rattle.std.proofs.lemmas.Bool.{false≢true, not-true}
+use Rattle.std.specs.Prelude.{Result, Ok, Err}
+use Rattle.exec.specs.declared.Admission.TheVariants.{Own, Stale}
 use Rattle.exec.specs.declared.Admission.{Admission}
+use Rattle.exec.specs.declared.Refusal.{Refusal}
 use Rattle.exec.specs.declared.Key.{Key}
-use Rattle.exec.specs.declared.Reply.TheVariants as Reply
 use Rattle.exec.specs.Key.{admits}
 use Rattle.inbox.specs.Need.{byte_need, length_need}
 use Rattle.inbox.specs.RangeLaws.{both}
@@ -12,9 +14,13 @@ use Rattle.runner.specs.Range.{bytes_do, lengths_do, stop}
 use Rattle.runner.specs.RangeLaws.{InRange, Good, is_good_lem, stop_if, stopped, stands, agrees, tested, goes}
 use Rattle.runner.specs.Streams.{is_taken}
 
-pub tested_stop : (r : Runner) (stores : Bool) → stop r stores ≡ cond (agrees r stores && stands r) Reply.Ok (Reply.Refused (stopped r))
+pub tested_stop : (r : Runner) (stores : Bool) → stop r stores ≡ cond (agrees r stores && stands r) (Ok tt) (Err (stopped r))
 unfolding stop_if
 tested_stop r stores = tested r {stores = stores} {found = stores} refl refl refl
+
+-- what was admitted, with a byte store
+pub admitted_bytes : (r : Runner) (store : List ℕ) (found : Bool) → found ≡ bytes_do r.limits store → stop r found ≡ Ok tt → InRange r × (byte_need r.limits ≤ length store)
+admitted_bytes r store found hf h = let g = is_good_lem r found h in (g.range, leb-true (byte_need r.limits) (length store) (sym hf ∙ g.stores_do))
 
 -- by what the code tested, where found is whether the stores do
 module _ (r : Runner) {found s a : Bool} (hs : s ≡ stands r) (ha : a ≡ agrees r found) (h : (a && s) ≡ true) where
@@ -44,7 +50,7 @@ is_in_range r hs ha h = (passed r hs ha h true refl).range
 -- a message that does something: the call is not refused, the key is the execution's own, and the outcome was not returned
 pub record Heard (r : Runner) (k : Key) (g : Bool) : Type 0 where
   pub good : g ≡ true
-  pub own : admits r.key k ≡ Admission.Own
+  pub own : admits r.key k ≡ Ok Own
   pub goes_on : r.flags.finished ≡ false
 
 pub heard : (r : Runner) (k : Key) (good h : Bool) → h ≡ (good && is_taken (admits r.key k) r) → h ≡ true → Heard r k good
@@ -53,7 +59,7 @@ heard r k good h e t =
     let p = by (admits r.key k) b.1 in
     record { good = b.0; own = p.0; goes_on = p.1 }
   where
-    by : (a : Admission) → is_taken a r ≡ true → (a ≡ Admission.Own) × (r.flags.finished ≡ false)
-    by Admission.Own t = (refl, not-true r.flags.finished t)
-    by Admission.Stale t = absurd (false≢true t)
-    by (Admission.Refused x) t = absurd (false≢true t)
+    by : (a : Result Admission Refusal) → is_taken a r ≡ true → (a ≡ Ok Own) × (r.flags.finished ≡ false)
+    by (Ok Own) t = (refl, not-true r.flags.finished t)
+    by (Ok Stale) t = absurd (false≢true t)
+    by (Err x) t = absurd (false≢true t)

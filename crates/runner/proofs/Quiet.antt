@@ -1,9 +1,8 @@
 -- A tick with nothing due changes nothing, and any other fires the timers, which leave some parts of the runner in their place.
 use Rattle.std.proofs.Common.{◌≡◌, refl, sym, ◌∙◌, ap, ℕ, arith, Bool, true, false, cond, ◌&&◌, ◌||◌}
-use Rattle.std.specs.Prelude.{not}
+use Rattle.std.specs.Prelude.{not, None}
 use Rattle.exec.specs.declared.Cause.{Cause}
 use Rattle.exec.specs.declared.Cause.TheVariants.{TimedOut}
-use Rattle.exec.specs.declared.Deadline.TheVariants.{Never}
 use Rattle.exec.specs.Time.{due}
 use Rattle.lifecycle.specs.Clocks.{clocks_due, timeout_waits, grace_waits, give_up_waits, abandon_waits}
 use Rattle.lifecycle.specs.Life.{settling_late, expired_in_time, is_fenced}
@@ -109,7 +108,7 @@ module _ (r : Runner) where
 
   in_give_up : in_place (give_up_unless_clean r) r ≡ give_up_unless_clean r
   unfolding give_up_unless_clean give_up
-  in_give_up = one_of (is_cleaned_up r) r (with_clocks (set_give_up_at Never r.clocks) r) (give_up r) refl refl
+  in_give_up = one_of (is_cleaned_up r) r (with_clocks (set_give_up_at None r.clocks) r) (give_up r) refl refl
 
 in_begin : (r : Runner) (now : ℕ) (c : Cause) → in_place (begin_termination r now c) r ≡ begin_termination r now c
 unfolding begin_termination
@@ -125,7 +124,7 @@ module _ (r : Runner) (now : ℕ) where
   in_timeout : in_place (pass_timeout r now) r ≡ pass_timeout r now
   unfolding pass_timeout
   in_timeout =
-      let t = with_clocks (set_timeout_at Never r.clocks) r in
+      let t = with_clocks (set_timeout_at None r.clocks) r in
       one_of (due r.clocks.timeout_at now) r (terminate t now TimedOut) r (then r t (terminate t now TimedOut) refl (in_end t now TimedOut)) refl
 
   in_settlement : in_place (pass_settlement r now) r ≡ pass_settlement r now

@@ -1,9 +1,11 @@
 -- What next_message says, and what it leaves, by whether it meets a refusal.
 use Rattle.std.proofs.Common.{◌≡◌, refl, ap, Bool, true, false, ℕ, ◌≤◌, List, length}
 use Rattle.std.proofs.lemmas.Bool.{false≢true}
+use Rattle.std.specs.Prelude.{Option, Result}
+use Rattle.runner.specs.declared.answer.Message.{Message}
+use Rattle.exec.specs.declared.Refusal.{Refusal}
 use Rattle.inbox.specs.Need.{byte_need}
 use Rattle.choice.specs.declared.Choice.{Choice}
-use Rattle.runner.specs.declared.answer.Said.{Said}
 use Rattle.runner.specs.declared.runner.Runner.{Runner}
 use Rattle.runner.specs.Calls.{message_by, next_message}
 use Rattle.runner.specs.Message.{choose, choice_of, answer_of, effect, buffer_after, message_after, SayAfter, say_after, say}
@@ -20,7 +22,7 @@ module _ (r : Runner) (store buffer : List ℕ) (good : Bool) (c : Choice) (hc :
       by true h s = let p = h refl in (p.0, p.1, refl)
       by false h s = absurd (false≢true s)
 
-  pub message_is : (r' : Runner) (s : Said) (buffer' : List ℕ) → stop r (bytes_do r.limits store) ≡ stop_if good r → s ≡ answer_of good c r
+  pub message_is : (r' : Runner) (s : Result (Option Message) Refusal) (buffer' : List ℕ) → stop r (bytes_do r.limits store) ≡ stop_if good r → s ≡ answer_of good c r
       → say_after r' buffer' ≡ say c r store buffer → message_after (record { runner = r'; said = s }) buffer' ≡ next_message r store buffer
   unfolding next_message say effect buffer_after stop_if
   message_is r' s buffer' g hs e =

@@ -1,17 +1,16 @@
 -- The runner in time: terminations, the timers and what they do, launch, exit and settlement. What each call does once it is
 -- not refused.
-use Rattle.std.specs.Prelude.{ℕ, Bool, true, false, cond, not, ◌&&◌, ◌||◌}
+use Rattle.std.specs.Prelude.{ℕ, Bool, true, false, cond, not, ◌&&◌, ◌||◌, Option, Result, None, Ok, Err}
+use Rattle.exec.specs.declared.Receipt.{Receipt}
+use Rattle.exec.specs.declared.Admission.TheVariants.{Own, Stale}
 use Rattle.exec.specs.declared.Admission.{Admission}
+use Rattle.exec.specs.declared.LaunchFailure.{LaunchFailure}
+use Rattle.exec.specs.declared.Status.{Status}
+use Rattle.exec.specs.declared.Refusal.{Refusal}
 use Rattle.exec.specs.declared.Cause.{Cause}
 use Rattle.exec.specs.declared.Cause.TheVariants.{TimedOut}
-use Rattle.exec.specs.declared.Deadline.{Deadline}
-use Rattle.exec.specs.declared.Deadline.TheVariants.{Never}
-use Rattle.exec.specs.declared.LaunchResult.{LaunchResult}
-use Rattle.exec.specs.declared.MaybeStatus.{MaybeStatus}
 use Rattle.exec.specs.declared.Outcome.{Outcome}
 use Rattle.exec.specs.declared.Receipt.TheVariants.{Applied, Stale, Late}
-use Rattle.exec.specs.declared.Received.{Received}
-use Rattle.exec.specs.declared.Received.TheVariants.{Receipt, Refused}
 use Rattle.exec.specs.declared.Settlement.{Settlement}
 use Rattle.exec.specs.declared.Stream.TheVariants.{Stdout, Stderr}
 use Rattle.exec.specs.Time.{after, then, due}
@@ -47,7 +46,7 @@ close_runner_input r =
 -- ended grace drops every queue, and asks to discard each stream that is still open
 unfoldable pub end_grace : Runner → Runner
 end_grace r =
-    with (set_grace_until Never r.clocks) r.life r.flags r.input (each_output grace_ended r.outputs) r
+    with (set_grace_until None r.clocks) r.life r.flags r.input (each_output grace_ended r.outputs) r
 
 -- drops every queue, closes and marks each stream still open, sets a missing exit to no status, and fences settling
 unfoldable pub give_up : Runner → Runner
@@ -66,7 +65,7 @@ abandon_launch r =
 -- closes and marks each stream neither closed nor hung up
 unfoldable pub abandon_open_streams : Runner → Runner
 abandon_open_streams r =
-    with (set_abandon_at Never r.clocks) r.life r.flags r.input (each_output abandoned r.outputs) r
+    with (set_abandon_at None r.clocks) r.life r.flags r.input (each_output abandoned r.outputs) r
 
 -- ---- a termination
 
@@ -87,14 +86,14 @@ terminate r now cause = cond r.clocks.terminated r (pass_grace (begin_terminatio
 
 unfoldable pub pass_timeout : Runner → ℕ → Runner
 pass_timeout r now =
-    cond (due r.clocks.timeout_at now) (terminate (with_clocks (set_timeout_at Never r.clocks) r) now TimedOut) r
+    cond (due r.clocks.timeout_at now) (terminate (with_clocks (set_timeout_at None r.clocks) r) now TimedOut) r
 
 unfoldable pub pass_settlement : Runner → ℕ → Runner
 pass_settlement r now = with_life (life_expired r.life now) r
 
 -- give-up does nothing if all is cleaned up
 unfoldable pub give_up_unless_clean : Runner → Runner
-give_up_unless_clean r = cond (is_cleaned_up r) (with_clocks (set_give_up_at Never r.clocks) r) (give_up r)
+give_up_unless_clean r = cond (is_cleaned_up r) (with_clocks (set_give_up_at None r.clocks) r) (give_up r)
 
 unfoldable pub pass_give_up : Runner → ℕ → Runner
 pass_give_up r now = cond (due r.clocks.give_up_at now) (give_up_unless_clean r) r
@@ -119,9 +118,9 @@ abbrev pub any_due : Runner → ℕ → Bool
 any_due r now = not r.flags.finished && (clocks_due r.clocks now || settling_late r.life.settling now)
 
 -- when the next timer fires; give-up and abandonment count only while there is something for them to do
-unfoldable pub deadline_of : Runner → Deadline
+unfoldable pub deadline_of : Runner → Option ℕ
 deadline_of r =
-    cond r.flags.finished Never
+    cond r.flags.finished None
     (first_of r.clocks (expected_by r.life.settling) (not (is_cleaned_up r))
     (awaits_launch r || (is_fenced r.life.settling && any_held r.outputs)))
 
@@ -134,19 +133,19 @@ is_late r = r.flags.finished || r.clocks.terminated
 unfoldable pub cancelled : Runner → ℕ → Cause → Hearing
 cancelled r now cause = record {
   runner = cond (is_late r) r (terminate r now cause);
-  received = cond (is_late r) (Receipt Late) (Receipt Applied);
+  received = cond (is_late r) (Ok Late) (Ok Applied);
 }
 
-unfoldable pub cancel_answer : Admission → Runner → ℕ → Received
-cancel_answer (Admission.Refused x) r now = Refused x
-cancel_answer Admission.Stale r now = Receipt Stale
-cancel_answer Admission.Own r now = cond (is_late (ticked r now)) (Receipt Late) (Receipt Applied)
+unfoldable pub cancel_answer : Result Admission Refusal → Runner → ℕ → Result Receipt Refusal
+cancel_answer (Err x) r now = Err x
+cancel_answer (Ok Stale) r now = Ok Stale
+cancel_answer (Ok Own) r now = cond (is_late (ticked r now)) (Ok Late) (Ok Applied)
 
 -- the tick comes first, also where the answer is Late
-unfoldable pub cancel_next : Admission → Runner → ℕ → Cause → Runner
-cancel_next (Admission.Refused x) r now cause = r
-cancel_next Admission.Stale r now cause = r
-cancel_next Admission.Own r now cause =
+unfoldable pub cancel_next : Result Admission Refusal → Runner → ℕ → Cause → Runner
+cancel_next (Err x) r now cause = r
+cancel_next (Ok Stale) r now cause = r
+cancel_next (Ok Own) r now cause =
     cond (is_late (ticked r now)) (ticked r now) (terminate (ticked r now) now cause)
 
 -- ---- the workload
@@ -158,15 +157,15 @@ note_started r =
     (flags_of (not r.flags.detached) r.flags.settle_request r.flags.gave_up r.flags.launch_abandoned r.flags.detached r.flags.credited r.flags.finished)
     r.input r.outputs r
 
-unfoldable pub note_launch : Runner → LaunchResult → Runner
-note_launch r LaunchResult.Started = note_started r
-note_launch r (LaunchResult.Failed f) = close_runner_input (with_life (set_launch (Launch.Failed f) r.life) r)
+unfoldable pub note_launch : Runner → Result (Unit {0}) LaunchFailure → Runner
+note_launch r (Ok tt) = note_started r
+note_launch r (Err f) = close_runner_input (with_life (set_launch (Launch.Failed f) r.life) r)
 
-unfoldable pub launched_next : Runner → LaunchResult → Runner
+unfoldable pub launched_next : Runner → Result (Unit {0}) LaunchFailure → Runner
 launched_next r x = cond (awaits_launch r) (note_launch r x) r
 
 -- closes input, sets the settlement time, and abandonment a grace after it
-unfoldable pub note_exit : Runner → ℕ → MaybeStatus → Runner
+unfoldable pub note_exit : Runner → ℕ → Option Status → Runner
 note_exit r now status =
     close_runner_input (with
     (set_abandon_at (then (after now r.timers.settlement) r.timers.grace) r.clocks)
@@ -178,14 +177,14 @@ note_exit r now status =
 abbrev pub is_over : Runner → Bool
 is_over r = exit_known r.life.exit || r.flags.gave_up
 
-unfoldable pub note_exit_once : Runner → ℕ → MaybeStatus → Runner
+unfoldable pub note_exit_once : Runner → ℕ → Option Status → Runner
 note_exit_once r now status = cond (is_over r) r (note_exit r now status)
 
 abbrev pub timeout_cleared : Runner → Runner
-timeout_cleared r = with_clocks (set_timeout_at Never r.clocks) r
+timeout_cleared r = with_clocks (set_timeout_at None r.clocks) r
 
 -- the timeout is cleared before the tick; only the first exit counts
-unfoldable pub exited_next : Runner → ℕ → MaybeStatus → Runner
+unfoldable pub exited_next : Runner → ℕ → Option Status → Runner
 exited_next r now status = note_exit_once (ticked (timeout_cleared r) now) now status
 
 unfoldable pub settled_next : Runner → Settlement → Runner

@@ -1,6 +1,8 @@
 -- The next message and the next request: a choice by what the state shows, and then its effect.
-use Rattle.std.specs.Prelude.{ℕ, min, Bool, true, false, cond, not, ◌&&◌, List, ◌++◌, drop}
-use Rattle.exec.specs.declared.MaybeCause.{MaybeCause}
+use Rattle.std.specs.Prelude.{ℕ, min, Bool, true, false, cond, not, ◌&&◌, List, ◌++◌, drop, Option, Result, Some, None, Ok, Err}
+use Rattle.runner.specs.declared.answer.Message.{Message}
+use Rattle.exec.specs.declared.Cause.{Cause}
+use Rattle.exec.specs.declared.Refusal.{Refusal}
 use Rattle.exec.specs.declared.Stream.{Stream}
 use Rattle.exec.specs.declared.Stream.TheVariants.{Stdout, Stderr}
 use Rattle.exec.specs.Limits.{cost, pool_of}
@@ -12,12 +14,9 @@ use Rattle.lifecycle.specs.Life.{terminate_taken}
 use Rattle.output.specs.declared.Output.{Output}
 use Rattle.input.specs.Input.{can_grant, granted_in, message_told, close_asked}
 use Rattle.output.specs.Output.{is_done, ended_out, asked_out, sent_out}
-use Rattle.runner.specs.declared.answer.Message.TheVariants as Message
 use Rattle.runner.specs.declared.answer.Request.{Request}
-use Rattle.runner.specs.declared.answer.Said.{Said}
 use Rattle.runner.specs.declared.answer.Saying.{Saying}
 use Rattle.choice.specs.declared.Choice.{Choice}
-use Rattle.runner.specs.declared.message.Wish.{Wish}
 use Rattle.runner.specs.declared.runner.Runner.{Runner}
 use Rattle.choice.specs.Order.{order}
 use Rattle.runner.specs.Life.{awaits_launch, is_ready, outcome_of}
@@ -111,21 +110,21 @@ unfoldable pub say : Choice → Runner → (store buffer : List ℕ) → SayAfte
 say c r store buffer = say_after (effect c r) (buffer_after c r store buffer)
 
 -- what is said
-unfoldable pub said_for : Choice → Runner → Said
-said_for Choice.None r = Said.None
-said_for Choice.Credit r = Said.Message (Message.Credit r.input.window.returnable)
-said_for Choice.Started r = Said.Message Message.Started
-said_for Choice.InputClosed r = Said.Message Message.InputClosed
-said_for (Choice.End x) r = Said.Message (Message.End x)
-said_for (Choice.Output x n) r = Said.Message (Message.Output x n)
-said_for Choice.Terminal r = Said.Message (Message.Terminal (outcome_of r))
+unfoldable pub said_for : Choice → Runner → Result (Option Message) Refusal
+said_for Choice.None r = Ok None
+said_for Choice.Credit r = (Ok (Some (Message.Credit r.input.window.returnable)))
+said_for Choice.Started r = (Ok (Some Message.Started))
+said_for Choice.InputClosed r = (Ok (Some Message.InputClosed))
+said_for (Choice.End x) r = (Ok (Some (Message.End x)))
+said_for (Choice.Output x n) r = (Ok (Some (Message.Output x n)))
+said_for Choice.Terminal r = (Ok (Some (Message.Terminal (outcome_of r))))
 
 -- the choice of a call that may be refused by 12, 10 or 11, and its answer
 abbrev pub choice_of : (good : Bool) → Runner → (buffer : ℕ) → Choice
 choice_of good r buffer = cond good (choose r buffer) Choice.None
 
-abbrev pub answer_of : (good : Bool) → Choice → Runner → Said
-answer_of good c r = cond good (said_for c r) (Said.Refused (stopped r))
+abbrev pub answer_of : (good : Bool) → Choice → Runner → Result (Option Message) Refusal
+answer_of good c r = cond good (said_for c r) (Err (stopped r))
 
 -- what next_message leaves: its answer with the state, and the buffer
 pub record MessageAfter : Type 0 where
@@ -137,14 +136,14 @@ message_after s buffer = record { saying = s; buffer = buffer }
 
 -- ---- requests: ending first, then discarding, closing the input, settling
 
-unfoldable pub wish_for : MaybeCause → (discard0 discard1 close settle : Bool) → Wish
-wish_for (MaybeCause.Some cause) discard0 discard1 close settle = Wish.Request (Request.Terminate cause)
-wish_for MaybeCause.None discard0 discard1 close settle =
-    cond discard0 (Wish.Request (Request.Discard Stdout))
-    (cond discard1 (Wish.Request (Request.Discard Stderr))
-    (cond close (Wish.Request Request.CloseInput) (cond settle (Wish.Request Request.Settle) Wish.None)))
+unfoldable pub wish_for : Option Cause → (discard0 discard1 close settle : Bool) → Option Request
+wish_for (Some cause) discard0 discard1 close settle = Some (Request.Terminate cause)
+wish_for None discard0 discard1 close settle =
+    cond discard0 (Some (Request.Discard Stdout))
+    (cond discard1 (Some (Request.Discard Stderr))
+    (cond close (Some Request.CloseInput) (cond settle (Some Request.Settle) None)))
 
-unfoldable pub wish : Runner → Wish
+unfoldable pub wish : Runner → Option Request
 wish r =
     wish_for r.life.terminate_request (out_of Stdout r).discard_requested (out_of Stderr r).discard_requested
     r.input.close_requested r.flags.settle_request
@@ -156,6 +155,6 @@ handed Request.CloseInput r = with_input (close_asked r.input) r
 handed Request.Settle r =
     with_flags (flags_of r.flags.started_message false r.flags.gave_up r.flags.launch_abandoned r.flags.detached r.flags.credited r.flags.finished) r
 
-unfoldable pub wish_effect : Wish → Runner → Runner
-wish_effect Wish.None r = r
-wish_effect (Wish.Request q) r = handed q r
+unfoldable pub wish_effect : Option Request → Runner → Runner
+wish_effect None r = r
+wish_effect (Some q) r = handed q r

@@ -1,10 +1,9 @@
 -- What is known of an output message that was chosen: it has bytes, they are queued and fit the buffer, and credit has their cost.
-use Rattle.std.specs.Prelude.{◌≡◌, refl, Bool, true, false, cond, ◌&&◌, List, length}
+use Rattle.std.specs.Prelude.{◌≡◌, refl, Bool, true, false, cond, ◌&&◌, List, length, Ok}
 use Rattle.std.proofs.Math.Bool.{not}
 use Prim.Native.Nat.{ℕ, ◌+◌, ◌≤◌, ◌<◌, min}
 use Rattle.std.proofs.Common.{arith, ltb-true, leb-true}
 use Rattle.std.proofs.Math.Dec.{ltb}
-use Rattle.exec.specs.declared.Reply.TheVariants as Reply
 use Rattle.exec.specs.declared.Stream.{Stream}
 use Rattle.exec.specs.declared.Stream.TheVariants.{Stdout, Stderr}
 use Rattle.exec.specs.declared.Unit as Units
@@ -152,7 +151,7 @@ module _ (r : Runner) (x : Stream) (n : ℕ) (store buffer : List ℕ) (h : InRa
       }
 
 -- the bytes of an output message that is chosen are as many as it says
-pub payload_length : (r : Runner) (store buffer : List ℕ) (x : Stream) (n : ℕ) → stop r (bytes_do r.limits store) ≡ Reply.Ok
+pub payload_length : (r : Runner) (store buffer : List ℕ) (x : Stream) (n : ℕ) → stop r (bytes_do r.limits store) ≡ Ok tt
     → Choice.Output x n ≡ choose r (length buffer) → length (payload r x n store) ≡ n
 unfolding payload
 payload_length r store buffer x n g e =

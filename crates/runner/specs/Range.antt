@@ -1,11 +1,9 @@
 -- What is met before a call: a state out of range (12), no limits (10), a lent store that is short (11); and open.
-use Rattle.std.specs.Prelude.{ℕ, Bool, false, cond, not, ◌&&◌, List, [], ◌∷◌, leb, length}
-use Rattle.exec.specs.declared.Deadline.TheVariants.{Never}
+use Rattle.std.specs.Prelude.{ℕ, Bool, false, cond, not, ◌&&◌, List, [], ◌∷◌, leb, length, Result, None, Ok, Err}
+use Rattle.exec.specs.declared.Refusal.{Refusal}
 use Rattle.exec.specs.declared.Key.{Key}
 use Rattle.exec.specs.declared.Limits.{Limits}
-use Rattle.exec.specs.declared.MaybeCause.TheVariants as MaybeCause
 use Rattle.exec.specs.declared.Refusal.TheVariants.{NoLimits, StoreShort, StateOutOfRange}
-use Rattle.exec.specs.declared.Reply.{Reply}
 use Rattle.exec.specs.declared.Timers.{Timers}
 use Rattle.exec.specs.Limits.{is_valid}
 use Rattle.exec.specs.Time.{timeout_at}
@@ -36,14 +34,14 @@ abbrev pub lengths_do : Limits → List ℕ → Bool
 lengths_do l lengths = leb (length_need l) (length lengths)
 
 -- what open meets: no limits (10), then, unless the lent stores do, a short store (11); Ok where it is neither
-abbrev pub open_stop : Limits → (stores : Bool) → Reply
+abbrev pub open_stop : Limits → (stores : Bool) → Result (Unit {0}) Refusal
 open_stop l stores =
-    cond (not (is_valid l)) (Reply.Refused NoLimits)
-    (cond (not stores) (Reply.Refused StoreShort) Reply.Ok)
+    cond (not (is_valid l)) (Err NoLimits)
+    (cond (not stores) (Err StoreShort) (Ok tt))
 
 -- what any other call meets: a state out of range (12), and then the same
-unfoldable pub stop : Runner → (stores : Bool) → Reply
-stop r stores = cond (not (in_range r)) (Reply.Refused StateOutOfRange) (open_stop r.limits stores)
+unfoldable pub stop : Runner → (stores : Bool) → Result (Unit {0}) Refusal
+stop r stores = cond (not (in_range r)) (Err StateOutOfRange) (open_stop r.limits stores)
 
 -- ---- open
 
@@ -55,16 +53,16 @@ fresh k l t now = record {
   timers = t;
   clocks = record {
     timeout_at = timeout_at t.timeout now;
-    grace_until = Never;
-    give_up_at = Never;
-    abandon_at = Never;
+    grace_until = None;
+    give_up_at = None;
+    abandon_at = None;
     terminated = false;
   };
   life = record {
     launch = Launch.Awaited;
     exit = Exit.Running;
-    cause = MaybeCause.None;
-    terminate_request = MaybeCause.None;
+    cause = None;
+    terminate_request = None;
     settling = Settling.Idle;
   };
   flags = flags_of false false false false false false false;

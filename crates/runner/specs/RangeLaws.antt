@@ -1,11 +1,10 @@
 -- A state in range, as facts, which the calls' parts ask; and the code's own test of it, which is quicker.
-use Rattle.std.specs.Prelude.{ℕ, ◌≤◌, ◌≡◌, refl, Bool, not, ◌&&◌, leb, ltb}
+use Rattle.std.specs.Prelude.{ℕ, ◌≤◌, ◌≡◌, refl, Bool, not, ◌&&◌, leb, ltb, Result, Ok, Err}
 use Rattle.std.proofs.Common.{arith, sym, ◌∙◌, leb-true, ltb-true}
 use Rattle.std.proofs.Math.Bool.{true, false, cond, and-true, and-false}
 use Rattle.exec.specs.declared.Limits.{Limits}
 use Rattle.exec.specs.declared.Refusal.{Refusal}
 use Rattle.exec.specs.declared.Refusal.TheVariants.{NoLimits, StoreShort, StateOutOfRange}
-use Rattle.exec.specs.declared.Reply.{Reply}
 use Rattle.exec.specs.declared.Stream.{Stream}
 use Rattle.exec.specs.declared.Stream.TheVariants.{Stdout, Stderr}
 use Rattle.exec.specs.Limits.{is_valid}
@@ -69,8 +68,8 @@ unfoldable pub stopped : Runner → Refusal
 stopped r = cond (in_range r) (unopened r.limits) StateOutOfRange
 
 -- what a call meets, given whether it meets none
-unfoldable pub stop_if : (good : Bool) → Runner → Reply
-stop_if good r = cond good Reply.Ok (Reply.Refused (stopped r))
+unfoldable pub stop_if : (good : Bool) → Runner → Result (Unit {0}) Refusal
+stop_if good r = cond good (Ok tt) (Err (stopped r))
 
 module _ (r : Runner) (stores : Bool) where
   stop_by : (b : Bool) → is_good r stores ≡ b → stop r stores ≡ stop_if b r
@@ -78,14 +77,14 @@ module _ (r : Runner) (stores : Bool) where
   stop_by b e = by (in_range r) (is_valid r.limits) stores e
     where
       by : (i v s : Bool) → ((i && v) && s) ≡ b
-          → cond (not i) (Reply.Refused StateOutOfRange) (cond (not v) (Reply.Refused NoLimits) (cond (not s) (Reply.Refused StoreShort) Reply.Ok))
-          ≡ cond b Reply.Ok (Reply.Refused (cond i (cond v StoreShort NoLimits) StateOutOfRange))
+          → ◌≡◌ {A = Result (Unit {0}) Refusal} (cond (not i) (Err StateOutOfRange) (cond (not v) (Err NoLimits) (cond (not s) (Err StoreShort) (Ok tt))))
+          (cond b (Ok tt) (Err (cond i (cond v StoreShort NoLimits) StateOutOfRange)))
       by true true true e = rw (← e)
       by true true false e = rw (← e)
       by true false s e = rw (← e)
       by false v s e = rw (← e)
 
-  pub unstopped : in_range r ≡ true → is_valid r.limits ≡ true → stores ≡ true → stop r stores ≡ Reply.Ok
+  pub unstopped : in_range r ≡ true → is_valid r.limits ≡ true → stores ≡ true → stop r stores ≡ Ok tt
   unfolding stop
   unstopped i v s = rw (i, v, s)
 
@@ -94,7 +93,7 @@ pub record Good (r : Runner) (stores : Bool) : Type 0 where
   pub valid : is_valid r.limits ≡ true
   pub stores_do : stores ≡ true
 
-pub is_good_lem : (r : Runner) (stores : Bool) → stop r stores ≡ Reply.Ok → Good r stores
+pub is_good_lem : (r : Runner) (stores : Bool) → stop r stores ≡ Ok tt → Good r stores
 unfolding stop_if
 is_good_lem r stores h =
     let p = Inbox.both (in_range r && is_valid r.limits) stores (by (is_good r stores) refl) in
@@ -103,23 +102,23 @@ is_good_lem r stores h =
   where
     by : (b : Bool) → is_good r stores ≡ b → is_good r stores ≡ true
     by true e = e
-    by false e = let z : Reply.Ok ≡ stop_if false r = sym h ∙ stop_by r stores false e in let n : ◌≡◌ {A = ℕ} 0 1 = cc in absurd (omega arith)
+    by false e = let z : Ok tt ≡ stop_if false r = sym h ∙ stop_by r stores false e in let n : ◌≡◌ {A = ℕ} 0 1 = cc in absurd (omega arith)
 
 -- what open found
-pub open_by_lem : (l : Limits) (stores b : Bool) → (is_valid l && stores) ≡ b → open_stop l stores ≡ cond b Reply.Ok (Reply.Refused (unopened l))
+pub open_by_lem : (l : Limits) (stores b : Bool) → (is_valid l && stores) ≡ b → open_stop l stores ≡ cond b (Ok tt) (Err (unopened l))
 open_by_lem l stores b e = by (is_valid l) stores e
   where
     by : (v s : Bool) → (v && s) ≡ b
-        → cond (not v) (Reply.Refused NoLimits) (cond (not s) (Reply.Refused StoreShort) Reply.Ok)
-        ≡ cond b Reply.Ok (Reply.Refused (cond v StoreShort NoLimits))
+        → ◌≡◌ {A = Result (Unit {0}) Refusal} (cond (not v) (Err NoLimits) (cond (not s) (Err StoreShort) (Ok tt)))
+        (cond b (Ok tt) (Err (cond v StoreShort NoLimits)))
     by true true e = rw (← e)
     by true false e = rw (← e)
     by false s e = rw (← e)
 
-pub is_opened : (l : Limits) (stores : Bool) → open_stop l stores ≡ Reply.Ok → (is_valid l ≡ true) × (stores ≡ true)
+pub is_opened : (l : Limits) (stores : Bool) → open_stop l stores ≡ Ok tt → (is_valid l ≡ true) × (stores ≡ true)
 is_opened l stores h = by (is_valid l) stores h
   where
-    by : (v s : Bool) → cond (not v) (Reply.Refused NoLimits) (cond (not s) (Reply.Refused StoreShort) Reply.Ok) ≡ Reply.Ok → (v ≡ true) × (s ≡ true)
+    by : (v s : Bool) → ◌≡◌ {A = Result (Unit {0}) Refusal} (cond (not v) (Err NoLimits) (cond (not s) (Err StoreShort) (Ok tt))) (Ok tt) → (v ≡ true) × (s ≡ true)
     by true true e = (refl, refl)
     by true false e = let n : ◌≡◌ {A = ℕ} 0 1 = cc in absurd (omega arith)
     by false s e = let n : ◌≡◌ {A = ℕ} 0 1 = cc in absurd (omega arith)
@@ -180,10 +179,10 @@ module _ (r : Runner) {stores found s a : Bool} (hf : found ≡ stores) (hs : s 
   pub tested : stop r stores ≡ stop_if (a && s) r
   tested = stop_by r stores (a && s) (sym (good_halves r stores) ∙ rw (← hf, ← hs, ← ha) refl)
 
-  pub goes : (a && s) ≡ true → stop r stores ≡ Reply.Ok
+  pub goes : (a && s) ≡ true → stop r stores ≡ Ok tt
   unfolding stop_if
   goes h = rw (tested, h)
 
-  pub stops : (a && s) ≡ false → stop r stores ≡ Reply.Refused (stopped r)
+  pub stops : (a && s) ≡ false → stop r stores ≡ Err (stopped r)
   unfolding stop_if
   stops h = rw (tested, h)

@@ -1,12 +1,10 @@
 -- The output streams and the input: what each call does once it is not refused by 12, 10 or 11.
-use Rattle.std.specs.Prelude.{ℕ, ◌-◌, max, Bool, false, cond, not, ◌&&◌, ◌||◌, List, ltb, length}
+use Rattle.std.specs.Prelude.{ℕ, ◌-◌, max, Bool, false, cond, not, ◌&&◌, ◌||◌, List, ltb, length, Result, Ok, Err}
+use Rattle.exec.specs.declared.Receipt.{Receipt}
+use Rattle.exec.specs.declared.Admission.TheVariants.{Own, Stale}
 use Rattle.exec.specs.declared.Admission.{Admission}
-use Rattle.exec.specs.declared.PoolIndex.{PoolIndex}
+use Rattle.exec.specs.declared.Refusal.{Refusal}
 use Rattle.exec.specs.declared.Receipt.TheVariants.{Applied, Stale, Late}
-use Rattle.exec.specs.declared.Received.{Received}
-use Rattle.exec.specs.declared.Received.TheVariants.{Receipt, Refused}
-use Rattle.exec.specs.declared.Refusal.TheVariants as Refusal
-use Rattle.exec.specs.declared.Reply.{Reply}
 use Rattle.exec.specs.declared.Stream.{Stream}
 use Rattle.ring.specs.Ring.{ring_write}
 use Rattle.credit.specs.declared.sender.Credit.{Credit}
@@ -14,7 +12,6 @@ use Rattle.credit.specs.Sender.{grantable, grant}
 use Rattle.input.specs.Input as Input
 use Rattle.output.specs.Output.{allowance, takes, keeps, intake, closed_out, failed_out, hung_up, lost_out}
 use Rattle.runner.specs.declared.answer.Hearing.{Hearing}
-use Rattle.runner.specs.declared.answer.Taken.TheVariants as Taken
 use Rattle.runner.specs.declared.answer.Taking.{Taking}
 use Rattle.runner.specs.declared.runner.Runner.{Runner}
 use Rattle.runner.specs.RangeLaws.{stopped}
@@ -63,7 +60,7 @@ output_after t store = record { taking = t; bytes = store }
 unfoldable pub output_took : Runner → Stream → (bytes store : List ℕ) → OutputAfter
 output_took r x bytes store =
     output_after
-    (record { runner = output_next r x (length bytes); taken = Taken.Bytes (output_taken r x (length bytes)) })
+    (record { runner = output_next r x (length bytes); taken = Ok (output_taken r x (length bytes)) })
     (output_store r x bytes store)
 
 unfoldable pub read_allowance_of : Runner → Stream → ℕ
@@ -83,72 +80,72 @@ hung_up_next r x = at x hung_up r
 
 -- ---- credit: key, pool, finished (Late), then the grant
 
-unfoldable pub credit_in : PoolIndex → Runner → ℕ → Received
-credit_in (PoolIndex.Refused x) r units = Refused x
-credit_in (PoolIndex.At i) r units =
-    cond r.flags.finished (Receipt Late)
-    (cond (grantable (credit_at i r.credits) units) (Receipt Applied) (Refused Refusal.Credit))
+unfoldable pub credit_in : Result ℕ Refusal → Runner → ℕ → Result Receipt Refusal
+credit_in (Err x) r units = Err x
+credit_in (Ok i) r units =
+    cond r.flags.finished (Ok Late)
+    (cond (grantable (credit_at i r.credits) units) (Ok Applied) (Err Refusal.Credit))
 
-unfoldable pub credit_answer : Admission → PoolIndex → Runner → ℕ → Received
-credit_answer (Admission.Refused x) p r units = Refused x
-credit_answer Admission.Stale p r units = Receipt Stale
-credit_answer Admission.Own p r units = credit_in p r units
+unfoldable pub credit_answer : Result Admission Refusal → Result ℕ Refusal → Runner → ℕ → Result Receipt Refusal
+credit_answer (Err x) p r units = Err x
+credit_answer (Ok Stale) p r units = Ok Stale
+credit_answer (Ok Own) p r units = credit_in p r units
 
 -- the accounts after it: a grant that is refused leaves them
-abbrev pub credits_in : PoolIndex → Bool → ℕ → List Credit → List Credit
-credits_in (PoolIndex.Refused x) finished units cs = cs
-credits_in (PoolIndex.At i) finished units cs =
+abbrev pub credits_in : Result ℕ Refusal → Bool → ℕ → List Credit → List Credit
+credits_in (Err x) finished units cs = cs
+credits_in (Ok i) finished units cs =
     cond (not finished && grantable (credit_at i cs) units) (put_credit i (grant (credit_at i cs) units).credit cs) cs
 
-abbrev pub credits_after : Admission → PoolIndex → Bool → ℕ → List Credit → List Credit
-credits_after (Admission.Refused x) p finished units cs = cs
-credits_after Admission.Stale p finished units cs = cs
-credits_after Admission.Own p finished units cs = credits_in p finished units cs
+abbrev pub credits_after : Result Admission Refusal → Result ℕ Refusal → Bool → ℕ → List Credit → List Credit
+credits_after (Err x) p finished units cs = cs
+credits_after (Ok Stale) p finished units cs = cs
+credits_after (Ok Own) p finished units cs = credits_in p finished units cs
 
-unfoldable pub credit_next : Admission → PoolIndex → Runner → ℕ → Runner
+unfoldable pub credit_next : Result Admission Refusal → Result ℕ Refusal → Runner → ℕ → Runner
 credit_next a p r units =
     with_flow (credits_after a p r.flags.finished units r.credits) r.turn r.flags r.high_water r
 
 -- ---- input: key, finished (Late), Ended, Chunk, Window, then closed
 
 -- the message is for an execution that still takes it
-abbrev pub is_taken : Admission → Runner → Bool
-is_taken (Admission.Refused x) r = false
-is_taken Admission.Stale r = false
-is_taken Admission.Own r = not r.flags.finished
+abbrev pub is_taken : Result Admission Refusal → Runner → Bool
+is_taken (Err x) r = false
+is_taken (Ok Stale) r = false
+is_taken (Ok Own) r = not r.flags.finished
 
 -- the answer to one that is not: of a call that meets none of refusals 12, 10 and 11, and of any
-abbrev pub met_by : Admission → Received
-met_by (Admission.Refused x) = Refused x
-met_by Admission.Stale = Receipt Stale
-met_by Admission.Own = Receipt Late
+abbrev pub met_by : Result Admission Refusal → Result Receipt Refusal
+met_by (Err x) = Err x
+met_by (Ok Stale) = Ok Stale
+met_by (Ok Own) = Ok Late
 
-abbrev pub met : (good : Bool) → Admission → Runner → Received
-met good a r = cond good (met_by a) (Refused (stopped r))
+abbrev pub met : (good : Bool) → Result Admission Refusal → Runner → Result Receipt Refusal
+met good a r = cond good (met_by a) (Err (stopped r))
 
-unfoldable pub input_answer : Admission → Runner → ℕ → Received
-input_answer (Admission.Refused x) r n = Refused x
-input_answer Admission.Stale r n = Receipt Stale
-input_answer Admission.Own r n = cond r.flags.finished (Receipt Late) (Input.receive_answer r.limits r.input n)
+unfoldable pub input_answer : Result Admission Refusal → Runner → ℕ → Result Receipt Refusal
+input_answer (Err x) r n = Err x
+input_answer (Ok Stale) r n = Ok Stale
+input_answer (Ok Own) r n = cond r.flags.finished (Ok Late) (Input.receive_answer r.limits r.input n)
 
 -- it is kept in the inbox
-abbrev pub is_kept : Admission → Runner → ℕ → Bool
+abbrev pub is_kept : Result Admission Refusal → Runner → ℕ → Bool
 is_kept a r n = is_taken a r && Input.is_kept r.limits r.input n
 
-abbrev pub input_received : Admission → Runner → ℕ → Runner
+abbrev pub input_received : Result Admission Refusal → Runner → ℕ → Runner
 input_received a r n =
     with_input (cond (is_taken a r) (Input.receive_input r.limits r.input n) r.input) r
 
-unfoldable pub input_next : Admission → Runner → ℕ → Runner
+unfoldable pub input_next : Result Admission Refusal → Runner → ℕ → Runner
 input_next a r n =
     with_flow r.credits r.turn r.flags
     (cond (is_kept a r n) (max r.high_water (buffered (input_received a r n))) r.high_water)
     (input_received a r n)
 
-unfoldable pub input_store : Admission → Runner → (bytes store : List ℕ) → List ℕ
+unfoldable pub input_store : Result Admission Refusal → Runner → (bytes store : List ℕ) → List ℕ
 input_store a r bytes store = cond (is_taken a r) (Input.receive_bytes r.limits r.input bytes store) store
 
-unfoldable pub input_lengths : Admission → Runner → ℕ → List ℕ → List ℕ
+unfoldable pub input_lengths : Result Admission Refusal → Runner → ℕ → List ℕ → List ℕ
 input_lengths a r n lengths = cond (is_taken a r) (Input.receive_lengths r.limits r.input n lengths) lengths
 
 -- what input leaves: its answer with the state, and both stores
@@ -160,25 +157,25 @@ pub record InputAfter : Type 0 where
 abbrev pub input_after : Hearing → (store lengths : List ℕ) → InputAfter
 input_after h store lengths = record { hearing = h; bytes = store; lengths = lengths }
 
-unfoldable pub received : Admission → Runner → (bytes store lengths : List ℕ) → InputAfter
+unfoldable pub received : Result Admission Refusal → Runner → (bytes store lengths : List ℕ) → InputAfter
 received a r bytes store lengths =
     input_after
     (record { runner = input_next a r (length bytes); received = input_answer a r (length bytes) })
     (input_store a r bytes store) (input_lengths a r (length bytes) lengths)
 
 -- a grant's reply as the answer to its message
-abbrev pub receipt_of : Reply → Received
-receipt_of Reply.Ok = Receipt Applied
-receipt_of (Reply.Refused x) = Refused x
+abbrev pub receipt_of : Result (Unit {0}) Refusal → Result Receipt Refusal
+receipt_of (Ok tt) = Ok Applied
+receipt_of (Err x) = Err x
 
 -- ---- end_input
 
-unfoldable pub end_answer : Admission → Runner → Received
-end_answer (Admission.Refused x) r = Refused x
-end_answer Admission.Stale r = Receipt Stale
-end_answer Admission.Own r = cond r.flags.finished (Receipt Late) (Input.end_answer r.input)
+unfoldable pub end_answer : Result Admission Refusal → Runner → Result Receipt Refusal
+end_answer (Err x) r = Err x
+end_answer (Ok Stale) r = Ok Stale
+end_answer (Ok Own) r = cond r.flags.finished (Ok Late) (Input.end_answer r.input)
 
-unfoldable pub end_next : Admission → Runner → Runner
+unfoldable pub end_next : Result Admission Refusal → Runner → Runner
 end_next a r = with_input (cond (is_taken a r) (Input.end_input r.input) r.input) r
 
 -- ---- the workload's side of the input

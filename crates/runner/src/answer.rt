@@ -1,6 +1,6 @@
 // What the calls answer. Where a call changes the state, a struct has the next state beside its answer.
 use crate::runner::Runner;
-use exec::{Cause, Deadline, Key, Limits, Outcome, Received, Refusal, Reply, Stream};
+use exec::{Cause, Outcome, Receipt, Refusal, Stream};
 
 // A message from the runner to the peer.
 #[derive(Clone, Copy)]
@@ -36,84 +36,30 @@ pub enum Request {
 #[derive(Clone, Copy)]
 pub struct Noting {
     pub runner: Runner,
-    pub reply: Reply,
+    pub reply: Result<(), Refusal>,
 }
 
 // After a message of the peer's.
 #[derive(Clone, Copy)]
 pub struct Hearing {
     pub runner: Runner,
-    pub received: Received,
-}
-
-// How many bytes output took.
-#[derive(Clone, Copy)]
-pub enum Taken {
-    Bytes(usize),
-    Refused(Refusal),
+    pub received: Result<Receipt, Refusal>,
 }
 
 #[derive(Clone, Copy)]
 pub struct Taking {
     pub runner: Runner,
-    pub taken: Taken,
-}
-
-// The next request, if one waits.
-#[derive(Clone, Copy)]
-pub enum Asked {
-    None,
-    Request(Request),
-    Refused(Refusal),
+    pub taken: Result<usize, Refusal>,
 }
 
 #[derive(Clone, Copy)]
 pub struct Asking {
     pub runner: Runner,
-    pub asked: Asked,
-}
-
-// The next message, if one waits.
-#[derive(Clone, Copy)]
-pub enum Said {
-    None,
-    Message(Message),
-    Refused(Refusal),
+    pub asked: Result<Option<Request>, Refusal>,
 }
 
 #[derive(Clone, Copy)]
 pub struct Saying {
     pub runner: Runner,
-    pub said: Said,
-}
-
-// What is asked of a runner without changing it.
-#[derive(Clone, Copy)]
-pub enum Count {
-    Is(usize),
-    Refused(Refusal),
-}
-
-#[derive(Clone, Copy)]
-pub enum Truth {
-    Is(bool),
-    Refused(Refusal),
-}
-
-#[derive(Clone, Copy)]
-pub enum When {
-    Is(Deadline),
-    Refused(Refusal),
-}
-
-#[derive(Clone, Copy)]
-pub enum KeyAnswer {
-    Is(Key),
-    Refused(Refusal),
-}
-
-#[derive(Clone, Copy)]
-pub enum LimitsAnswer {
-    Is(Limits),
-    Refused(Refusal),
+    pub said: Result<Option<Message>, Refusal>,
 }

@@ -23,6 +23,8 @@ ghost use Rattle.runner.specs.Life.{
   ticked,
   deadline_of,
   cancelled,
+  cancel_answer,
+  cancel_next,
   note_started,
   note_launch,
   launched_next,
@@ -43,32 +45,26 @@ ghost use Rattle.runner.specs.Life.{
 
 use crate::answer::Hearing;
 use crate::runner::Runner;
-use exec::{Cause, Deadline, LaunchResult, MaybeStatus, Outcome, Receipt, Received, Settlement};
-use lifecycle::life::{Launch, Settling};
-use output::outputs::{
-    abandon_each, all_closed, all_delivered, any_held, end_grace_of_each, give_up_each,
+use exec::{
+    Admission, Cause, LaunchFailure, Outcome, Receipt, Refusal, Settlement, Status, deadline,
 };
+use lifecycle::life::{Launch, Settling};
+use output::outputs::{all_closed, all_delivered, any_held, each};
 
 impl Runner {
     // Whether the launch result is still waited for.
     pub(crate) fn awaits_launch(self) -> bool
         ensures { result ≡ awaits_launch self }
     {
-        let life = self.life;
-        let launch = life.launch;
-        (!launch.is_known() & !self.flags.gave_up) & !self.flags.launch_abandoned
+        (!self.life.launch.is_known() & !self.flags.gave_up) & !self.flags.launch_abandoned
     }
 
     // Whether nothing is left to give up on but the delivery of the last messages.
     fn is_cleaned_up(self) -> bool
         ensures { result ≡ is_cleaned_up self }
     {
-        let life = self.life;
-        let launch = life.launch;
-        let exit = life.exit;
-        let settling = life.settling;
-        let outputs = self.outputs;
-        ((launch.is_known() & exit.is_known()) & all_closed(outputs)) & settling.is_settled()
+        ((self.life.launch.is_known() & self.life.exit.is_known()) & all_closed(self.outputs))
+            & self.life.settling.is_settled()
     }
 
     // The workload's input closed, other than by the runner's request.
@@ -76,9 +72,7 @@ impl Runner {
     pub(crate) fn close_input(mut self) -> Runner
         ensures { result ≡ close_runner_input self }
     {
-        let open = self.input;
-        let input = open.close(self.flags.detached);
-        self.input = input;
+        self.input = self.input.close(self.flags.detached);
         self
     }
 
@@ -87,11 +81,8 @@ impl Runner {
     fn end_grace(mut self) -> Runner
         ensures { result ≡ end_grace self }
     {
-        let was = self.clocks;
-        let clocks = was.set_grace_until(Deadline::Never);
-        self.clocks = clocks;
-        let held = self.outputs;
-        let outputs = end_grace_of_each(held);
+        self.clocks = self.clocks.set_grace_until(None);
+        let outputs = each(self.outputs, |output| output.end_grace());
         self.outputs = outputs;
         self
     }
@@ -101,15 +92,10 @@ impl Runner {
     fn give_up(mut self) -> Runner
         ensures { result ≡ give_up self }
     {
-        let was = self.clocks;
-        let clocks = was.stop_waiting();
-        self.clocks = clocks;
-        let held = self.outputs;
-        let outputs = give_up_each(held);
+        self.clocks = self.clocks.stop_waiting();
+        let outputs = each(self.outputs, |output| output.give_up());
         self.outputs = outputs;
-        let lived = self.life;
-        let life = lived.give_up();
-        self.life = life;
+        self.life = self.life.give_up();
         self.flags.gave_up = true;
         self.flags.settle_request = false;
         self
@@ -120,9 +106,7 @@ impl Runner {
     fn abandon_launch(mut self) -> Runner
         ensures { result ≡ abandon_launch self }
     {
-        let lived = self.life;
-        let life = lived.set_settling(Settling::Fenced);
-        self.life = life;
+        self.life = self.life.set_settling(Settling::Fenced);
         self.flags.launch_abandoned = true;
         self
     }
@@ -132,11 +116,8 @@ impl Runner {
     fn abandon_open_streams(mut self) -> Runner
         ensures { result ≡ abandon_open_streams self }
     {
-        let was = self.clocks;
-        let clocks = was.set_abandon_at(Deadline::Never);
-        self.clocks = clocks;
-        let held = self.outputs;
-        let outputs = abandon_each(held);
+        self.clocks = self.clocks.set_abandon_at(None);
+        let outputs = each(self.outputs, |output| output.abandon());
         self.outputs = outputs;
         self
     }
@@ -145,15 +126,11 @@ impl Runner {
     fn begin_termination(mut self, now: u64, cause: Cause) -> Runner
         ensures { result ≡ begin_termination self now cause }
     {
-        let was = self.clocks;
-        let clocks = was.terminate(now, self.timers.grace, self.timers.settlement);
-        self.clocks = clocks;
-        let lived = self.life;
-        let life = lived.end_for(cause);
-        self.life = life;
-        let open = self.input;
-        let input = open.close(self.flags.detached);
-        self.input = input;
+        self.clocks = self
+            .clocks
+            .terminate(now, self.timers.grace, self.timers.settlement);
+        self.life = self.life.end_for(cause);
+        self.input = self.input.close(self.flags.detached);
         self
     }
 
@@ -175,11 +152,8 @@ impl Runner {
     fn pass_timeout(mut self, now: u64) -> Runner
         ensures { result ≡ pass_timeout self now }
     {
-        let clocks = self.clocks;
-        let at = clocks.timeout_at;
-        if at.due(now) {
-            let cleared = clocks.set_timeout_at(Deadline::Never);
-            self.clocks = cleared;
+        if deadline::due(self.clocks.timeout_at, now) {
+            self.clocks = self.clocks.set_timeout_at(None);
             return self.terminate(now, Cause::TimedOut);
         }
         self
@@ -189,9 +163,7 @@ impl Runner {
     fn pass_grace(self, now: u64) -> Runner
         ensures { result ≡ pass_grace self now }
     {
-        let clocks = self.clocks;
-        let at = clocks.grace_until;
-        if at.due(now) {
+        if deadline::due(self.clocks.grace_until, now) {
             return self.end_grace();
         }
         self
@@ -201,9 +173,7 @@ impl Runner {
     fn pass_settlement(mut self, now: u64) -> Runner
         ensures { result ≡ pass_settlement self now }
     {
-        let lived = self.life;
-        let life = lived.expire(now);
-        self.life = life;
+        self.life = self.life.expire(now);
         self
     }
 
@@ -211,9 +181,7 @@ impl Runner {
     fn pass_give_up(self, now: u64) -> Runner
         ensures { result ≡ pass_give_up self now }
     {
-        let clocks = self.clocks;
-        let at = clocks.give_up_at;
-        if at.due(now) {
+        if deadline::due(self.clocks.give_up_at, now) {
             return self.give_up_unless_clean();
         }
         self
@@ -224,9 +192,7 @@ impl Runner {
         ensures { result ≡ give_up_unless_clean self }
     {
         if self.is_cleaned_up() {
-            let clocks = self.clocks;
-            let cleared = clocks.set_give_up_at(Deadline::Never);
-            self.clocks = cleared;
+            self.clocks = self.clocks.set_give_up_at(None);
             return self;
         }
         self.give_up()
@@ -246,9 +212,7 @@ impl Runner {
     fn drop_streams(self) -> Runner
         ensures { result ≡ drop_streams self }
     {
-        let life = self.life;
-        let settling = life.settling;
-        if settling.is_fenced() {
+        if self.life.settling.is_fenced() {
             return self.abandon_open_streams();
         }
         self
@@ -258,9 +222,7 @@ impl Runner {
     fn pass_abandonment(self, now: u64) -> Runner
         ensures { result ≡ pass_abandonment self now }
     {
-        let clocks = self.clocks;
-        let at = clocks.abandon_at;
-        if at.due(now) {
+        if deadline::due(self.clocks.abandon_at, now) {
             let r = self.drop_launch();
             return r.drop_streams();
         }
@@ -284,10 +246,7 @@ impl Runner {
     pub(crate) fn any_due(self, now: u64) -> bool
         ensures { result ≡ any_due self now }
     {
-        let clocks = self.clocks;
-        let life = self.life;
-        let settling = life.settling;
-        !self.flags.finished & (clocks.due(now) | settling.late(now))
+        !self.flags.finished & (self.clocks.due(now) | self.life.settling.late(now))
     }
 
     // The tick that comes first in a call. It is small, as `fire` stands outside of it.
@@ -302,20 +261,43 @@ impl Runner {
     }
 
     #[tactic(auto, unfolding(crate::specs::Life::deadline_of))]
-    pub(crate) fn deadline_of(self) -> Deadline
+    pub(crate) fn deadline_of(self) -> Option<u64>
         ensures { result ≡ deadline_of self }
     {
         if self.flags.finished {
-            return Deadline::Never;
+            return None;
         }
         let clean = self.is_cleaned_up();
         let waits = self.awaits_launch();
-        let outputs = self.outputs;
-        let held = any_held(outputs);
-        let life = self.life;
-        let settling = life.settling;
-        let clocks = self.clocks;
-        clocks.first(settling.by(), !clean, waits | (settling.is_fenced() & held))
+        let held = any_held(self.outputs);
+        self.clocks.first(
+            self.life.settling.by(),
+            !clean,
+            waits | (self.life.settling.is_fenced() & held),
+        )
+    }
+
+    // The peer's cancellation, by whose its key is.
+    #[tactic(auto, unfolding(crate::specs::Life::cancel_answer, crate::specs::Life::cancel_next, crate::specs::Life::cancelled))]
+    pub(crate) fn cancel_as(
+        self,
+        admission: Result<Admission, Refusal>,
+        now: u64,
+        cause: Cause,
+    ) -> Hearing
+        ensures { result ≡ record { runner = cancel_next admission self now cause; received = cancel_answer admission self now } }
+    {
+        match admission {
+            Ok(Admission::Own) => self.ticked(now).cancel_now(now, cause),
+            Ok(Admission::Stale) => Hearing {
+                runner: self,
+                received: Ok(Receipt::Stale),
+            },
+            Err(refusal) => Hearing {
+                runner: self,
+                received: Err(refusal),
+            },
+        }
     }
 
     // The peer's cancellation, of a runner that has ticked.
@@ -326,19 +308,19 @@ impl Runner {
         if self.flags.finished | self.clocks.terminated {
             return Hearing {
                 runner: self,
-                received: Received::Receipt(Receipt::Late),
+                received: Ok(Receipt::Late),
             };
         }
         let runner = self.terminate(now, cause);
         Hearing {
             runner,
-            received: Received::Receipt(Receipt::Applied),
+            received: Ok(Receipt::Applied),
         }
     }
 
     // The launch result.
     #[tactic(auto, unfolding(crate::specs::Life::launched_next))]
-    pub(crate) fn launch(self, report: LaunchResult) -> Runner
+    pub(crate) fn launch(self, report: Result<(), LaunchFailure>) -> Runner
         ensures { result ≡ launched_next self report }
     {
         if self.awaits_launch() {
@@ -348,15 +330,13 @@ impl Runner {
     }
 
     #[tactic(auto, unfolding(crate::specs::Life::note_launch))]
-    fn note_launch(mut self, report: LaunchResult) -> Runner
+    fn note_launch(mut self, report: Result<(), LaunchFailure>) -> Runner
         ensures { result ≡ note_launch self report }
     {
         match report {
-            LaunchResult::Started => self.note_started(),
-            LaunchResult::Failed(failure) => {
-                let lived = self.life;
-                let life = lived.set_launch(Launch::Failed(failure));
-                self.life = life;
+            Ok(()) => self.note_started(),
+            Err(failure) => {
+                self.life = self.life.set_launch(Launch::Failed(failure));
                 self.close_input()
             }
         }
@@ -366,17 +346,14 @@ impl Runner {
     fn note_started(mut self) -> Runner
         ensures { result ≡ note_started self }
     {
-        let lived = self.life;
-        let life = lived.set_launch(Launch::Started);
-        self.life = life;
-        let told = !self.flags.detached;
-        self.flags.started_message = told;
+        self.life = self.life.set_launch(Launch::Started);
+        self.flags.started_message = !self.flags.detached;
         self
     }
 
     // The workload's end.
     #[tactic(auto, unfolding(crate::specs::Life::exited_next))]
-    pub(crate) fn exit(self, now: u64, status: MaybeStatus) -> Runner
+    pub(crate) fn exit(self, now: u64, status: Option<Status>) -> Runner
         ensures { result ≡ exited_next self now status }
     {
         let a = self.clear_timeout();
@@ -385,7 +362,7 @@ impl Runner {
     }
 
     #[tactic(auto, unfolding(crate::specs::Life::note_exit_once))]
-    fn note_exit_once(self, now: u64, status: MaybeStatus) -> Runner
+    fn note_exit_once(self, now: u64, status: Option<Status>) -> Runner
         ensures { result ≡ note_exit_once self now status }
     {
         if self.is_over() {
@@ -398,22 +375,18 @@ impl Runner {
     fn is_over(self) -> bool
         ensures { result ≡ is_over self }
     {
-        let life = self.life;
-        let exit = life.exit;
-        exit.is_known() | self.flags.gave_up
+        self.life.exit.is_known() | self.flags.gave_up
     }
 
     #[tactic(auto, unfolding(crate::specs::Life::note_exit))]
-    fn note_exit(mut self, now: u64, status: MaybeStatus) -> Runner
+    fn note_exit(mut self, now: u64, status: Option<Status>) -> Runner
         ensures { result ≡ note_exit self now status }
     {
-        let settlement = Deadline::after(now, self.timers.settlement);
-        let was = self.clocks;
-        let clocks = was.set_abandon_at(settlement.then(self.timers.grace));
-        self.clocks = clocks;
-        let lived = self.life;
-        let life = lived.end_with(status, settlement);
-        self.life = life;
+        let settlement = deadline::after(now, self.timers.settlement);
+        self.clocks = self
+            .clocks
+            .set_abandon_at(deadline::then(settlement, self.timers.grace));
+        self.life = self.life.end_with(status, settlement);
         self.flags.settle_request = true;
         self.close_input()
     }
@@ -422,9 +395,7 @@ impl Runner {
     fn clear_timeout(mut self) -> Runner
         ensures { result ≡ timeout_cleared self }
     {
-        let was = self.clocks;
-        let clocks = was.set_timeout_at(Deadline::Never);
-        self.clocks = clocks;
+        self.clocks = self.clocks.set_timeout_at(None);
         self
     }
 
@@ -433,9 +404,7 @@ impl Runner {
     pub(crate) fn settle(mut self, report: Settlement) -> Runner
         ensures { result ≡ settled_next self report }
     {
-        let lived = self.life;
-        let life = lived.settle(report);
-        self.life = life;
+        self.life = self.life.settle(report);
         self
     }
 
@@ -474,9 +443,7 @@ impl Runner {
     {
         self.flags.detached = true;
         self.flags.started_message = false;
-        let held = self.input;
-        let input = held.message_told();
-        self.input = input;
+        self.input = self.input.message_told();
         self
     }
 
@@ -484,9 +451,7 @@ impl Runner {
     fn give_up_soon(mut self, now: u64) -> Runner
         ensures { result ≡ give_up_soon self now }
     {
-        let was = self.clocks;
-        let clocks = was.give_up_by(now, self.timers.settlement);
-        self.clocks = clocks;
+        self.clocks = self.clocks.give_up_by(now, self.timers.settlement);
         self
     }
 
@@ -495,13 +460,9 @@ impl Runner {
     pub(crate) fn is_ready(self) -> bool
         ensures { result ≡ is_ready self }
     {
-        let life = self.life;
-        let exit = life.exit;
-        let settling = life.settling;
-        let outputs = self.outputs;
-        let delivered = all_delivered(outputs, self.flags.detached);
-        let over = settling.is_settled() | settling.is_fenced();
-        ((!self.awaits_launch() & exit.is_known()) & delivered) & over
+        let delivered = all_delivered(self.outputs, self.flags.detached);
+        let over = self.life.settling.is_settled() | self.life.settling.is_fenced();
+        ((!self.awaits_launch() & self.life.exit.is_known()) & delivered) & over
     }
 
     #[tactic(auto, unfolding(crate::specs::Life::outcome_of))]
@@ -510,7 +471,6 @@ impl Runner {
     {
         let stdout = self.outputs[0];
         let stderr = self.outputs[1];
-        let life = self.life;
-        life.outcome(stdout.truncated, stderr.truncated)
+        self.life.outcome(stdout.truncated, stderr.truncated)
     }
 }

@@ -14,28 +14,20 @@ ghost use Rattle.runner.specs.Message.{
   answer_of,
   say_after,
   say,
-  wish_for,
   wish,
   handed,
 };
 ghost use Rattle.runner.specs.MessageLaws.{Payable, Sendable, Sayable};
 ghost use Rattle.runner.specs.RangeLaws.{InRange};
 
-use crate::answer::{Message, Request, Said};
+use crate::answer::{Message, Request};
 use crate::pairs::{credit_at, put_credit, ring_base};
 use crate::runner::Runner;
-use choice::{Choice, order};
+use choice::{Choice, Shown, order};
 use credit::sender::Credit;
-use exec::{MaybeCause, Stream};
+use exec::{Cause, Refusal, Stream};
 use output::Output;
 use output::outputs::{output_in, put_output};
-
-// What the runner asks of the adapter next.
-#[derive(Clone, Copy)]
-pub enum Wish {
-    None,
-    Request(Request),
-}
 
 impl Runner {
     // How many bytes of a stream one message may carry now.
@@ -43,24 +35,18 @@ impl Runner {
     fn sendable_of(self, buffer: usize, stream: Stream) -> u32
         ensures { result ≡ sendable_of self buffer stream }
     {
-        let outputs = self.outputs;
-        let output = output_in(stream, outputs);
-        let limits = self.limits;
-        let credits = self.credits;
-        let credit = credit_at(limits.pool_of(stream), credits);
-        let window = limits.output;
-        let unit = window.unit;
-        let queued = ring::smaller(output.queued as usize, limits.chunk as usize);
+        let output = output_in(stream, self.outputs);
+        let credit = credit_at(self.limits.pool_of(stream), self.credits);
+        let queued = ring::smaller(output.queued as usize, self.limits.chunk as usize);
         let wanted = ring::smaller(queued, buffer);
-        credit.sendable(unit, wanted as u32)
+        credit.sendable(self.limits.output.unit, wanted as u32)
     }
 
     // Whether a stream is done, and its end not told.
     fn is_untold(self, stream: Stream) -> bool
         ensures { result ≡ untold self stream }
     {
-        let outputs = self.outputs;
-        let output = output_in(stream, outputs);
+        let output = output_in(stream, self.outputs);
         output.is_done() & !output.ended
     }
 
@@ -69,34 +55,28 @@ impl Runner {
         requires { InRange self }
         ensures { result ≡ choose self buffer }
     {
-        let turn = self.turn as usize;
-        let x = Stream::ALL[turn];
+        let turn = Stream::ALL[self.turn as usize];
         let stdout = self.sendable_of(buffer, Stream::Stdout);
         let stderr = self.sendable_of(buffer, Stream::Stderr);
-        let n1 = x.pick(stdout, stderr);
-        let y = x.following();
-        let n2 = y.pick(stdout, stderr);
-        let end0 = self.is_untold(Stream::Stdout);
-        let end1 = self.is_untold(Stream::Stderr);
-        let input = self.input;
-        let can = input.can_grant();
-        let awaits = self.awaits_launch();
-        let ready = self.is_ready();
-        order(
-            self.flags.finished,
-            self.flags.detached,
-            can,
-            self.flags.credited,
-            self.flags.started_message,
-            input.closed_message,
-            awaits,
-            end0,
-            end1,
-            ready,
-            x,
-            n1,
-            n2,
-        )
+        order(Shown {
+            finished: self.flags.finished,
+            detached: self.flags.detached,
+            can_grant: self.input.can_grant(),
+            credited: self.flags.credited,
+            started: self.flags.started_message,
+            closed: self.input.closed_message,
+            awaits: self.awaits_launch(),
+            ends: (
+                self.is_untold(Stream::Stdout),
+                self.is_untold(Stream::Stderr),
+            ),
+            ready: self.is_ready(),
+            turn,
+            sendable: (
+                turn.pick(stdout, stderr),
+                turn.following().pick(stdout, stderr),
+            ),
+        })
     }
 
     // The choice of a call, given whether it meets none of refusals 12, 10 and 11.
@@ -111,34 +91,30 @@ impl Runner {
     }
 
     // Its answer.
-    pub(crate) fn answer(self, good: bool, choice: Choice) -> Said
+    pub(crate) fn answer(self, good: bool, choice: Choice) -> Result<Option<Message>, Refusal>
         ensures { result ≡ answer_of good choice self }
     {
         if good {
             return self.said(choice);
         }
-        Said::Refused(self.stopped())
+        Err(self.stopped())
     }
 
     // What is said.
     #[tactic(auto, unfolding(crate::specs::Message::said_for))]
-    fn said(self, choice: Choice) -> Said
+    fn said(self, choice: Choice) -> Result<Option<Message>, Refusal>
         ensures { result ≡ said_for choice self }
     {
         match choice {
-            Choice::None => Said::None,
-            Choice::Credit => {
-                let input = self.input;
-                let window = input.window;
-                Said::Message(Message::Credit(window.returnable))
-            }
-            Choice::Started => Said::Message(Message::Started),
-            Choice::InputClosed => Said::Message(Message::InputClosed),
-            Choice::End(stream) => Said::Message(Message::End(stream)),
-            Choice::Output(stream, n) => Said::Message(Message::Output(stream, n as usize)),
+            Choice::None => Ok(None),
+            Choice::Credit => { Ok(Some(Message::Credit(self.input.window.returnable))) }
+            Choice::Started => Ok(Some(Message::Started)),
+            Choice::InputClosed => Ok(Some(Message::InputClosed)),
+            Choice::End(stream) => Ok(Some(Message::End(stream))),
+            Choice::Output(stream, n) => Ok(Some(Message::Output(stream, n as usize))),
             Choice::Terminal => {
                 let outcome = self.outcome();
-                Said::Message(Message::Terminal(outcome))
+                Ok(Some(Message::Terminal(outcome)))
             }
         }
     }
@@ -152,10 +128,8 @@ impl Runner {
         match choice {
             Choice::None => {}
             Choice::Credit => {
-                let input = self.input;
-                let crediting = input.take_credit();
-                let granted = crediting.input;
-                self.input = granted;
+                let crediting = self.input.take_credit();
+                self.input = crediting.input;
                 self.flags.credited = true;
             }
             Choice::Started => {
@@ -163,16 +137,13 @@ impl Runner {
                 self.flags.credited = false;
             }
             Choice::InputClosed => {
-                let input = self.input;
-                let told = input.message_told();
-                self.input = told;
+                self.input = self.input.message_told();
                 self.flags.credited = false;
             }
             Choice::End(stream) => {
-                let outputs = self.outputs;
-                let output = output_in(stream, outputs);
-                let ended = put_output(stream, output.end(), outputs);
-                self.outputs = ended;
+                let output = output_in(stream, self.outputs);
+                let outputs = put_output(stream, output.end(), self.outputs);
+                self.outputs = outputs;
                 self.flags.credited = false;
             }
             Choice::Output(stream, n) => {
@@ -196,13 +167,10 @@ impl Runner {
         requires { Payable self stream n }
         ensures { result ≡ (output_paid stream n self).credits }
     {
-        let limits = self.limits;
-        let window = limits.output;
-        let credits = self.credits;
-        let pool = limits.pool_of(stream);
-        let account = credit_at(pool, credits);
-        let spent = account.spend_in(window.cost(n));
-        put_credit(pool, spent, credits)
+        let pool = self.limits.pool_of(stream);
+        let account = credit_at(pool, self.credits);
+        let spent = account.spend_in(self.limits.output.cost(n));
+        put_credit(pool, spent, self.credits)
     }
 
     // The outputs once n bytes of a stream's queue are moved to the start of the buffer.
@@ -211,32 +179,33 @@ impl Runner {
         requires { Sendable self stream n store.now buffer.old }
         ensures { sent_after result buffer.new ≡ sent_output stream n self store.now buffer.old }
     {
-        let limits = self.limits;
-        let chunk = limits.chunk;
-        let outputs = self.outputs;
-        let output = output_in(stream, outputs);
-        let base = ring_base(stream, chunk);
-        let sent = output.send(store, base, chunk, n, buffer);
-        put_output(stream, sent, outputs)
+        let output = output_in(stream, self.outputs);
+        let base = ring_base(stream, self.limits.chunk);
+        let sent = output.send(store, base, self.limits.chunk, n, buffer);
+        put_output(stream, sent, self.outputs)
     }
 
     // What is asked for next.
-    #[tactic(auto, unfolding(crate::specs::Message::wish))]
-    pub(crate) fn wish(self) -> Wish
+    #[tactic(auto, unfolding(crate::specs::Message::wish, crate::specs::Message::wish_for))]
+    pub(crate) fn wish(self) -> Option<Request>
         ensures { result ≡ wish self }
     {
-        let life = self.life;
-        let cause = life.terminate_request;
+        if let Some(cause) = self.life.terminate_request {
+            return Some(Request::Terminate(cause));
+        }
         let stdout = self.outputs[0];
         let stderr = self.outputs[1];
-        let input = self.input;
-        wish_for(
-            cause,
-            stdout.discard_requested,
-            stderr.discard_requested,
-            input.close_requested,
-            self.flags.settle_request,
-        )
+        if stdout.discard_requested {
+            Some(Request::Discard(Stream::Stdout))
+        } else if stderr.discard_requested {
+            Some(Request::Discard(Stream::Stderr))
+        } else if self.input.close_requested {
+            Some(Request::CloseInput)
+        } else if self.flags.settle_request {
+            Some(Request::Settle)
+        } else {
+            None
+        }
     }
 
     // The runner once a request is handed out.
@@ -245,22 +214,17 @@ impl Runner {
     {
         match request {
             Request::Terminate(_) => {
-                let lived = self.life;
-                let life = lived.terminate_taken();
-                self.life = life;
+                self.life = self.life.terminate_taken();
                 self
             }
             Request::Discard(stream) => {
-                let outputs = self.outputs;
-                let output = output_in(stream, outputs);
-                let next = put_output(stream, output.discard_asked(), outputs);
-                self.outputs = next;
+                let output = output_in(stream, self.outputs);
+                let outputs = put_output(stream, output.discard_asked(), self.outputs);
+                self.outputs = outputs;
                 self
             }
             Request::CloseInput => {
-                let held = self.input;
-                let input = held.close_asked();
-                self.input = input;
+                self.input = self.input.close_asked();
                 self
             }
             Request::Settle => {
@@ -278,30 +242,5 @@ fn turn_after(stream: Stream) -> u8
     match stream {
         Stream::Stdout => 1,
         Stream::Stderr => 0,
-    }
-}
-
-// The order of requests.
-#[tactic(auto, unfolding(crate::specs::Message::wish_for))]
-fn wish_for(cause: MaybeCause, discard0: bool, discard1: bool, close: bool, settle: bool) -> Wish
-    ensures { result ≡ wish_for cause discard0 discard1 close settle }
-{
-    match cause {
-        MaybeCause::Some(cause) => Wish::Request(Request::Terminate(cause)),
-        MaybeCause::None => {
-            if discard0 {
-                return Wish::Request(Request::Discard(Stream::Stdout));
-            }
-            if discard1 {
-                return Wish::Request(Request::Discard(Stream::Stderr));
-            }
-            if close {
-                return Wish::Request(Request::CloseInput);
-            }
-            if settle {
-                return Wish::Request(Request::Settle);
-            }
-            Wish::None
-        }
     }
 }

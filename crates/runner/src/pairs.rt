@@ -9,38 +9,21 @@ use exec::Stream;
 pub(crate) fn ring_base(stream: Stream, chunk: u32) -> usize
     ensures { result ≡ base stream chunk }
 {
-    match stream {
-        Stream::Stdout => 0,
-        Stream::Stderr => chunk as usize,
-    }
-}
-
-// One of two, as in `output::outputs`.
-fn one_of(first: bool, a: Credit, b: Credit) -> Credit
-    ensures { result ≡ cond first a b }
-{
-    if first {
-        return a;
-    }
-    b
+    stream.pick(0, chunk as usize)
 }
 
 pub(crate) fn credit_at(index: usize, credits: [Credit; 2]) -> Credit
     ensures { result ≡ credit_at index credits }
 {
-    let first = credits[0];
-    let second = credits[1];
-    one_of(index == 0, first, second)
+    if index == 0 { credits[0] } else { credits[1] }
 }
 
 pub(crate) fn put_credit(index: usize, credit: Credit, credits: [Credit; 2]) -> [Credit; 2]
     ensures { result ≡ put_credit index credit credits }
 {
-    let first = credits[0];
-    let second = credits[1];
-    let front = one_of(index == 0, credit, first);
-    let back = one_of(index == 0, second, credit);
-    [front, back]
+    let first = if index == 0 { credit } else { credits[0] };
+    let second = if index == 0 { credits[1] } else { credit };
+    [first, second]
 }
 
 // Whether no account has more than its window. It takes the accounts and not their array, which would be copied whole.

@@ -1,13 +1,14 @@
 // What is met before a call: refusals 12, 10 and 11.
-ghost use Rattle.std.specs.Prelude.{◌≡◌, leb, length};
+ghost use Rattle.std.specs.Prelude.{◌≡◌, leb, length, true};
 ghost use Rattle.inbox.specs.Need.{byte_need, length_need};
-ghost use Rattle.runner.specs.Range.{in_range};
+ghost use Rattle.runner.specs.Range.{in_range, stop};
 ghost use Rattle.runner.specs.RangeLaws.{unopened, stopped, stop_if, stands, agrees};
+ghost use Rattle.runner.specs.Calls.{Notes};
 
-use crate::answer::{Count, Hearing, Noting, Truth, When};
+use crate::answer::{Hearing, Noting};
 use crate::pairs::credits_fit;
 use crate::runner::Runner;
-use exec::{Limits, Received, Refusal, Reply};
+use exec::{Limits, Refusal};
 
 // Whether a byte store of so many bytes does.
 pub(crate) fn bytes_do(limits: Limits, bytes: usize) -> bool
@@ -39,15 +40,10 @@ impl Runner {
     pub(crate) fn in_range(self) -> bool
         ensures { result ≡ in_range self }
     {
-        let limits = self.limits;
-        let outputs = self.outputs;
         let first = self.credits[0];
         let second = self.credits[1];
-        let input = self.input;
-        let inbox = input.inbox;
-        let window = input.window;
-        ((output::outputs::fit(outputs, limits.chunk) & credits_fit(first, second))
-            & inbox.fits(limits, window))
+        ((output::outputs::fit(self.outputs, self.limits.chunk) & credits_fit(first, second))
+            & self.input.inbox.fits(self.limits, self.input.window))
             & (self.turn <= 1)
     }
 
@@ -84,63 +80,48 @@ impl Runner {
         ensures { result ≡ stopped self }
     {
         if self.in_range() {
-            let limits = self.limits;
-            return unopened(limits);
+            return unopened(self.limits);
         }
         Refusal::StateOutOfRange
     }
 
+    // What a call meets, given whether the lent stores do. Made a part of each call, so that one that is not refused copies nothing.
+    #[tactic(auto, unfolding(crate::specs::RangeLaws::stop_if), using(crate::proofs::Guards::tested_stop))]
+    #[inline(always)]
+    pub(crate) fn check(self, stores: bool) -> Result<(), Refusal>
+        ensures { result ≡ stop self stores }
+    {
+        if self.agrees(stores) & self.stands() {
+            return Ok(());
+        }
+        Err(self.stopped())
+    }
+
     // The reply of a call with no result, given whether it meets none of the three.
     #[tactic(auto, unfolding(crate::specs::RangeLaws::stop_if))]
-    pub(crate) fn reply(self, good: bool) -> Reply
+    pub(crate) fn reply(self, good: bool) -> Result<(), Refusal>
         ensures { result ≡ stop_if good self }
     {
         if good {
-            return Reply::Ok;
+            return Ok(());
         }
-        Reply::Refused(self.stopped())
+        Err(self.stopped())
     }
 
-    // A refused call with no result.
-    pub(crate) fn refused(self) -> Noting
-        ensures { result ≡ record { runner = self; reply = Reply.Refused (stopped self) } }
+    // A call with no result: what it does to the runner, unless it is refused.
+    pub(crate) fn note<F: FnOnce(Runner) -> Runner>(self, next: F) -> Noting
+        requires { F.IsAlwaysCallable next }
+        ensures { Notes (F.post next self) (stop self true) self result }
     {
-        let refusal = self.stopped();
-        Noting {
-            runner: self,
-            reply: Reply::Refused(refusal),
+        match self.check(true) {
+            Ok(()) => Noting {
+                runner: next(self),
+                reply: Ok(()),
+            },
+            Err(refusal) => Noting {
+                runner: self,
+                reply: Err(refusal),
+            },
         }
-    }
-
-    // A refused message of the peer's.
-    pub(crate) fn unheard(self) -> Hearing
-        ensures { result ≡ record { runner = self; received = Received.Refused (stopped self) } }
-    {
-        let refusal = self.stopped();
-        Hearing {
-            runner: self,
-            received: Received::Refused(refusal),
-        }
-    }
-
-    // Refused questions, whose answers have no runner. Each hands the runner to `stopped` itself, so that a question that is not
-    // refused copies nothing.
-
-    pub(crate) fn no_count(self) -> Count
-        ensures { result ≡ Count.Refused (stopped self) }
-    {
-        Count::Refused(self.stopped())
-    }
-
-    pub(crate) fn no_truth(self) -> Truth
-        ensures { result ≡ Truth.Refused (stopped self) }
-    {
-        Truth::Refused(self.stopped())
-    }
-
-    pub(crate) fn no_time(self) -> When
-        ensures { result ≡ When.Refused (stopped self) }
-    {
-        When::Refused(self.stopped())
     }
 }

@@ -17,7 +17,7 @@ ghost use Rattle.runner.specs.Calls.{
   output_closed,
   output_failed,
   output_hung_up,
-  pending_after,
+  lent,
   pending_input,
   written_after,
   input_written,
@@ -37,23 +37,20 @@ ghost use Rattle.runner.specs.Calls.{
   memory_bound,
   buffered,
   high_water,
+  asked_for,
 };
-ghost use Rattle.runner.specs.Message.{message_after};
+ghost use Rattle.runner.specs.Message.{message_after, wish_effect};
 ghost use Rattle.runner.specs.Range.{fresh};
 ghost use Rattle.runner.specs.Streams.{input_after, output_after};
 
-use crate::answer::{
-    Asked, Asking, Count, Hearing, KeyAnswer, LimitsAnswer, Noting, Said, Saying, Taken, Taking,
-    Truth, When,
-};
-use crate::message::Wish;
+use crate::answer::{Asking, Hearing, Noting, Request, Saying, Taking};
 use crate::pairs::ring_base;
 use crate::range::{bytes_do, lengths_do, unopened};
 use crate::streams::is_dropped;
 use credit::sender::Credit;
 use exec::{
-    Admission, Cause, Deadline, Key, LaunchResult, Limits, MaybeCause, MaybeStatus, Pool, Receipt,
-    Received, Reply, Settlement, Stream, Timers,
+    Admission, Cause, Key, LaunchFailure, Limits, Pool, Receipt, Refusal, Settlement, Status,
+    Stream, Timers,
 };
 use input::Input;
 use lifecycle::clocks::Clocks;
@@ -103,14 +100,14 @@ impl Runner {
             let runner = Runner::fresh(key, limits, timers, created);
             return Noting {
                 runner,
-                reply: Reply::Ok,
+                reply: Ok(()),
             };
         }
         let none = Limits::none();
         let runner = Runner::fresh(key, none, timers, created);
         Noting {
             runner,
-            reply: Reply::Refused(unopened(limits)),
+            reply: Err(unopened(limits)),
         }
     }
 
@@ -118,11 +115,9 @@ impl Runner {
     fn fresh(key: Key, limits: Limits, timers: Timers, now: u64) -> Runner
         ensures { result ≡ fresh key limits timers now }
     {
-        let agreed = limits.input;
-        let window = limits.output;
         let output = Output::new();
-        let credit = Credit::new(window.size);
-        let input = Input::new(agreed.size);
+        let credit = Credit::new(limits.output.size);
+        let input = Input::new(limits.input.size);
         let timeout_at = timers.timeout_at(now);
         Runner {
             key,
@@ -130,16 +125,16 @@ impl Runner {
             timers,
             clocks: Clocks {
                 timeout_at,
-                grace_until: Deadline::Never,
-                give_up_at: Deadline::Never,
-                abandon_at: Deadline::Never,
+                grace_until: None,
+                give_up_at: None,
+                abandon_at: None,
                 terminated: false,
             },
             life: Life {
                 launch: Launch::Awaited,
                 exit: Exit::Running,
-                cause: MaybeCause::None,
-                terminate_request: MaybeCause::None,
+                cause: None,
+                terminate_request: None,
                 settling: Settling::Idle,
             },
             flags: Flags {
@@ -160,27 +155,21 @@ impl Runner {
     }
 
     // The execution's key.
-    #[tactic(auto, unfolding(crate::specs::Calls::key), using(crate::proofs::Guards::tested_stop))]
-    pub fn key(self) -> KeyAnswer
+    #[tactic(auto, unfolding(crate::specs::Calls::key))]
+    pub fn key(self) -> Result<Key, Refusal>
         ensures { result ≡ key self }
     {
-        if self.agrees(true) & self.stands() {
-            let key = self.key;
-            return KeyAnswer::Is(key);
-        }
-        KeyAnswer::Refused(self.stopped())
+        self.check(true)?;
+        Ok(self.key)
     }
 
     // The limits that both sides agreed on.
-    #[tactic(auto, unfolding(crate::specs::Calls::limits), using(crate::proofs::Guards::tested_stop))]
-    pub fn limits(self) -> LimitsAnswer
+    #[tactic(auto, unfolding(crate::specs::Calls::limits))]
+    pub fn limits(self) -> Result<Limits, Refusal>
         ensures { result ≡ limits self }
     {
-        if self.agrees(true) & self.stands() {
-            let limits = self.limits;
-            return LimitsAnswer::Is(limits);
-        }
-        LimitsAnswer::Refused(self.stopped())
+        self.check(true)?;
+        Ok(self.limits)
     }
 
     // The peer's credit for an output pool, which the limits must have. A grant of no units, or of more than are in flight, is
@@ -189,8 +178,8 @@ impl Runner {
         ensures { result ≡ credit self key pool units }
     {
         let accounting = self.account_for(key, pool, units);
-        let credits = accounting.credits;
         let received = accounting.received;
+        let credits = accounting.credits;
         self.credits = credits;
         Hearing {
             runner: self,
@@ -203,18 +192,13 @@ impl Runner {
     pub fn input(mut self, key: Key, store: &mut [u8], lengths: &mut [u32], bytes: &[u8]) -> Hearing
         ensures { input_after result store.new lengths.new ≡ input self key bytes.now store.old lengths.old }
     {
-        let limits = self.limits;
-        let enough = bytes_do(limits, store.len()) & lengths_do(limits, lengths.len());
+        let enough = bytes_do(self.limits, store.len()) & lengths_do(self.limits, lengths.len());
         let good = self.agrees(enough) & self.stands();
         let received = if self.hears(good, key) {
-            let held = self.input;
-            let receiving = held.receive(limits, store, lengths, bytes);
-            let input = receiving.input;
-            let answer = receiving.received;
-            self.input = input;
-            let mark = self.mark(is_dropped(answer));
-            self.high_water = mark;
-            answer
+            let receiving = self.input.receive(self.limits, store, lengths, bytes);
+            self.input = receiving.input;
+            self.high_water = self.mark(is_dropped(receiving.received));
+            receiving.received
         } else {
             self.meets(good, key)
         };
@@ -225,86 +209,49 @@ impl Runner {
     }
 
     // The end of the workload's input from the peer.
-    #[tactic(auto, unfolding(crate::specs::Calls::end_input), using(crate::proofs::Guards::tested_stop))]
+    #[tactic(auto, unfolding(crate::specs::Calls::end_input))]
     pub fn end_input(self, key: Key) -> Hearing
         ensures { result ≡ end_input self key }
     {
-        if self.agrees(true) & self.stands() {
-            let own = self.key;
-            return self.end_as(own.admits(key));
+        match self.check(true) {
+            Ok(()) => self.end_as(self.key.admits(key)),
+            Err(refusal) => Hearing {
+                runner: self,
+                received: Err(refusal),
+            },
         }
-        self.unheard()
     }
 
     // The peer's cancellation: it ends the workload for `cause`, and begins the grace of its pending output. Late once a
     // termination began or the execution ended; nothing at all for a stale key.
-    // Its answers are all given here: a function below would copy the runner once more.
-    #[tactic(auto, unfolding(crate::specs::Calls::cancel, crate::specs::Life::cancel_answer, crate::specs::Life::cancel_next, crate::specs::Life::cancelled), using(crate::proofs::Guards::tested_stop, crate::proofs::Quiet::ticked_is))]
+    #[tactic(auto, unfolding(crate::specs::Calls::cancel))]
     pub fn cancel(self, now: u64, key: Key, cause: Cause) -> Hearing
         ensures { result ≡ cancel self now key cause }
     {
-        if self.agrees(true) & self.stands() {
-            let own = self.key;
-            let admission = own.admits(key);
-            match admission {
-                Admission::Refused(refusal) => {
-                    return Hearing {
-                        runner: self,
-                        received: Received::Refused(refusal),
-                    };
-                }
-                Admission::Stale => {
-                    return Hearing {
-                        runner: self,
-                        received: Received::Receipt(Receipt::Stale),
-                    };
-                }
-                Admission::Own => {
-                    if self.any_due(now) {
-                        let r = self.fire(now);
-                        return r.cancel_now(now, cause);
-                    }
-                    if self.flags.finished | self.clocks.terminated {
-                        return Hearing {
-                            runner: self,
-                            received: Received::Receipt(Receipt::Late),
-                        };
-                    }
-                    let runner = self.terminate(now, cause);
-                    return Hearing {
-                        runner,
-                        received: Received::Receipt(Receipt::Applied),
-                    };
-                }
-            }
+        match self.check(true) {
+            Ok(()) => self.cancel_as(self.key.admits(key), now, cause),
+            Err(refusal) => Hearing {
+                runner: self,
+                received: Err(refusal),
+            },
         }
-        self.unheard()
     }
 
     // The workload's launch result. Only the first counts, and none once the runner gave up on it.
-    #[tactic(auto, unfolding(crate::specs::Calls::launched), using(crate::proofs::Guards::tested_stop))]
-    pub fn launched(self, report: LaunchResult) -> Noting
+    #[tactic(auto, unfolding(crate::specs::Calls::launched))]
+    pub fn launched(self, report: Result<(), LaunchFailure>) -> Noting
         ensures { result ≡ launched self report }
     {
-        if self.agrees(true) & self.stands() {
-            let runner = self.launch(report);
-            return Noting {
-                runner,
-                reply: Reply::Ok,
-            };
-        }
-        self.refused()
+        self.note(|runner| runner.launch(report))
     }
 
     // How many more bytes of a stream may be read and handed over with `output`.
-    #[tactic(auto, unfolding(crate::specs::Calls::read_allowance), using(crate::proofs::Guards::tested_stop))]
-    pub fn read_allowance(self, stream: Stream) -> Count
+    #[tactic(auto, unfolding(crate::specs::Calls::read_allowance))]
+    pub fn read_allowance(self, stream: Stream) -> Result<usize, Refusal>
         ensures { result ≡ read_allowance self stream }
     {
-        if self.agrees(true) & self.stands() {
-            return Count::Is(self.allowance(stream));
-        }
-        self.no_count()
+        self.check(true)?;
+        Ok(self.allowance(stream))
     }
 
     // Bytes that were read from a stream, in order, of which it takes as many as the allowance lets it. While the stream is
@@ -313,22 +260,18 @@ impl Runner {
     pub fn output(mut self, stream: Stream, store: &mut [u8], bytes: &[u8]) -> Taking
         ensures { output_after result store.new ≡ output self stream bytes.now store.old }
     {
-        let limits = self.limits;
-        let enough = bytes_do(limits, store.len());
+        let enough = bytes_do(self.limits, store.len());
         let taken = if self.agrees(enough) & self.stands() {
             let none = self.keeps_none(stream);
-            let chunk = limits.chunk;
-            let outputs = self.outputs;
-            let output = output_in(stream, outputs);
-            let base = ring_base(stream, chunk);
-            let intake = output.take_in(self.flags.gave_up, store, base, chunk, bytes);
-            let next = put_output(stream, intake.output, outputs);
-            self.outputs = next;
-            let mark = self.mark(none);
-            self.high_water = mark;
-            Taken::Bytes(intake.taken)
+            let output = output_in(stream, self.outputs);
+            let base = ring_base(stream, self.limits.chunk);
+            let intake = output.take_in(self.flags.gave_up, store, base, self.limits.chunk, bytes);
+            let outputs = put_output(stream, intake.output, self.outputs);
+            self.outputs = outputs;
+            self.high_water = self.mark(none);
+            Ok(intake.taken)
         } else {
-            Taken::Refused(self.stopped())
+            Err(self.stopped())
         };
         Taking {
             runner: self,
@@ -337,80 +280,45 @@ impl Runner {
     }
 
     // So many bytes of a stream were read and dropped, which truncates it unless there were none.
-    #[tactic(auto, unfolding(crate::specs::Calls::discarded), using(crate::proofs::Guards::tested_stop))]
+    #[tactic(auto, unfolding(crate::specs::Calls::discarded, crate::specs::Streams::discarded_next))]
     pub fn discarded(self, stream: Stream, bytes: usize) -> Noting
         ensures { result ≡ discarded self stream bytes }
     {
-        if self.agrees(true) & self.stands() {
-            let runner = self.discard_output(stream, bytes);
-            return Noting {
-                runner,
-                reply: Reply::Ok,
-            };
-        }
-        self.refused()
+        self.note(|runner| runner.at(stream, |output| output.discard(bytes)))
     }
 
     // Every writer of a stream closed it.
-    #[tactic(auto, unfolding(crate::specs::Calls::output_closed), using(crate::proofs::Guards::tested_stop))]
+    #[tactic(auto, unfolding(crate::specs::Calls::output_closed, crate::specs::Streams::closed_next))]
     pub fn output_closed(self, stream: Stream) -> Noting
         ensures { result ≡ output_closed self stream }
     {
-        if self.agrees(true) & self.stands() {
-            let runner = self.close_output(stream);
-            return Noting {
-                runner,
-                reply: Reply::Ok,
-            };
-        }
-        self.refused()
+        self.note(|runner| runner.at(stream, |output| output.close()))
     }
 
     // Reading a stream failed, which ends and truncates it.
-    #[tactic(auto, unfolding(crate::specs::Calls::output_failed), using(crate::proofs::Guards::tested_stop))]
+    #[tactic(auto, unfolding(crate::specs::Calls::output_failed, crate::specs::Streams::failed_next))]
     pub fn output_failed(self, stream: Stream) -> Noting
         ensures { result ≡ output_failed self stream }
     {
-        if self.agrees(true) & self.stands() {
-            let runner = self.fail_output(stream);
-            return Noting {
-                runner,
-                reply: Reply::Ok,
-            };
-        }
-        self.refused()
+        self.note(|runner| runner.at(stream, |output| output.fail()))
     }
 
     // Every writer of a stream closed it, though it is not read to its end.
-    #[tactic(auto, unfolding(crate::specs::Calls::output_hung_up), using(crate::proofs::Guards::tested_stop))]
+    #[tactic(auto, unfolding(crate::specs::Calls::output_hung_up, crate::specs::Streams::hung_up_next))]
     pub fn output_hung_up(self, stream: Stream) -> Noting
         ensures { result ≡ output_hung_up self stream }
     {
-        if self.agrees(true) & self.stands() {
-            let runner = self.hang_up_output(stream);
-            return Noting {
-                runner,
-                reply: Reply::Ok,
-            };
-        }
-        self.refused()
+        self.note(|runner| runner.at(stream, |output| output.hang_up()))
     }
 
     // The bytes of input that the adapter writes to the workload next: those that wait from the ring's head to the end of its
-    // area, as a part of the byte store. The refusal's number is left in `refusal`, 0 where there is none.
-    #[tactic(auto, unfolding(crate::specs::Calls::pending_input, crate::specs::Streams::pending_of), using(crate::proofs::Guards::tested_stop))]
-    pub fn pending_input<'a>(self, store: &'a [u8], refusal: &mut u32) -> &'a [u8]
-        ensures { pending_after result.now refusal.new ≡ pending_input self store.now }
+    // area, as a part of the byte store.
+    #[tactic(auto, unfolding(crate::specs::Calls::pending_input, crate::specs::Streams::pending_of))]
+    pub fn pending_input<'a>(self, store: &'a [u8]) -> Result<&'a [u8], Refusal>
+        ensures { lent result ≡ pending_input self store.now }
     {
-        let limits = self.limits;
-        let enough = bytes_do(limits, store.len());
-        if self.agrees(enough) & self.stands() {
-            *refusal = 0;
-            let input = self.input;
-            return input.pending(limits, store);
-        }
-        *refusal = self.stopped().number();
-        &store[0..0]
+        self.check(bytes_do(self.limits, store.len()))?;
+        Ok(self.input.pending(self.limits, store))
     }
 
     // The workload took so many bytes of its input.
@@ -418,14 +326,11 @@ impl Runner {
     pub fn input_written(mut self, lengths: &mut [u32], bytes: usize) -> Noting
         ensures { written_after result lengths.new ≡ input_written self bytes lengths.old }
     {
-        let limits = self.limits;
-        let enough = lengths_do(limits, lengths.len());
+        let enough = lengths_do(self.limits, lengths.len());
         let good = self.agrees(enough) & self.stands();
         let reply = self.reply(good);
         if good {
-            let held = self.input;
-            let input = held.written(limits, lengths, bytes);
-            self.input = input;
+            self.input = self.input.written(self.limits, lengths, bytes);
         }
         Noting {
             runner: self,
@@ -434,93 +339,51 @@ impl Runner {
     }
 
     // The workload's input closed, other than by the runner's request.
-    #[tactic(auto, unfolding(crate::specs::Calls::input_closed), using(crate::proofs::Guards::tested_stop))]
+    #[tactic(auto, unfolding(crate::specs::Calls::input_closed))]
     pub fn input_closed(self) -> Noting
         ensures { result ≡ input_closed self }
     {
-        if self.agrees(true) & self.stands() {
-            let runner = self.close_input();
-            return Noting {
-                runner,
-                reply: Reply::Ok,
-            };
-        }
-        self.refused()
+        self.note(|runner| runner.close_input())
     }
 
     // The workload's end, with its status unless that is lost. Only the first counts.
-    #[tactic(auto, unfolding(crate::specs::Calls::exited), using(crate::proofs::Guards::tested_stop))]
-    pub fn exited(self, now: u64, status: MaybeStatus) -> Noting
+    #[tactic(auto, unfolding(crate::specs::Calls::exited))]
+    pub fn exited(self, now: u64, status: Option<Status>) -> Noting
         ensures { result ≡ exited self now status }
     {
-        if self.agrees(true) & self.stands() {
-            let runner = self.exit(now, status);
-            return Noting {
-                runner,
-                reply: Reply::Ok,
-            };
-        }
-        self.refused()
+        self.note(|runner| runner.exit(now, status))
     }
 
     // The result of the settlement that was requested.
-    #[tactic(auto, unfolding(crate::specs::Calls::settled), using(crate::proofs::Guards::tested_stop))]
+    #[tactic(auto, unfolding(crate::specs::Calls::settled))]
     pub fn settled(self, report: Settlement) -> Noting
         ensures { result ≡ settled self report }
     {
-        if self.agrees(true) & self.stands() {
-            let runner = self.settle(report);
-            return Noting {
-                runner,
-                reply: Reply::Ok,
-            };
-        }
-        self.refused()
+        self.note(|runner| runner.settle(report))
     }
 
     // Ends the workload, as the adapter abandons the execution, and detaches the runner from the peer.
-    #[tactic(auto, unfolding(crate::specs::Calls::dropped), using(crate::proofs::Guards::tested_stop))]
+    #[tactic(auto, unfolding(crate::specs::Calls::dropped))]
     pub fn dropped(self, now: u64) -> Noting
         ensures { result ≡ dropped self now }
     {
-        if self.agrees(true) & self.stands() {
-            let runner = self.detach(now, Cause::Dropped);
-            return Noting {
-                runner,
-                reply: Reply::Ok,
-            };
-        }
-        self.refused()
+        self.note(|runner| runner.detach(now, Cause::Dropped))
     }
 
     // Ends the workload, as the session with the peer was reset, and detaches the runner from the peer.
-    #[tactic(auto, unfolding(crate::specs::Calls::reset), using(crate::proofs::Guards::tested_stop))]
+    #[tactic(auto, unfolding(crate::specs::Calls::reset))]
     pub fn reset(self, now: u64) -> Noting
         ensures { result ≡ reset self now }
     {
-        if self.agrees(true) & self.stands() {
-            let runner = self.detach(now, Cause::Reset);
-            return Noting {
-                runner,
-                reply: Reply::Ok,
-            };
-        }
-        self.refused()
+        self.note(|runner| runner.detach(now, Cause::Reset))
     }
 
     // Ends the workload, as the transport to the peer was lost, and detaches the runner from the peer.
-    #[tactic(auto, unfolding(crate::specs::Calls::disconnect), using(crate::proofs::Guards::tested_stop))]
+    #[tactic(auto, unfolding(crate::specs::Calls::disconnect))]
     pub fn disconnect(self, now: u64) -> Noting
         ensures { result ≡ disconnect self now }
     {
-        if self.agrees(true) & self.stands() {
-            let runner = self.detach(now, Cause::Disconnected);
-            return Noting {
-                runner,
-                reply: Reply::Ok,
-            };
-        }
-        self.refused()
+        self.note(|runner| runner.detach(now, Cause::Disconnected))
     }
 
     // Fires the timers whose instants `now` has reached. They are handed a copy, and what they do not move is left in its place, so
@@ -534,17 +397,13 @@ impl Runner {
         if good & self.any_due(now) {
             let before = self;
             let after = before.fire(now);
-            let fired = after.clocks;
-            let clocks = fired.again();
-            let lived = after.life;
-            let life = lived.again();
-            let flags = after.flags;
-            let input = after.input;
-            let outputs = after.outputs;
+            let clocks = after.clocks.again();
+            let life = after.life.again();
             self.clocks = clocks;
             self.life = life;
-            self.flags = flags;
-            self.input = input;
+            self.flags = after.flags;
+            self.input = after.input;
+            let outputs = after.outputs;
             self.outputs = outputs;
         }
         Noting {
@@ -554,43 +413,41 @@ impl Runner {
     }
 
     // When the next timer fires.
-    #[tactic(auto, unfolding(crate::specs::Calls::deadline), using(crate::proofs::Guards::tested_stop))]
-    pub fn deadline(self) -> When
+    #[tactic(auto, unfolding(crate::specs::Calls::deadline))]
+    pub fn deadline(self) -> Result<Option<u64>, Refusal>
         ensures { result ≡ deadline self }
     {
-        if self.agrees(true) & self.stands() {
-            return When::Is(self.deadline_of());
-        }
-        self.no_time()
+        self.check(true)?;
+        Ok(self.deadline_of())
     }
 
     // The next request to apply to the workload, if one waits.
-    #[tactic(auto, unfolding(crate::specs::Calls::next_request, crate::specs::Message::wish_effect), using(crate::proofs::Guards::tested_stop))]
+    #[tactic(auto, unfolding(crate::specs::Calls::next_request, crate::specs::Message::wish_effect))]
     pub fn next_request(self) -> Asking
         ensures { result ≡ next_request self }
     {
-        if self.agrees(true) & self.stands() {
-            let wanted = self.wish();
-            match wanted {
-                Wish::None => {
-                    return Asking {
-                        runner: self,
-                        asked: Asked::None,
-                    };
-                }
-                Wish::Request(request) => {
-                    let runner = self.hand(request);
-                    return Asking {
-                        runner,
-                        asked: Asked::Request(request),
-                    };
-                }
-            }
+        match self.check(true) {
+            Ok(()) => self.ask(self.wish()),
+            Err(refusal) => Asking {
+                runner: self,
+                asked: Err(refusal),
+            },
         }
-        let refusal = self.stopped();
-        Asking {
-            runner: self,
-            asked: Asked::Refused(refusal),
+    }
+
+    #[tactic(auto, unfolding(crate::specs::Message::wish_effect))]
+    fn ask(self, wish: Option<Request>) -> Asking
+        ensures { result ≡ record { runner = wish_effect wish self; asked = asked_for wish } }
+    {
+        match wish {
+            None => Asking {
+                runner: self,
+                asked: Ok(None),
+            },
+            Some(request) => Asking {
+                runner: self.hand(request),
+                asked: Ok(Some(request)),
+            },
         }
     }
 
@@ -599,8 +456,7 @@ impl Runner {
     pub fn next_message(self, store: &[u8], buffer: &mut [u8]) -> Saying
         ensures { message_after result buffer.new ≡ next_message self store.now buffer.old }
     {
-        let limits = self.limits;
-        let enough = bytes_do(limits, store.len());
+        let enough = bytes_do(self.limits, store.len());
         let good = self.agrees(enough) & self.stands();
         let choice = self.choice(good, buffer.len());
         let said = self.answer(good, choice);
@@ -609,71 +465,56 @@ impl Runner {
     }
 
     // Whether the terminal outcome was returned.
-    #[tactic(auto, unfolding(crate::specs::Calls::is_finished), using(crate::proofs::Guards::tested_stop))]
-    pub fn is_finished(self) -> Truth
+    #[tactic(auto, unfolding(crate::specs::Calls::is_finished))]
+    pub fn is_finished(self) -> Result<bool, Refusal>
         ensures { result ≡ is_finished self }
     {
-        if self.agrees(true) & self.stands() {
-            return Truth::Is(self.flags.finished);
-        }
-        self.no_truth()
+        self.check(true)?;
+        Ok(self.flags.finished)
     }
 
     // Whether the runner is detached from the peer.
-    #[tactic(auto, unfolding(crate::specs::Calls::is_detached), using(crate::proofs::Guards::tested_stop))]
-    pub fn is_detached(self) -> Truth
+    #[tactic(auto, unfolding(crate::specs::Calls::is_detached))]
+    pub fn is_detached(self) -> Result<bool, Refusal>
         ensures { result ≡ is_detached self }
     {
-        if self.agrees(true) & self.stands() {
-            return Truth::Is(self.flags.detached);
-        }
-        self.no_truth()
+        self.check(true)?;
+        Ok(self.flags.detached)
     }
 
     // Whether the result of the settlement is awaited.
-    #[tactic(auto, unfolding(crate::specs::Calls::awaits_settlement), using(crate::proofs::Guards::tested_stop))]
-    pub fn awaits_settlement(self) -> Truth
+    #[tactic(auto, unfolding(crate::specs::Calls::awaits_settlement))]
+    pub fn awaits_settlement(self) -> Result<bool, Refusal>
         ensures { result ≡ awaits_settlement self }
     {
-        if self.agrees(true) & self.stands() {
-            let life = self.life;
-            let settling = life.settling;
-            return Truth::Is(settling.is_requested());
-        }
-        self.no_truth()
+        self.check(true)?;
+        Ok(self.life.settling.is_requested())
     }
 
     // The most bytes that the runner holds at once.
-    #[tactic(auto, unfolding(crate::specs::Calls::memory_bound), using(crate::proofs::Guards::tested_stop))]
-    pub fn memory_bound(self) -> Count
+    #[tactic(auto, unfolding(crate::specs::Calls::memory_bound))]
+    pub fn memory_bound(self) -> Result<usize, Refusal>
         ensures { result ≡ memory_bound self }
     {
-        if self.agrees(true) & self.stands() {
-            let limits = self.limits;
-            return Count::Is(inbox::need::byte_need(limits));
-        }
-        self.no_count()
+        self.check(true)?;
+        Ok(inbox::need::byte_need(self.limits))
     }
 
     // The bytes that the runner holds now.
-    #[tactic(auto, unfolding(crate::specs::Calls::buffered), using(crate::proofs::Guards::tested_stop))]
-    pub fn buffered(self) -> Count
+    #[tactic(auto, unfolding(crate::specs::Calls::buffered))]
+    pub fn buffered(self) -> Result<usize, Refusal>
         ensures { result ≡ buffered self }
     {
-        if self.agrees(true) & self.stands() {
-            return Count::Is(self.held());
-        }
-        self.no_count()
+        self.check(true)?;
+        Ok(self.held())
     }
 
     // The most bytes that the runner has held at once.
-    #[tactic(auto, unfolding(crate::specs::Calls::high_water), using(crate::proofs::Guards::tested_stop))]
-    pub fn high_water(self) -> Count
+    #[tactic(auto, unfolding(crate::specs::Calls::high_water))]
+    pub fn high_water(self) -> Result<usize, Refusal>
         ensures { result ≡ high_water self }
     {
-        if self.agrees(true) & self.stands() {
-            return Count::Is(self.high_water);
-        }
-        self.no_count()
+        self.check(true)?;
+        Ok(self.high_water)
     }
 }

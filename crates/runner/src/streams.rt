@@ -1,18 +1,17 @@
 // The output streams, the credit and the input: what each call does once it is not refused by 12, 10 or 11.
 ghost use Rattle.std.specs.Prelude.{◌≡◌, cond, not, ◌&&◌, ◌≤◌, ◌<◌, ◌^◌, max, length};
+ghost use Rattle.exec.specs.declared.Admission.TheVariants.{Own};
 ghost use Rattle.exec.specs.Key.{admits};
 ghost use Rattle.inbox.specs.Need.{byte_need};
 ghost use Rattle.input.specs.Input.{is_applied};
 ghost use Rattle.runner.specs.Calls.{credit, accounting_of};
 ghost use Rattle.runner.specs.RangeLaws.{InRange};
-ghost use Rattle.runner.specs.State.{buffered};
+ghost use Rattle.runner.specs.State.{buffered, out_of, with_outputs};
+ghost use Rattle.output.specs.declared.Output.{Output};
+ghost use Rattle.output.specs.Outputs.{put_output};
 ghost use Rattle.runner.specs.Streams.{
   keeps_none,
   read_allowance_of,
-  discarded_next,
-  closed_next,
-  failed_next,
-  hung_up_next,
   credit_in,
   credit_answer,
   credit_next,
@@ -27,7 +26,8 @@ use crate::answer::Hearing;
 use crate::pairs::{credit_at, put_credit};
 use crate::runner::Runner;
 use credit::sender::Credit;
-use exec::{Admission, Key, Pool, PoolIndex, Receipt, Received, Reply, Stream};
+use exec::{Admission, Key, Pool, Receipt, Refusal, Stream};
+use output::Output;
 use output::outputs::{output_in, put_output};
 
 // What credit moves of the runner, and its answer. Such parts are handed back, and not the runner, as the grant has several ways
@@ -35,7 +35,7 @@ use output::outputs::{output_in, put_output};
 #[derive(Clone, Copy)]
 pub struct Accounting {
     pub credits: [Credit; 2],
-    pub received: Received,
+    pub received: Result<Receipt, Refusal>,
 }
 
 impl Runner {
@@ -44,10 +44,7 @@ impl Runner {
         requires { buffered self < 2 ^ 64 }
         ensures { result ≡ buffered self }
     {
-        let outputs = self.outputs;
-        let input = self.input;
-        let inbox = input.inbox;
-        output::outputs::buffered_of(outputs) + inbox.length
+        output::outputs::buffered_of(self.outputs) + self.input.inbox.length
     }
 
     // The high-water mark, given whether a call kept none of its bytes.
@@ -67,37 +64,34 @@ impl Runner {
     pub(crate) fn hears(self, good: bool, key: Key) -> bool
         ensures { result ≡ (good && is_taken (admits self.key key) self) }
     {
-        let own = self.key;
-        let admission = own.admits(key);
+        let admission = self.key.admits(key);
         match admission {
-            Admission::Refused(_) => false,
-            Admission::Stale => false,
-            Admission::Own => good & !self.flags.finished,
+            Err(_) => false,
+            Ok(Admission::Stale) => false,
+            Ok(Admission::Own) => good & !self.flags.finished,
         }
     }
 
     // The answer to one that does nothing.
-    pub(crate) fn meets(self, good: bool, key: Key) -> Received
+    pub(crate) fn meets(self, good: bool, key: Key) -> Result<Receipt, Refusal>
         ensures { result ≡ met good (admits self.key key) self }
     {
         if good {
-            let own = self.key;
-            let admission = own.admits(key);
+            let admission = self.key.admits(key);
             return match admission {
-                Admission::Refused(refusal) => Received::Refused(refusal),
-                Admission::Stale => Received::Receipt(Receipt::Stale),
-                Admission::Own => Received::Receipt(Receipt::Late),
+                Err(refusal) => Err(refusal),
+                Ok(Admission::Stale) => Ok(Receipt::Stale),
+                Ok(Admission::Own) => Ok(Receipt::Late),
             };
         }
-        Received::Refused(self.stopped())
+        Err(self.stopped())
     }
 
     // Whether a stream's bytes are not kept: it closed, or the runner gave up on it or discards it.
     pub(crate) fn keeps_none(self, stream: Stream) -> bool
         ensures { result ≡ keeps_none stream self }
     {
-        let outputs = self.outputs;
-        let output = output_in(stream, outputs);
+        let output = output_in(stream, self.outputs);
         (output.closed | self.flags.gave_up) | output.discarding
     }
 
@@ -106,55 +100,18 @@ impl Runner {
         requires { InRange self }
         ensures { result ≡ read_allowance_of self stream }
     {
-        let outputs = self.outputs;
-        let output = output_in(stream, outputs);
-        let limits = self.limits;
-        output.allowance(self.flags.gave_up, limits.chunk) as usize
+        let output = output_in(stream, self.outputs);
+        output.allowance(self.flags.gave_up, self.limits.chunk) as usize
     }
 
-    // What the adapter reports of a stream.
-
-    #[tactic(auto, unfolding(crate::specs::Streams::discarded_next))]
-    pub(crate) fn discard_output(mut self, stream: Stream, bytes: usize) -> Runner
-        ensures { result ≡ discarded_next self stream bytes }
+    // What the adapter reports of a stream changes its output alone.
+    pub(crate) fn at<F: FnOnce(Output) -> Output>(mut self, stream: Stream, change: F) -> Runner
+        requires { F.IsAlwaysCallable change }
+        ensures { (output : Output) × F.post change (out_of stream self) output × (result ≡ with_outputs (put_output stream output self.outputs) self) }
     {
-        let outputs = self.outputs;
-        let output = output_in(stream, outputs);
-        let next = put_output(stream, output.discard(bytes), outputs);
-        self.outputs = next;
-        self
-    }
-
-    #[tactic(auto, unfolding(crate::specs::Streams::closed_next))]
-    pub(crate) fn close_output(mut self, stream: Stream) -> Runner
-        ensures { result ≡ closed_next self stream }
-    {
-        let outputs = self.outputs;
-        let output = output_in(stream, outputs);
-        let next = put_output(stream, output.close(), outputs);
-        self.outputs = next;
-        self
-    }
-
-    #[tactic(auto, unfolding(crate::specs::Streams::failed_next))]
-    pub(crate) fn fail_output(mut self, stream: Stream) -> Runner
-        ensures { result ≡ failed_next self stream }
-    {
-        let outputs = self.outputs;
-        let output = output_in(stream, outputs);
-        let next = put_output(stream, output.fail(), outputs);
-        self.outputs = next;
-        self
-    }
-
-    #[tactic(auto, unfolding(crate::specs::Streams::hung_up_next))]
-    pub(crate) fn hang_up_output(mut self, stream: Stream) -> Runner
-        ensures { result ≡ hung_up_next self stream }
-    {
-        let outputs = self.outputs;
-        let output = output_in(stream, outputs);
-        let next = put_output(stream, output.hang_up(), outputs);
-        self.outputs = next;
+        let output = change(output_in(stream, self.outputs));
+        let outputs = put_output(stream, output, self.outputs);
+        self.outputs = outputs;
         self
     }
 
@@ -164,67 +121,69 @@ impl Runner {
         ensures { result ≡ accounting_of (credit self key pool units) }
     {
         if self.agrees(true) & self.stands() {
-            let own = self.key;
-            let limits = self.limits;
-            return self.grant_as(own.admits(key), limits.output_pool(pool), units);
+            return self.grant_as(self.key.admits(key), self.limits.output_pool(pool), units);
         }
         let credits = self.credits;
         let refusal = self.stopped();
         Accounting {
             credits,
-            received: Received::Refused(refusal),
+            received: Err(refusal),
         }
     }
 
     #[tactic(auto, unfolding(crate::specs::Streams::credit_answer, crate::specs::Streams::credit_next))]
-    fn grant_as(self, admission: Admission, pool: PoolIndex, units: u32) -> Accounting
+    fn grant_as(
+        self,
+        admission: Result<Admission, Refusal>,
+        pool: Result<usize, Refusal>,
+        units: u32,
+    ) -> Accounting
         ensures { result ≡ record { credits = (credit_next admission pool self units).credits; received = credit_answer admission pool self units } }
     {
         let credits = self.credits;
         match admission {
-            Admission::Refused(refusal) => Accounting {
+            Err(refusal) => Accounting {
                 credits,
-                received: Received::Refused(refusal),
+                received: Err(refusal),
             },
-            Admission::Stale => Accounting {
+            Ok(Admission::Stale) => Accounting {
                 credits,
-                received: Received::Receipt(Receipt::Stale),
+                received: Ok(Receipt::Stale),
             },
-            Admission::Own => self.grant_in(pool, units),
+            Ok(Admission::Own) => self.grant_in(pool, units),
         }
     }
 
     #[tactic(auto, unfolding(crate::specs::Streams::credit_in, crate::specs::Streams::credit_next))]
-    fn grant_in(self, pool: PoolIndex, units: u32) -> Accounting
-        ensures { result ≡ record { credits = (credit_next Admission.Own pool self units).credits; received = credit_in pool self units } }
+    fn grant_in(self, pool: Result<usize, Refusal>, units: u32) -> Accounting
+        ensures { result ≡ record { credits = (credit_next (Ok Own) pool self units).credits; received = credit_in pool self units } }
     {
         let credits = self.credits;
         match pool {
-            PoolIndex::Refused(refusal) => Accounting {
+            Err(refusal) => Accounting {
                 credits,
-                received: Received::Refused(refusal),
+                received: Err(refusal),
             },
-            PoolIndex::At(index) => self.grant_at(index, units),
+            Ok(index) => self.grant_at(index, units),
         }
     }
 
     #[tactic(auto, unfolding(crate::specs::Streams::credit_in, crate::specs::Streams::credit_next))]
     fn grant_at(self, index: usize, units: u32) -> Accounting
-        ensures { result ≡ record { credits = (credit_next Admission.Own (PoolIndex.At index) self units).credits; received = credit_in (PoolIndex.At index) self units } }
+        ensures { result ≡ record { credits = (credit_next (Ok Own) (Ok index) self units).credits; received = credit_in (Ok index) self units } }
     {
         let credits = self.credits;
         if self.flags.finished {
             return Accounting {
                 credits,
-                received: Received::Receipt(Receipt::Late),
+                received: Ok(Receipt::Late),
             };
         }
         let account = credit_at(index, credits);
         let granting = account.grant_in(units);
         // An account that refused the grant is put back as it was: one way to end is quicker than two.
         let next = put_credit(index, granting.credit, credits);
-        let reply = granting.reply;
-        let received = receipt_of(reply);
+        let received = receipt_of(granting.reply);
         Accounting {
             credits: next,
             received,
@@ -233,36 +192,34 @@ impl Runner {
 
     // The peer's end of the input.
     #[tactic(auto, unfolding(crate::specs::Streams::end_answer, crate::specs::Streams::end_next))]
-    pub(crate) fn end_as(self, admission: Admission) -> Hearing
+    pub(crate) fn end_as(self, admission: Result<Admission, Refusal>) -> Hearing
         ensures { result ≡ record { runner = end_next admission self; received = end_answer admission self } }
     {
         match admission {
-            Admission::Refused(refusal) => Hearing {
+            Err(refusal) => Hearing {
                 runner: self,
-                received: Received::Refused(refusal),
+                received: Err(refusal),
             },
-            Admission::Stale => Hearing {
+            Ok(Admission::Stale) => Hearing {
                 runner: self,
-                received: Received::Receipt(Receipt::Stale),
+                received: Ok(Receipt::Stale),
             },
-            Admission::Own => self.end(),
+            Ok(Admission::Own) => self.end(),
         }
     }
 
     #[tactic(auto, unfolding(crate::specs::Streams::end_answer, crate::specs::Streams::end_next))]
     fn end(mut self) -> Hearing
-        ensures { result ≡ record { runner = end_next Admission.Own self; received = end_answer Admission.Own self } }
+        ensures { result ≡ record { runner = end_next (Ok Own) self; received = end_answer (Ok Own) self } }
     {
         if self.flags.finished {
             return Hearing {
                 runner: self,
-                received: Received::Receipt(Receipt::Late),
+                received: Ok(Receipt::Late),
             };
         }
-        let held = self.input;
-        let receiving = held.end();
-        let input = receiving.input;
-        self.input = input;
+        let receiving = self.input.end();
+        self.input = receiving.input;
         let received = receiving.received;
         Hearing {
             runner: self,
@@ -279,12 +236,12 @@ fn larger(a: usize, b: usize) -> usize
 }
 
 // Whether a message's bytes are not kept, by its answer.
-pub(crate) fn is_dropped(received: Received) -> bool
+pub(crate) fn is_dropped(received: Result<Receipt, Refusal>) -> bool
     ensures { result ≡ not (is_applied received) }
 {
     match received {
-        Received::Refused(_) => true,
-        Received::Receipt(receipt) => match receipt {
+        Err(_) => true,
+        Ok(receipt) => match receipt {
             Receipt::Applied => false,
             Receipt::Stale => true,
             Receipt::Late => true,
@@ -293,11 +250,11 @@ pub(crate) fn is_dropped(received: Received) -> bool
 }
 
 // A grant's reply as the answer to its message.
-fn receipt_of(reply: Reply) -> Received
+fn receipt_of(reply: Result<(), Refusal>) -> Result<Receipt, Refusal>
     ensures { result ≡ receipt_of reply }
 {
     match reply {
-        Reply::Ok => Received::Receipt(Receipt::Applied),
-        Reply::Refused(refusal) => Received::Refused(refusal),
+        Ok(()) => Ok(Receipt::Applied),
+        Err(refusal) => Err(refusal),
     }
 }

@@ -8,11 +8,11 @@ use std::io::Read;
 fn main(rt: HostRuntime) -> io::Result<()> {
     let mut from = rt.stdin();
     let mut to = io::writer(&rt);
-    let mut line = feeder::area();
-    let mut store = feeder::area();
-    let mut lengths = feeder::lengths_area();
-    let mut piece = feeder::area();
-    let mut out = feeder::large_area();
+    let mut line = [0u8; feeder::AREA];
+    let mut store = [0u8; feeder::AREA];
+    let mut lengths = [0u32; feeder::LENGTHS];
+    let mut piece = [0u8; feeder::AREA];
+    let mut out = [0u8; feeder::LARGE_AREA];
     let mut card = Card::new();
     // A number of turns that no run uses up.
     for _ in 0..u64::MAX {

@@ -1,9 +1,10 @@
 -- How a session's standing changes, by the way of a line.
+use Rattle.std.specs.Prelude.{Result, Ok, Err}
+use Rattle.exec.specs.declared.Refusal.{Refusal}
 use mathlib.Core.Path.{◌≡◌, refl, ap, ◌∙◌}
 use mathlib.Core.List.{List}
 use lib.ListN.{length}
 use Prim.Native.Nat.{ℕ}
-use Rattle.exec.specs.declared.Reply.{Reply}
 use Rattle.runner.specs.declared.answer.Noting.{Noting}
 use Rattle.runner.specs.declared.runner.Runner.{Runner}
 use Rattle.answering.specs.declared.Answer.{Answer}
@@ -50,7 +51,7 @@ pub opened_first : (o : Openings.Opening) (s : Standing) (before : Stores) (s' :
 unfolding first
 opened_first o s before s' a after n e hb hl h w = by (opened o).reply (rw (e ∙ same_opening o before hb hl) at (h w))
   where
-    by : (x : Reply) → Told (opened_as x (opened o).runner) (place_of s before) s' a after w
+    by : (x : Result (Unit {0}) Refusal) → Told (opened_as x (opened o).runner) (place_of s before) s' a after w
         → Told (opened_by x (record { conf = record { key = o.key; limits = o.limits; timers = o.timers }; now = o.now })) (place_of s before) s' a after w
-    by Reply.Ok h = h
-    by (Reply.Refused y) h = h
+    by (Ok tt) h = h
+    by (Err y) h = h

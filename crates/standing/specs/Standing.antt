@@ -1,8 +1,7 @@
 -- Where a session of the code stands, with the stores that are lent to it, and how a line is answered there.
-use Rattle.std.specs.Prelude.{◌≡◌, refl, List, ℕ}
+use Rattle.std.specs.Prelude.{◌≡◌, refl, List, ℕ, Option, Result, Some, Ok, Err}
 use Rattle.std.proofs.Common.{ap, ◌∙◌}
-use Rattle.std.proofs.Math.Option.{Option}
-use Rattle.exec.specs.declared.Reply.{Reply}
+use Rattle.exec.specs.declared.Refusal.{Refusal}
 use Rattle.runner.specs.declared.runner.Runner.{Runner}
 use Rattle.calls.specs.Call.{Call}
 use Rattle.account.specs.Step.{State, replied}
@@ -17,7 +16,6 @@ use Rattle.calls.specs.Call as Account
 use Rattle.standing.specs.declared.Stage as Stages
 use Rattle.standing.specs.declared.Stage.TheVariants as Stage
 use Rattle.opening.specs.declared.Opening as Openings
-use Rattle.opening.specs.declared.MaybeOpening.TheVariants as MaybeOpening
 use Rattle.grammar.specs.Feed as Feed
 
 -- the runner's stores
@@ -96,12 +94,12 @@ abbrev pub AnswersAny : (f : Place → Feed.Answered) → Standing → Standing 
 AnswersAny f s s' a = (x : Stores) (work : List ℕ) → Answers f s x s' a x work
 
 -- what open made, from its reply
-abbrev pub opened_as : Reply → Runner → Feed.Answered
-opened_as Reply.Ok r = record { stage = Feed.Running (state_of r (zeros 65536) (zeros 1024)); answer = Account.Ok }
-opened_as (Reply.Refused x) r = record { stage = Feed.Over; answer = replied (Reply.Refused x) }
+abbrev pub opened_as : Result (Unit {0}) Refusal → Runner → Feed.Answered
+opened_as (Ok tt) r = record { stage = Feed.Running (state_of r (zeros 65536) (zeros 1024)); answer = Account.Ok }
+opened_as (Err x) r = record { stage = Feed.Over; answer = replied (Err x) }
 
 abbrev pub first_of : Openings.Opening → Feed.Answered
-first_of o = first (opening_is (MaybeOpening.Some o))
+first_of o = first (opening_is (Some o))
 
 -- a line, at a place
 abbrev pub later_at : Option Call → Place → Feed.Answered

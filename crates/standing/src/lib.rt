@@ -2,19 +2,19 @@
 #![tactic(auto)]
 
 ghost use Rattle.std.specs.Prelude.{◌≡◌, false, ◌+◌, ◌-◌, ◌≤◌, ◌<◌, length};
-ghost use Rattle.std.proofs.Math.Option.{some};
 ghost use Rattle.syntax.specs.Lines.{zeros, line_call};
 ghost use Rattle.opening.specs.Open.{line_open};
 ghost use Rattle.grammar.specs.Feed.{first};
 ghost use Rattle.syntax.specs.Meaning.{call_is};
+ghost use Rattle.exec.specs.declared.Refusal.TheVariants as Refusal;
 ghost use Rattle.answering.specs.declared.Answer.TheVariants as Answer;
 ghost use Rattle.standing.specs.Standing.{stores, Answers, AnswersFirst, AnswersAny, opened_as, first_of, later_at, answered_at, too_long_at, answer_at};
 
 use answering::Answer;
-use exec::Reply;
+use exec::Refusal;
 use making::{clear, make};
-use opening::{MaybeOpening, Opening, open_of};
-use reading::lines::{Line, call_of};
+use opening::{Opening, open_of};
+use reading::lines::call_of;
 use runner::runner::Runner;
 use syntax::Call;
 
@@ -32,24 +32,20 @@ pub struct Standing {
     pub runner: Runner,
 }
 
+#[tactic(auto, using(syntax::specs::Zeros::zeros_are))]
 fn clear_lengths(lengths: &mut [u32])
     ensures { lengths.new ≡ zeros (length lengths.old) }
 {
-    let n = lengths.len();
-    let mut i: usize = 0;
-    while i < n {
-        lengths[i] = 0;
-        i += 1;
-    }
+    lengths.fill(0);
 }
 
 impl Standing {
     // Nothing changes but the stage.
     fn bad(&mut self, stage: Stage) -> Answer
-        ensures { (self.new ≡ record { stage = stage; runner = self.old.runner }) × (result ≡ Answer.Refused 30) }
+        ensures { (self.new ≡ record { stage = stage; runner = self.old.runner }) × (result ≡ Answer.Refused Refusal.BadLine) }
     {
         self.stage = stage;
-        Answer::Refused(30)
+        Answer::Refused(Refusal::BadLine)
     }
 
     // ---- the first line
@@ -59,7 +55,7 @@ impl Standing {
     fn opened_by(
         &mut self,
         runner: Runner,
-        reply: Reply,
+        reply: Result<(), Refusal>,
         store: &mut [u8],
         lengths: &mut [u32],
     ) -> Answer
@@ -68,16 +64,16 @@ impl Standing {
             self.new result (stores store.new lengths.new) }
     {
         match reply {
-            Reply::Ok => {
+            Ok(()) => {
                 clear(store, 65536);
                 clear_lengths(lengths);
                 self.stage = Stage::Running;
                 self.runner = runner;
                 Answer::Ok
             }
-            Reply::Refused(refusal) => {
+            Err(refusal) => {
                 self.stage = Stage::Over;
-                answering::replied(Reply::Refused(refusal))
+                Answer::Refused(refusal)
             }
         }
     }
@@ -101,7 +97,7 @@ impl Standing {
         ensures { AnswersFirst (first (line_open line.now)) self.old (stores store.old lengths.old)
             self.new result (stores store.new lengths.new) }
     {
-        let MaybeOpening::Some(opening) = open_of(line) else {
+        let Some(opening) = open_of(line) else {
             return self.bad(Stage::Over);
         };
         self.open(opening, store, lengths)
@@ -112,7 +108,7 @@ impl Standing {
     #[tactic(auto, unfolding(grammar::specs::Feed::later, crate::specs::Standing::placed))]
     fn call(&mut self, call: Call, store: &mut [u8], lengths: &mut [u32], work: &mut [u8]) -> Answer
         requires { (length store.old ≡ 65536) × (length work.old ≡ 65536) }
-        ensures { Answers (later_at (some (call_is call work.old))) self.old (stores store.old lengths.old)
+        ensures { Answers (later_at (Some (call_is call work.old))) self.old (stores store.old lengths.old)
             self.new result (stores store.new lengths.new) work.new }
     {
         self.stage = Stage::Running;
@@ -130,7 +126,7 @@ impl Standing {
         ensures { Answers (later_at (line_call line.now)) self.old (stores store.old lengths.old)
             self.new result (stores store.new lengths.new) work.new }
     {
-        let Line::Call(call) = call_of(line, work) else {
+        let Some(call) = call_of(line, work) else {
             return self.bad(Stage::Running);
         };
         self.call(call, store, lengths, work)

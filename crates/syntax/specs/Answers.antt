@@ -1,12 +1,8 @@
 -- An answer as a line: line number, word, number or name, bytes, with commas between them and `-` for what is missing.
-use Rattle.std.specs.Prelude.{Bool, true, false, List, [], ◌∷◌, ◌++◌, ℕ, length}
-use Rattle.exec.specs.declared.Deadline.{Deadline}
-use Rattle.exec.specs.declared.Deadline.TheVariants.{Never, At}
-use Rattle.exec.specs.declared.MaybeCause.{MaybeCause}
-use Rattle.exec.specs.declared.MaybeLaunchFailure.{MaybeLaunchFailure}
-use Rattle.exec.specs.declared.MaybeStatus.{MaybeStatus}
+use Rattle.std.specs.Prelude.{Bool, true, false, List, [], ◌∷◌, ◌++◌, ℕ, length, Option, Some, None}
+use Rattle.exec.specs.declared.LaunchFailure.{LaunchFailure}
+use Rattle.exec.specs.declared.Status.{Status}
 use Rattle.exec.specs.declared.Outcome.{Outcome}
-use Rattle.exec.specs.declared.Status.TheVariants as Status
 use Rattle.decimal.specs.Decimal.{digits_of, signed_of}
 use Rattle.hexadecimal.specs.Hexadecimal.{hex_of}
 use Rattle.calls.specs.Call as Call
@@ -22,18 +18,17 @@ abbrev pub flag : Bool → List ℕ
 flag true = bytes "1"
 flag false = bytes "0"
 
-abbrev pub status_text : MaybeStatus → List ℕ
-status_text MaybeStatus.None = dash
-status_text (MaybeStatus.Some (Status.Exited n)) = bytes "E" ++ signed_of n
-status_text (MaybeStatus.Some (Status.Signaled n)) = bytes "S" ++ signed_of n
+-- a field that may be missing
+abbrev pub or_dash : {A : Type 0} → (A → List ℕ) → Option A → List ℕ
+or_dash text None = dash
+or_dash text (Some x) = text x
 
-abbrev pub cause_text : MaybeCause → List ℕ
-cause_text MaybeCause.None = dash
-cause_text (MaybeCause.Some x) = cause_name x
+abbrev pub status_text : Status → List ℕ
+status_text (Status.Exited n) = bytes "E" ++ signed_of n
+status_text (Status.Signaled n) = bytes "S" ++ signed_of n
 
-abbrev pub failure_text : MaybeLaunchFailure → List ℕ
-failure_text MaybeLaunchFailure.None = dash
-failure_text (MaybeLaunchFailure.Some x) = digits_of x.stage ++ bytes "/" ++ signed_of x.error
+abbrev pub failure_text : LaunchFailure → List ℕ
+failure_text x = digits_of x.stage ++ bytes "/" ++ signed_of x.error
 
 -- ---- an answer behind its line number
 
@@ -53,8 +48,8 @@ filled w bs = three w (digits_of (length bs)) (hex_of bs)
 -- Terminal has five more: status, cause, launch failure, two truncation digits (stdout first), reusable digit
 abbrev pub outcome_text : Outcome → List ℕ
 outcome_text o =
-    word (bytes "Terminal") ++ bytes "," ++ status_text o.status ++ bytes "," ++ cause_text o.cause ++ bytes ","
-    ++ failure_text o.launch_failure ++ bytes "," ++ flag o.stdout_truncated ++ flag o.stderr_truncated ++ bytes "," ++ flag o.reusable
+    word (bytes "Terminal") ++ bytes "," ++ or_dash status_text o.status ++ bytes "," ++ or_dash cause_name o.cause ++ bytes ","
+    ++ or_dash failure_text o.launch_failure ++ bytes "," ++ flag o.stdout_truncated ++ flag o.stderr_truncated ++ bytes "," ++ flag o.reusable
 
 abbrev pub message_text : Message → List ℕ
 message_text (Call.Credit n) = counted (bytes "Credit") n
@@ -70,9 +65,9 @@ request_text (Call.Discard x) = three (bytes "Discard") (stream_name x) dash
 request_text Call.CloseInput = word (bytes "CloseInput")
 request_text Call.Settle = word (bytes "Settle")
 
-abbrev pub time_text : Deadline → List ℕ
-time_text Never = word (bytes "none")
-time_text (At t) = counted (bytes "value") t
+abbrev pub time_text : Option ℕ → List ℕ
+time_text None = word (bytes "none")
+time_text (Some t) = counted (bytes "value") t
 
 -- (key and limits are not on the card)
 unfoldable pub answer_text : Answer → List ℕ

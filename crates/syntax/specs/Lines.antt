@@ -1,10 +1,8 @@
 -- A line of the card as a call: fields in fixed order parted by commas, no quoting. What is no line of the card is none (30).
-use Rattle.std.specs.Prelude.{Bool, true, false, cond, ◌&&◌, List, [], ◌∷◌, ℕ, zero, suc, ◌-◌, ◌^◌, eqb}
-use Rattle.std.proofs.Math.Option.{Option, none, some, map}
+use Rattle.std.specs.Prelude.{Bool, true, false, cond, ◌&&◌, List, [], ◌∷◌, ℕ, zero, suc, ◌-◌, ◌^◌, eqb, Option, Result, Some, None, Ok, Err, option_map}
+use Rattle.exec.specs.declared.LaunchFailure.{LaunchFailure}
+use Rattle.exec.specs.declared.Status.{Status}
 use Rattle.exec.specs.declared.Key.{Key}
-use Rattle.exec.specs.declared.LaunchResult.{LaunchResult}
-use Rattle.exec.specs.declared.MaybeStatus.{MaybeStatus}
-use Rattle.exec.specs.declared.Status.TheVariants as Status
 use Rattle.exec.specs.Key.{new_key}
 use Rattle.decimal.specs.Decimal.{number, signed}
 use Rattle.hexadecimal.specs.Hexadecimal.{unhex}
@@ -13,8 +11,8 @@ use Rattle.syntax.specs.Words.{bytes, same, stream, pool, cause, settlement}
 
 -- all the fields of a line have to be good
 abbrev pub on : {A B : Type 0} → Option A → (A → Option B) → Option B
-on none f = none
-on (some x) f = f x
+on None f = None
+on (Some x) f = f x
 
 -- ---- fields
 
@@ -41,7 +39,7 @@ missing field = same field (bytes "-")
 
 -- 0 or 1
 unfoldable pub digit : List ℕ → Option Bool
-digit field = cond (same field (bytes "0")) (some false) (cond (same field (bytes "1")) (some true) none)
+digit field = cond (same field (bytes "0")) (Some false) (cond (same field (bytes "1")) (Some true) None)
 
 -- the length of a message's buffer
 abbrev pub message_length : List ℕ → Option ℕ
@@ -49,24 +47,24 @@ message_length field = number 16384 field
 
 -- a key is two fields
 abbrev pub key_of : (id generation : List ℕ) → Option Key
-key_of id generation = on (u64 id) λ i. on (u64 generation) λ g. some (new_key i g)
+key_of id generation = on (u64 id) λ i. on (u64 generation) λ g. Some (new_key i g)
 
 -- Status is E or S with a number, or missing
-unfoldable pub status : List ℕ → Option MaybeStatus
-status [] = none
+unfoldable pub status : List ℕ → Option (Option Status)
+status [] = None
 status (b ∷ rest) =
-    cond (missing (b ∷ rest)) (some MaybeStatus.None)
-    (cond (eqb b 69) (map (λ n. MaybeStatus.Some (Status.Exited n)) (signed rest))
-    (cond (eqb b 83) (map (λ n. MaybeStatus.Some (Status.Signaled n)) (signed rest))
-    none))
+    cond (missing (b ∷ rest)) (Some None)
+    (cond (eqb b 69) (option_map (λ n. Some (Status.Exited n)) (signed rest))
+    (cond (eqb b 83) (option_map (λ n. Some (Status.Signaled n)) (signed rest))
+    None))
 
 -- a launch result: OK 0 with nothing else, or 1 with stage and error
-unfoldable pub launch_result : (ok stage error : List ℕ) → Option LaunchResult
+unfoldable pub launch_result : (ok stage error : List ℕ) → Option (Result (Unit {0}) LaunchFailure)
 launch_result ok stage error =
     on (digit ok) λ failed.
     cond failed
-    (on (u32 stage) λ n. on (signed error) λ e. some (LaunchResult.Failed (record { stage = n; error = e })))
-    (cond (missing stage && missing error) (some LaunchResult.Started) none)
+    (on (u32 stage) λ n. on (signed error) λ e. Some (Err (record { stage = n; error = e })))
+    (cond (missing stage && missing error) (Some (Ok tt)) None)
 
 -- ---- calls: the method's name, and its arguments as in the Rust, a key as two fields
 
@@ -79,8 +77,8 @@ abbrev pub entry : {A : Type 0} → List ℕ → A → Entry A
 entry name call = record { name = name; call = call }
 
 unfoldable pub find : {A : Type 0} → (field : List ℕ) → List (Entry A) → Option A
-find field [] = none
-find field (e ∷ es) = cond (same field e.name) (some e.call) (find field es)
+find field [] = None
+find field (e ∷ es) = cond (same field e.name) (Some e.call) (find field es)
 
 -- with no argument
 abbrev pub plain_calls : List (Entry Call)
@@ -104,37 +102,37 @@ zeros (suc n) = 0 ∷ zeros n
 
 -- with one
 abbrev pub read_allowance_of : List ℕ → Option Call
-read_allowance_of a = map Call.read_allowance (stream a)
+read_allowance_of a = option_map Call.read_allowance (stream a)
 
 abbrev pub output_closed_of : List ℕ → Option Call
-output_closed_of a = map Call.output_closed (stream a)
+output_closed_of a = option_map Call.output_closed (stream a)
 
 abbrev pub output_failed_of : List ℕ → Option Call
-output_failed_of a = map Call.output_failed (stream a)
+output_failed_of a = option_map Call.output_failed (stream a)
 
 abbrev pub output_hung_up_of : List ℕ → Option Call
-output_hung_up_of a = map Call.output_hung_up (stream a)
+output_hung_up_of a = option_map Call.output_hung_up (stream a)
 
 abbrev pub input_written_of : List ℕ → Option Call
-input_written_of a = map Call.input_written (u64 a)
+input_written_of a = option_map Call.input_written (u64 a)
 
 abbrev pub settled_of : List ℕ → Option Call
-settled_of a = map Call.settled (settlement a)
+settled_of a = option_map Call.settled (settlement a)
 
 abbrev pub dropped_of : List ℕ → Option Call
-dropped_of a = map Call.dropped (u64 a)
+dropped_of a = option_map Call.dropped (u64 a)
 
 abbrev pub reset_of : List ℕ → Option Call
-reset_of a = map Call.reset (u64 a)
+reset_of a = option_map Call.reset (u64 a)
 
 abbrev pub disconnect_of : List ℕ → Option Call
-disconnect_of a = map Call.disconnect (u64 a)
+disconnect_of a = option_map Call.disconnect (u64 a)
 
 abbrev pub tick_of : List ℕ → Option Call
-tick_of a = map Call.tick (u64 a)
+tick_of a = option_map Call.tick (u64 a)
 
 abbrev pub message_of : List ℕ → Option Call
-message_of a = map (λ n. Call.next_message (zeros n)) (message_length a)
+message_of a = option_map (λ n. Call.next_message (zeros n)) (message_length a)
 
 abbrev pub calls1 : List (Entry (List ℕ → Option Call))
 calls1 =
@@ -153,16 +151,16 @@ calls1 =
 
 -- with two
 abbrev pub end_input_of : List ℕ → List ℕ → Option Call
-end_input_of a b = map Call.end_input (key_of a b)
+end_input_of a b = option_map Call.end_input (key_of a b)
 
 abbrev pub output_of : List ℕ → List ℕ → Option Call
-output_of a b = on (stream a) λ x. on (unhex b) λ bs. some (Call.output x bs)
+output_of a b = on (stream a) λ x. on (unhex b) λ bs. Some (Call.output x bs)
 
 abbrev pub discarded_of : List ℕ → List ℕ → Option Call
-discarded_of a b = on (stream a) λ x. on (u64 b) λ n. some (Call.discarded x n)
+discarded_of a b = on (stream a) λ x. on (u64 b) λ n. Some (Call.discarded x n)
 
 abbrev pub exited_of : List ℕ → List ℕ → Option Call
-exited_of a b = on (u64 a) λ now. on (status b) λ x. some (Call.exited now x)
+exited_of a b = on (u64 a) λ now. on (status b) λ x. Some (Call.exited now x)
 
 abbrev pub calls2 : List (Entry (List ℕ → List ℕ → Option Call))
 calls2 =
@@ -174,10 +172,10 @@ calls2 =
 
 -- with three
 abbrev pub launched_of : List ℕ → List ℕ → List ℕ → Option Call
-launched_of a b c = map Call.launched (launch_result a b c)
+launched_of a b c = option_map Call.launched (launch_result a b c)
 
 abbrev pub input_of : List ℕ → List ℕ → List ℕ → Option Call
-input_of a b c = on (key_of a b) λ key. on (unhex c) λ bs. some (Call.input key bs)
+input_of a b c = on (key_of a b) λ key. on (unhex c) λ bs. Some (Call.input key bs)
 
 abbrev pub calls3 : List (Entry (List ℕ → List ℕ → List ℕ → Option Call))
 calls3 =
@@ -187,10 +185,10 @@ calls3 =
 
 -- with four
 abbrev pub credit_of : List ℕ → List ℕ → List ℕ → List ℕ → Option Call
-credit_of a b c d = on (key_of a b) λ key. on (pool c) λ p. on (u32 d) λ n. some (Call.credit key p n)
+credit_of a b c d = on (key_of a b) λ key. on (pool c) λ p. on (u32 d) λ n. Some (Call.credit key p n)
 
 abbrev pub cancel_of : List ℕ → List ℕ → List ℕ → List ℕ → Option Call
-cancel_of a b c d = on (u64 a) λ now. on (key_of b c) λ key. on (cause d) λ x. some (Call.cancel now key x)
+cancel_of a b c d = on (u64 a) λ now. on (key_of b c) λ key. on (cause d) λ x. Some (Call.cancel now key x)
 
 abbrev pub calls4 : List (Entry (List ℕ → List ℕ → List ℕ → List ℕ → Option Call))
 calls4 =
@@ -199,13 +197,13 @@ calls4 =
     ∷ []
 
 unfoldable pub call_of : List (List ℕ) → Option Call
-call_of [] = none
+call_of [] = None
 call_of (name ∷ []) = find name plain_calls
 call_of (name ∷ a ∷ []) = on (find name calls1) λ f. f a
 call_of (name ∷ a ∷ b ∷ []) = on (find name calls2) λ f. f a b
 call_of (name ∷ a ∷ b ∷ c ∷ []) = on (find name calls3) λ f. f a b c
 call_of (name ∷ a ∷ b ∷ c ∷ d ∷ []) = on (find name calls4) λ f. f a b c d
-call_of (name ∷ a ∷ b ∷ c ∷ d ∷ e ∷ rest) = none
+call_of (name ∷ a ∷ b ∷ c ∷ d ∷ e ∷ rest) = None
 
 -- the call of a line
 abbrev pub line_call : (line : List ℕ) → Option Call

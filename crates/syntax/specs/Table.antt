@@ -1,15 +1,9 @@
 -- 01's table, line by line: the call that each line makes, and the line that its answer prints; and lines that are none.
-use Rattle.std.specs.Prelude.{true, false, ◌≡◌, refl, List, [], ◌∷◌, ℕ, pos, negsuc}
-use Rattle.std.proofs.Math.Option.{Option, none, some}
+use Rattle.std.specs.Prelude.{true, false, ◌≡◌, refl, List, [], ◌∷◌, ℕ, pos, negsuc, Option, Some, None, Ok, Err}
+use Rattle.exec.specs.declared.Cause.{Cause}
+use Rattle.exec.specs.declared.Status.{Status}
 use Prim.Native.String.{String}
-use Rattle.exec.specs.declared.Cause.TheVariants as Cause
-use Rattle.exec.specs.declared.Deadline.TheVariants.{Never, At}
-use Rattle.exec.specs.declared.LaunchResult.TheVariants as LaunchResult
-use Rattle.exec.specs.declared.MaybeCause.TheVariants as MaybeCause
-use Rattle.exec.specs.declared.MaybeLaunchFailure.TheVariants as MaybeLaunchFailure
-use Rattle.exec.specs.declared.MaybeStatus.TheVariants as MaybeStatus
 use Rattle.exec.specs.declared.Pool.TheVariants as Pool
-use Rattle.exec.specs.declared.Status.TheVariants as Status
 use Rattle.exec.specs.declared.Stream.TheVariants.{Stdout, Stderr}
 use Rattle.exec.specs.Key.{new_key}
 use Rattle.decimal.specs.Decimal.{number, number_from, are_digits, value_from, signed, digits_of, digits_before}
@@ -28,12 +22,12 @@ prints : ℕ → Answer → List ℕ
 unfolding line_text answer_text digits_of digits_before hex_of hex_digit bytes
 prints n a = line_text n a
 
-table_calls : (calls "launched,0,-,-" ≡ some (Call.launched LaunchResult.Started))
-    × (calls "credit,7,2,Stdout,3" ≡ some (Call.credit (new_key 7 2) Pool.Stdout 3))
-    × (calls "output,Stdout,6162636465" ≡ some (Call.output Stdout (97 ∷ 98 ∷ 99 ∷ 100 ∷ 101 ∷ [])))
-    × (calls "message,16" ≡ some (Call.next_message (zeros 16)))
-    × (calls "cancel,20,7,2,Cancelled" ≡ some (Call.cancel 20 (new_key 7 2) Cause.Cancelled))
-    × (calls "tick,35" ≡ some (Call.tick 35))
+table_calls : (calls "launched,0,-,-" ≡ Some (Call.launched (Ok tt)))
+    × (calls "credit,7,2,Stdout,3" ≡ Some (Call.credit (new_key 7 2) Pool.Stdout 3))
+    × (calls "output,Stdout,6162636465" ≡ Some (Call.output Stdout (97 ∷ 98 ∷ 99 ∷ 100 ∷ 101 ∷ [])))
+    × (calls "message,16" ≡ Some (Call.next_message (zeros 16)))
+    × (calls "cancel,20,7,2,Cancelled" ≡ Some (Call.cancel 20 (new_key 7 2) Cause.Cancelled))
+    × (calls "tick,35" ≡ Some (Call.tick 35))
 unfolding calls
 table_calls = (refl, refl, refl, refl, refl, refl)
 
@@ -48,9 +42,9 @@ table_prints : (prints 1 Call.Ok ≡ bytes "1,ok,-,-\n")
     × (prints 11 (Call.Says (Call.End Stdout)) ≡ bytes "11,End,Stdout,-\n")
     × (prints 12 (Call.Says (Call.End Stderr)) ≡ bytes "12,End,Stderr,-\n")
     × (prints 13 (Call.Says (Call.Terminal (record {
-      status = MaybeStatus.None;
-      cause = MaybeCause.Some Cause.Cancelled;
-      launch_failure = MaybeLaunchFailure.None;
+      status = None;
+      cause = Some Cause.Cancelled;
+      launch_failure = None;
       stdout_truncated = true;
       stderr_truncated = true;
       reusable = false;
@@ -65,8 +59,8 @@ other_prints : (prints 2 Call.Stale ≡ bytes "2,Stale,-,-\n")
     × (prints 4 (Call.Refused 30) ≡ bytes "4,refused,30,-\n")
     × (prints 5 (Call.Pending (97 ∷ 98 ∷ [])) ≡ bytes "5,pending,2,6162\n")
     × (prints 6 (Call.Value 24) ≡ bytes "6,value,24,-\n")
-    × (prints 7 (Call.Time (At 15)) ≡ bytes "7,value,15,-\n")
-    × (prints 8 (Call.Time Never) ≡ bytes "8,none,-,-\n")
+    × (prints 7 (Call.Time (Some 15)) ≡ bytes "7,value,15,-\n")
+    × (prints 8 (Call.Time None) ≡ bytes "8,none,-,-\n")
     × (prints 9 (Call.Truth true) ≡ bytes "9,value,1,-\n")
     × (prints 10 (Call.Truth false) ≡ bytes "10,value,0,-\n")
     × (prints 11 (Call.Asks (Call.Terminate Cause.TimedOut)) ≡ bytes "11,Terminate,TimedOut,-\n")
@@ -78,27 +72,27 @@ other_prints = (refl, refl, refl, refl, refl, refl, refl, refl, refl, refl, refl
 
 -- no lines of the card: a leading blank, a plus, a trailing comma, an uppercase or odd hexadecimal, a missing or empty number, one
 -- past its type, a name in other letters, a message too long, the names that the card does not have
-bad_lines : (calls " tick,35" ≡ none) × (calls "tick, 35" ≡ none) × (calls "tick,+35" ≡ none) × (calls "tick,35," ≡ none)
-    × (calls "output,Stdout,6A" ≡ none) × (calls "output,Stdout,616" ≡ none) × (calls "output,Stdout,-" ≡ none)
-    × (calls "tick,-" ≡ none) × (calls "tick," ≡ none) × (calls "tick,18446744073709551616" ≡ none)
-    × (calls "credit,7,2,stdout,3" ≡ none) × (calls "message,16385" ≡ none) × (calls "next_message,16" ≡ none) × (calls "key" ≡ none)
-    × (calls "" ≡ none)
+bad_lines : (calls " tick,35" ≡ None) × (calls "tick, 35" ≡ None) × (calls "tick,+35" ≡ None) × (calls "tick,35," ≡ None)
+    × (calls "output,Stdout,6A" ≡ None) × (calls "output,Stdout,616" ≡ None) × (calls "output,Stdout,-" ≡ None)
+    × (calls "tick,-" ≡ None) × (calls "tick," ≡ None) × (calls "tick,18446744073709551616" ≡ None)
+    × (calls "credit,7,2,stdout,3" ≡ None) × (calls "message,16385" ≡ None) × (calls "next_message,16" ≡ None) × (calls "key" ≡ None)
+    × (calls "" ≡ None)
 unfolding calls
 bad_lines = (refl, refl, refl, refl, refl, refl, refl, refl, refl, refl, refl, refl, refl, refl, refl)
 
 -- and good ones at their edges: leading zeros, -0, the largest time, empty bytes, pool Input, the longest message
-good_lines : (calls "tick,0035" ≡ some (Call.tick 35))
-    × (calls "tick,18446744073709551615" ≡ some (Call.tick 18446744073709551615))
-    × (calls "exited,5,E-0" ≡ some (Call.exited 5 (MaybeStatus.Some (Status.Exited (pos 0)))))
-    × (calls "exited,5,-" ≡ some (Call.exited 5 MaybeStatus.None))
-    × (calls "launched,1,3,-2" ≡ some (Call.launched (LaunchResult.Failed (record { stage = 3; error = negsuc 1 }))))
-    × (calls "output,Stderr," ≡ some (Call.output Stderr []))
-    × (calls "credit,7,2,Input,0" ≡ some (Call.credit (new_key 7 2) Pool.Input 0))
+good_lines : (calls "tick,0035" ≡ Some (Call.tick 35))
+    × (calls "tick,18446744073709551615" ≡ Some (Call.tick 18446744073709551615))
+    × (calls "exited,5,E-0" ≡ Some (Call.exited 5 (Some (Status.Exited (pos 0)))))
+    × (calls "exited,5,-" ≡ Some (Call.exited 5 None))
+    × (calls "launched,1,3,-2" ≡ Some (Call.launched (Err (record { stage = 3; error = negsuc 1 }))))
+    × (calls "output,Stderr," ≡ Some (Call.output Stderr []))
+    × (calls "credit,7,2,Input,0" ≡ Some (Call.credit (new_key 7 2) Pool.Input 0))
 unfolding calls
 good_lines = (refl, refl, refl, refl, refl, refl, refl)
 
 -- of the two digits of truncation stdout's is the first
-truncated : prints 1 (Call.Says (Call.Terminal (record { status = MaybeStatus.None; cause = MaybeCause.None; launch_failure = MaybeLaunchFailure.None; stdout_truncated = true; stderr_truncated = false; reusable = false })))
+truncated : prints 1 (Call.Says (Call.Terminal (record { status = None; cause = None; launch_failure = None; stdout_truncated = true; stderr_truncated = false; reusable = false })))
     ≡ bytes "1,Terminal,-,-,-,-,-,10,0\n"
 unfolding prints
 truncated = refl

@@ -1,6 +1,5 @@
 -- The words of the card: every name stands here once, and is read and written by it.
-use Rattle.std.specs.Prelude.{cond, List, [], ◌∷◌, ℕ}
-use Rattle.std.proofs.Math.Option.{Option, none, some}
+use Rattle.std.specs.Prelude.{cond, List, [], ◌∷◌, ℕ, Option, Some, None}
 use Rattle.exec.specs.declared.Cause.{Cause}
 use Rattle.exec.specs.declared.Pool.{Pool}
 use Rattle.exec.specs.declared.Settlement.{Settlement}
@@ -37,8 +36,8 @@ unit_name Unit.Bytes = bytes "B"
 unit_name Unit.Frames = bytes "F"
 
 unfoldable pub named : {A : Type 0} → (A → List ℕ) → List A → (field : List ℕ) → Option A
-named name [] field = none
-named name (x ∷ xs) field = cond (same field (name x)) (some x) (named name xs field)
+named name [] field = None
+named name (x ∷ xs) field = cond (same field (name x)) (Some x) (named name xs field)
 
 abbrev pub stream : List ℕ → Option Stream
 stream field = named stream_name (Stream.Stdout ∷ Stream.Stderr ∷ []) field

@@ -1,5 +1,5 @@
 -- A run of zeros at the start of an area.
-use Rattle.std.specs.Prelude.{◌≡◌, refl, List, [], ◌∷◌, ◌++◌, ℕ, zero, suc, ◌+◌, ◌<◌, length, drop, set}
+use Rattle.std.specs.Prelude.{◌≡◌, refl, List, [], ◌∷◌, ◌++◌, ℕ, zero, suc, ◌+◌, ◌<◌, length, drop, set, replicate}
 use Rattle.std.proofs.Common.{ap, append-nil, arith, add-one}
 use Rattle.std.proofs.Math.Seq.{drop-length}
 use Rattle.syntax.specs.Lines.{zeros}
@@ -26,3 +26,9 @@ zeros_start w = refl
 -- all of it
 pub zeros_all : (n : ℕ) (w : List ℕ) → n ≡ length w → zeros n ++ drop n w ≡ zeros n
 zeros_all n w h = rw (h, drop-length w) (append-nil (zeros (length w)))
+
+-- as the library has it
+pub zeros_are : (n : ℕ) → replicate n 0 ≡ zeros n
+unfolding zeros
+zeros_are zero = refl
+zeros_are (suc n) = ap (λ (t : List ℕ). 0 ∷ t) (zeros_are n)

@@ -1,7 +1,7 @@
 // A call as the code holds it. What a line of the session card stands for, and how an answer is written, stands in specs/.
 #![tactic(auto)]
 
-use exec::{Cause, Key, LaunchResult, MaybeStatus, Pool, Settlement, Stream};
+use exec::{Cause, Key, LaunchFailure, Pool, Settlement, Status, Stream};
 
 // A call of the runner's. An input and an output have so many bytes of `work`, a message a buffer of so many.
 #[derive(Clone, Copy)]
@@ -9,7 +9,7 @@ pub enum Call {
     Credit(Key, Pool, u32),
     Input(Key, usize),
     EndInput(Key),
-    Launched(LaunchResult),
+    Launched(Result<(), LaunchFailure>),
     Output(Stream, usize),
     Discarded(Stream, usize),
     OutputClosed(Stream),
@@ -28,7 +28,7 @@ pub enum Call {
 #[derive(Clone, Copy)]
 pub enum Timed {
     Cancel(Key, Cause),
-    Exited(MaybeStatus),
+    Exited(Option<Status>),
     Dropped,
     Reset,
     Disconnect,

@@ -1,10 +1,11 @@
 -- What is told over a channel, counted: the bytes and units that messages carry, EOF with the last End, CLOSE with Terminal.
+use Rattle.std.specs.Prelude.{Option, Some, None}
+use Rattle.exec.specs.declared.Status.{Status}
 use mathlib.Core.Bool.{Bool, true, false, cond, ◌||◌}
 use mathlib.Core.Path.{◌≡◌, refl, sym, ap, ◌∙◌}
 use mathlib.Core.List.{List, [], ◌∷◌, ◌++◌, append-nil}
 use Prim.Native.Nat.{ℕ, suc, ◌+◌}
 use native.Mathlib.Omega.{arith}
-use Rattle.exec.specs.declared.MaybeStatus.{MaybeStatus}
 use Rattle.exec.specs.declared.Stream.{Stream}
 use Rattle.exec.specs.Each.{Each, one, every}
 use Rattle.exec.specs.Stream.{every_stream_lem}
@@ -30,9 +31,9 @@ bytes_told x e (Call.End y) = either (λ (hs : List Heard). joined (bytes_in x) 
 bytes_told x e Call.InputClosed = refl
 bytes_told x e (Call.Terminal o) = by o.status
   where
-    by : (s : MaybeStatus) → joined (bytes_in x) (exit_of s ++ (Close ∷ [])) ≡ []
-    by MaybeStatus.None = refl
-    by (MaybeStatus.Some s) = refl
+    by : (s : Option Status) → joined (bytes_in x) (exit_of s ++ (Close ∷ [])) ≡ []
+    by None = refl
+    by (Some s) = refl
 
 pub units_told : (e : Each Bool) (m : Message) → joined units_in (speaks e m) ≡ credit_in m
 units_told e (Call.Credit n) = refl
@@ -42,9 +43,9 @@ units_told e (Call.End y) = either (λ (hs : List Heard). joined units_in hs ≡
 units_told e Call.InputClosed = refl
 units_told e (Call.Terminal o) = by o.status
   where
-    by : (s : MaybeStatus) → joined units_in (exit_of s ++ (Close ∷ [])) ≡ []
-    by MaybeStatus.None = refl
-    by (MaybeStatus.Some s) = refl
+    by : (s : Option Status) → joined units_in (exit_of s ++ (Close ∷ [])) ≡ []
+    by None = refl
+    by (Some s) = refl
 
 -- ---- how many
 
@@ -60,9 +61,9 @@ pub unread_none : (e : Each Bool) (ms : List Message) → count is_unread (told_
 unread_none e [] = refl
 unread_none e (m ∷ ms) = count_append is_unread (speaks e m) (told_by speaks (ends_by m e) ms) ∙ (let y = by m in let z = unread_none (ends_by m e) ms in omega arith)
   where
-    exit : (s : MaybeStatus) → count is_unread (exit_of s ++ (Close ∷ [])) ≡ 0
-    exit MaybeStatus.None = refl
-    exit (MaybeStatus.Some s) = refl
+    exit : (s : Option Status) → count is_unread (exit_of s ++ (Close ∷ [])) ≡ 0
+    exit None = refl
+    exit (Some s) = refl
 
     by : (m : Message) → count is_unread (speaks e m) ≡ 0
     by (Call.Credit n) = refl
@@ -78,9 +79,9 @@ closes_told e [] f = refl
 closes_told e (m ∷ ms) f =
     count_append is_close (speaks e m) (told_by speaks (ends_by m e) ms) ∙ (let y = by m in let z = closes_told (ends_by m e) ms f.1 in let w = all (terminal_message m) f.0 in omega arith)
   where
-    exit : (s : MaybeStatus) → count is_close (exit_of s ++ (Close ∷ [])) ≡ 1
-    exit MaybeStatus.None = refl
-    exit (MaybeStatus.Some s) = refl
+    exit : (s : Option Status) → count is_close (exit_of s ++ (Close ∷ [])) ≡ 1
+    exit None = refl
+    exit (Some s) = refl
 
     by : (m : Message) → count is_close (speaks e m) ≡ once (terminal_message m)
     by (Call.Credit n) = refl
@@ -106,9 +107,9 @@ pub eofs_told : (ms : List Message) (e : Each Bool) → Once e ms → count is_e
 eofs_told [] e f = omega arith
 eofs_told (m ∷ ms) e f = by m f.0 (eofs_told ms (ends_by m e) f.1)
   where
-    exit : (s : MaybeStatus) → count is_eof (exit_of s ++ (Close ∷ [])) ≡ 0
-    exit MaybeStatus.None = refl
-    exit (MaybeStatus.Some s) = refl
+    exit : (s : Option Status) → count is_eof (exit_of s ++ (Close ∷ [])) ≡ 0
+    exit None = refl
+    exit (Some s) = refl
 
     one_eof : (b : Bool) → count is_eof (cond b (Eof ∷ []) []) ≡ once b
     one_eof true = refl

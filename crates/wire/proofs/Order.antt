@@ -1,8 +1,8 @@
 -- The order that the messages of every list keep: an End once, and nothing of its stream after it; nothing after Terminal.
+use Rattle.std.specs.Prelude.{Option, Some, None}
 use mathlib.Core.Bool.{Bool, true, false, ◌||◌, true≢false, false≢true}
 use mathlib.Core.Path.{◌≡◌, refl, sym, ap, ◌∙◌, subst⁻¹}
 use mathlib.Core.List.{List, [], ◌∷◌, ◌++◌}
-use mathlib.Core.Option.{Option, none, some}
 use Prim.Native.Nat.{ℕ}
 use Rattle.exec.specs.declared.Stream.{Stream}
 use Rattle.exec.specs.Each.{one}
@@ -92,11 +92,11 @@ finishes_on {r} {s} {t} {ms} {ns} a b = record {
 entry_by : (e : Entry) (m : Option Call) (s after : State) (a : Answer) → Fine s → Muted s.runner → Does e m s after a
     → Tells s.runner after.runner (said_in a) × Finishes s.runner after.runner (said_in a)
 unfolding Does
-entry_by e none s after a f h d = rw (d.kept, d.answered) (
+entry_by e None s after a f h d = rw (d.kept, d.answered) (
   record { told = refl; once = tt; muted = h; silent = λ x t. refl },
   record { over = λ g. (refl, g); ended = λ t. absurd (false≢true t); final = tt },
 )
-entry_by e (some c) s after a f h d = rw (d.0, next_same s c f, d.1, answer_same s c f) (call_tells c s h, call_finishes c s)
+entry_by e (Some c) s after a f h d = rw (d.0, next_same s c f, d.1, answer_same s c f) (call_tells c s h, call_finishes c s)
 
 module _ (conf : Conf) where
   pub entry_tells : (e : Entry) (s : State) → Good conf s → Muted s.runner

@@ -1,15 +1,19 @@
 -- A claim on each output stream of a runner: what it must stand for a call that says no message to keep it. Such a call changes
 -- an output in nine ways.
+use Rattle.std.specs.Prelude.{Option, Result, Some, None, Ok, Err}
+use Rattle.exec.specs.declared.Admission.TheVariants.{Own, Stale}
+use Rattle.exec.specs.declared.Admission.{Admission}
+use Rattle.runner.specs.declared.answer.Request.{Request}
+use Rattle.exec.specs.declared.LaunchFailure.{LaunchFailure}
+use Rattle.exec.specs.declared.Status.{Status}
+use Rattle.exec.specs.declared.Refusal.{Refusal}
 use mathlib.Core.Bool.{Bool, false, ◌||◌, true≢false}
 use mathlib.Core.Path.{◌≡◌, refl, subst⁻¹}
 use Prim.Native.Nat.{ℕ}
 use lib.Dec.{ltb}
 use lib.ListN.{length}
 use mathlib.Core.List.{List}
-use Rattle.exec.specs.declared.Admission.{Admission}
 use Rattle.exec.specs.declared.Cause.{Cause}
-use Rattle.exec.specs.declared.LaunchResult.{LaunchResult}
-use Rattle.exec.specs.declared.MaybeStatus.{MaybeStatus}
 use Rattle.exec.specs.declared.Stream.{Stream}
 use Rattle.exec.specs.Key.{admits}
 use Rattle.exec.specs.Time.{due}
@@ -17,8 +21,6 @@ use Rattle.lifecycle.specs.Life.{is_fenced}
 use Rattle.choice.specs.declared.Choice.{Choice}
 use Rattle.output.specs.declared.Output.{Output}
 use Rattle.output.specs.Output.{grace_ended, given_up, abandoned, asked_out, closed_out, failed_out, hung_up, lost_out, intake}
-use Rattle.runner.specs.declared.answer.Request.TheVariants as Request
-use Rattle.runner.specs.declared.message.Wish.{Wish}
 use Rattle.runner.specs.declared.runner.Runner.{Runner}
 use Rattle.runner.specs.Life.{awaits_launch, is_cleaned_up, is_late, is_over, timeout_cleared, close_runner_input, end_grace, give_up, abandon_launch, abandon_open_streams, begin_termination, pass_grace, terminate, pass_timeout, pass_settlement, give_up_unless_clean, pass_give_up, drop_launch, drop_streams, pass_abandonment, fire, ticked, cancel_next, note_started, note_launch, launched_next, note_exit, note_exit_once, exited_next, settled_next, silenced, give_up_soon, cut_off, cut_off_once, detach_next}
 use Rattle.runner.specs.Message.{choose, effect, wish, wish_effect}
@@ -109,11 +111,11 @@ module _ (P : Stream → Output → Type 0) (h : Stands P) where
 
   -- ---- the calls that tick
 
-  cancel_keeps : (k : Admission) (now : ℕ) (c : Cause) (r : Runner) → All P r → All P (cancel_next k r now c)
+  cancel_keeps : (k : Result Admission Refusal) (now : ℕ) (c : Cause) (r : Runner) → All P r → All P (cancel_next k r now c)
   unfolding cancel_next
-  cancel_keeps (Admission.Refused x) now c r p = p
-  cancel_keeps Admission.Stale now c r p = p
-  cancel_keeps Admission.Own now c r p =
+  cancel_keeps (Err x) now c r p = p
+  cancel_keeps (Ok Stale) now c r p = p
+  cancel_keeps (Ok Own) now c r p =
       let t : Runner = ticked r now in
       let q : All P t = tick_keeps now r p in either (All P) (is_late t) t (terminate t now c) q (terminate_keeps now c t q)
 
@@ -124,7 +126,7 @@ module _ (P : Stream → Output → Type 0) (h : Stands P) where
       let q : All P t = tick_keeps now r p in
       either (All P) (t.flags.finished || t.flags.detached) t (cut_off t now c) q (grace_keeps (silenced (terminate t now c)) (terminate_keeps now c t q))
 
-  exited_keeps : (now : ℕ) (x : MaybeStatus) (r : Runner) → All P r → All P (exited_next r now x)
+  exited_keeps : (now : ℕ) (x : Option Status) (r : Runner) → All P r → All P (exited_next r now x)
   unfolding exited_next note_exit_once note_exit close_runner_input
   exited_keeps now x r p =
       let t : Runner = ticked (timeout_cleared r) now in
@@ -132,18 +134,18 @@ module _ (P : Stream → Output → Type 0) (h : Stands P) where
 
   -- ---- the others
 
-  launched_keeps : (x : LaunchResult) (r : Runner) → All P r → All P (launched_next r x)
+  launched_keeps : (x : Result (Unit {0}) LaunchFailure) (r : Runner) → All P r → All P (launched_next r x)
   unfolding launched_next note_launch note_started close_runner_input
-  launched_keeps LaunchResult.Started r p = either (All P) (awaits_launch r) _ r p p
-  launched_keeps (LaunchResult.Failed f) r p = either (All P) (awaits_launch r) _ r p p
+  launched_keeps (Ok tt) r p = either (All P) (awaits_launch r) _ r p p
+  launched_keeps (Err f) r p = either (All P) (awaits_launch r) _ r p p
 
-  wished_keeps : (w : Wish) (r : Runner) → All P r → All P (wish_effect w r)
+  wished_keeps : (w : Option Request) (r : Runner) → All P r → All P (wish_effect w r)
   unfolding wish_effect
-  wished_keeps Wish.None r p = p
-  wished_keeps (Wish.Request (Request.Terminate c)) r p = p
-  wished_keeps (Wish.Request (Request.Discard x)) r p = on x asked_out r (h.asked x (out_of x r)) p
-  wished_keeps (Wish.Request Request.CloseInput) r p = p
-  wished_keeps (Wish.Request Request.Settle) r p = p
+  wished_keeps None r p = p
+  wished_keeps (Some (Request.Terminate c)) r p = p
+  wished_keeps (Some (Request.Discard x)) r p = on x asked_out r (h.asked x (out_of x r)) p
+  wished_keeps (Some Request.CloseInput) r p = p
+  wished_keeps (Some Request.Settle) r p = p
 
   pub quiet_keeps : (c : Call) (s : State) → is_message (answer s c) ≡ false → All P s.runner → All P (next s c).runner
   unfolding next answer credit_next input_next end_next output_next discarded_next closed_next failed_next hung_up_next written_next close_runner_input settled_next

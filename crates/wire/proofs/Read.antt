@@ -1,4 +1,5 @@
 -- A record that is written, at the peer: it is heard as what is to be heard of the message that was told.
+use Rattle.std.specs.Prelude.{Option, Some, None, Ok}
 use mathlib.Core.Bool.{Bool, true, false, cond, false≢true}
 use mathlib.Core.Path.{◌≡◌, refl, sym, ap, ◌∙◌, subst⁻¹}
 use mathlib.Core.List.{List, [], ◌∷◌, ◌++◌, append-nil}
@@ -10,8 +11,6 @@ use lib.ListN.{length, take, drop, get_or, length-append}
 use lib.Seq.{take_at}
 use borrow.Author.Tests.{leb-true, eq-eqb, ne_eqb}
 use Rattle.exec.specs.declared.Limits.{Limits}
-use Rattle.exec.specs.declared.MaybeStatus.{MaybeStatus}
-use Rattle.exec.specs.declared.Reply.TheVariants as Reply
 use Rattle.exec.specs.declared.Status.{Status}
 use Rattle.exec.specs.declared.Status.TheVariants.{Exited, Signaled}
 use Rattle.exec.specs.declared.Stream.{Stream}
@@ -31,14 +30,12 @@ use Rattle.runner.specs.MessageLaws.{Sendable, is_sendable, payload_length}
 use Rattle.runner.specs.Range.{stop, bytes_do}
 use Rattle.runner.specs.RangeLaws as RangeLaws
 use Rattle.runner.specs.RangeLaws.{is_good_lem}
-use Rattle.codec.specs.declared.Parsed.TheVariants as Parsed
 use Rattle.codec.specs.declared.Record.{Record}
 use Rattle.codec.specs.Codec as Codec
 use Rattle.codec.specs.Codec.{start, size, Fits, laid_record}
 use Rattle.codec.specs.CodecLaws.{Holds, start_least}
 use Rattle.codec.proofs.RoundTrip.{read_is}
 use Rattle.codec.specs.RoundTrip.{payload_back, laid_front, laid_reads}
-use Rattle.exits.specs.declared.Told.TheVariants as Told
 use Rattle.exits.specs.Exit as Exits
 use Rattle.exits.specs.Exit.{request, is_told, is_untold, ending}
 use Rattle.exits.specs.RoundTrip.{Tells, forth}
@@ -81,7 +78,7 @@ module _ (channel : ℕ) where
   mine : {rec : Record} (b : List ℕ) → Holds channel b rec → eqb (number_at b 1) channel ≡ true
   mine b h = eq-eqb (number_at b 1) channel h.mine
 
-  by_kind : (rec : Record) (b : List ℕ) → Codec.read channel b ≡ Parsed.Read rec → Holds channel b rec → hear channel b ≡ as_heard rec b
+  by_kind : (rec : Record) (b : List ℕ) → Codec.read channel b ≡ Ok rec → Holds channel b rec → hear channel b ≡ as_heard rec b
   by_kind (Record.Adjust units) b e h = rw (h.kind.0, e, h.kind.0, mine b h, h.kind.1) refl
   by_kind (Record.Data n) b e h = rw (h.kind.0, e, h.kind.0, mine b h, eq-eqb (number_at b 5) (length b - 9) (omega (arith, h.whole, h.kind.1))) refl
   by_kind (Record.Extended n) b e h =
@@ -89,7 +86,7 @@ module _ (channel : ℕ) where
   by_kind Record.Eof b e h = rw (h.kind, e, h.kind, mine b h) refl
   by_kind Record.Close b e h = rw (h.kind, e, h.kind, mine b h) refl
 
-  record_heard : (rec : Record) (b : List ℕ) → Codec.read channel b ≡ Parsed.Read rec → heard channel (packet b) ≡ as_heard rec b ∷ []
+  record_heard : (rec : Record) (b : List ℕ) → Codec.read channel b ≡ Ok rec → heard channel (packet b) ≡ as_heard rec b ∷ []
   record_heard rec b e =
       let h : Holds channel b rec = read_is channel b rec e in
       ap (heard channel) (some_packet b (omega (arith, h.whole, start_least rec))) ∙ ap (λ (x : Heard). x ∷ []) (by_kind rec b e h)
@@ -101,7 +98,7 @@ module _ (channel : ℕ) where
   first_98 (Exited (negsuc n)) t = absurd (false≢true t)
   first_98 (Signaled n) t = (refl, omega arith)
 
-  request_heard : (x : Status) (b : List ℕ) → Exits.read channel b ≡ Told.Status x → heard channel (packet b) ≡ Exit x ∷ []
+  request_heard : (x : Status) (b : List ℕ) → Exits.read channel b ≡ Ok x → heard channel (packet b) ≡ Exit x ∷ []
   request_heard x b e =
       let q = forth channel b x e in
       let f = first_98 x q.1 in
@@ -109,12 +106,12 @@ module _ (channel : ℕ) where
       ∙ rw (ap (λ (s : List ℕ). get_or s 0 0) (sym q.0) ∙ f.0, e) refl
 
   -- what stands before CLOSE, and CLOSE
-  exit_heard : (x : MaybeStatus) (b : List ℕ) → Tells channel x b → heard channel (packet b) ≡ exit_of x
-  exit_heard MaybeStatus.None b e = rw e refl
-  exit_heard (MaybeStatus.Some s) b e = request_heard s b e
+  exit_heard : (x : Option Status) (b : List ℕ) → Tells channel x b → heard channel (packet b) ≡ exit_of x
+  exit_heard None b e = rw e refl
+  exit_heard (Some s) b e = request_heard s b e
 
   module _ (known : channel < 2 ^ 32) where
-    ending_heard : (x : MaybeStatus) (rest : List ℕ) → is_untold x ≡ false
+    ending_heard : (x : Option Status) (rest : List ℕ) → is_untold x ≡ false
         → heard channel (packet (take (length (ending channel x) - 5) (ending channel x ++ rest)) ++ packet (take 5 (drop (length (ending channel x) - 5) (ending channel x ++ rest))))
         ≡ (exit_of x ++ (Close ∷ [])) ++ []
     ending_heard x rest u =
@@ -177,7 +174,7 @@ returnable_most Unit.Bytes l lengths i h = let z = h.0 in omega arith
 returnable_most Unit.Frames l lengths i h = let z = h.0 in omega arith
 
 module _ (s : State) (f : Fine s) (v : Muted s.runner) (channel : ℕ) (o : OfChannel (conf_of s.runner) channel) (buffer : List ℕ) where
-  good : stop s.runner (bytes_do s.runner.limits s.bytes) ≡ Reply.Ok
+  good : stop s.runner (bytes_do s.runner.limits s.bytes) ≡ Ok tt
   unfolding Plain.enough
   good = goes s (Call.next_message []) f
 

@@ -1,5 +1,6 @@
 -- A session over channel 1, computed from the definitions: the bytes that stand on the wire, and what its peer hears. So the claim is
 -- not of lists that cannot be. And a second one with the same bytes, whose Terminal reports stdout truncated: the wire does not tell.
+use Rattle.std.specs.Prelude.{None}
 use mathlib.Core.Bool.{true, false}
 use mathlib.Core.Path.{◌≡◌, refl, ◌∙◌}
 use mathlib.Core.List.{List, [], ◌∷◌, ◌++◌}
@@ -7,8 +8,6 @@ use Prim.Native.Nat.{ℕ, ◌≤◌}
 use native.Mathlib.Omega.{arith}
 use lib.IntN.{pos}
 use lib.ListN.{length}
-use Rattle.exec.specs.declared.MaybeCause.TheVariants as MaybeCause
-use Rattle.exec.specs.declared.MaybeLaunchFailure.TheVariants as MaybeLaunchFailure
 use Rattle.exec.specs.declared.Outcome.{Outcome}
 use Rattle.exec.specs.declared.Status.TheVariants as Status
 use Rattle.exec.specs.declared.Stream.TheVariants.{Stdout, Stderr}
@@ -60,8 +59,8 @@ lossy = call (Call.discarded Stdout 1) ∷ records zero_status
 abbrev pub cut : Outcome
 cut = record {
   status = zero_status;
-  cause = MaybeCause.None;
-  launch_failure = MaybeLaunchFailure.None;
+  cause = None;
+  launch_failure = None;
   stdout_truncated = true;
   stderr_truncated = false;
   reusable = true;

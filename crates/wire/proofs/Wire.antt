@@ -1,4 +1,7 @@
 -- What a peer can know from the bytes of a channel.
+use Rattle.std.specs.Prelude.{Option, Result, Some, None, Ok, Err}
+use Rattle.exec.specs.declared.Receipt.{Receipt}
+use Rattle.exec.specs.declared.Refusal.{Refusal}
 use mathlib.Core.Bool.{Bool, true, false, ◌||◌, true≢false}
 use mathlib.Core.Path.{◌≡◌, refl, sym, ap, ◌∙◌, subst, subst⁻¹}
 use mathlib.Core.List.{List, [], ◌∷◌, ◌++◌, append-nil}
@@ -7,14 +10,10 @@ use native.Mathlib.Omega.{arith}
 use lib.ListN.{length, take, drop}
 use borrow.Author.Tests.{le-leb}
 use Rattle.exec.specs.declared.Outcome.{Outcome}
-use Rattle.exec.specs.declared.Receipt.TheVariants as Receipt
 use Rattle.exec.specs.declared.Stream.{Stream}
 use Rattle.exec.specs.Each.{Each, one}
 use Rattle.exec.specs.Stream.{every_stream, every_stream_lem}
-use Rattle.runner.specs.declared.answer.Message.TheVariants as Messages
-use Rattle.channel.specs.declared.calls.Answer as Answers
-use Rattle.channel.specs.declared.calls.Answer.TheVariants as Reads
-use Rattle.channel.specs.declared.calls.Wrote.{Wrote}
+use Rattle.runner.specs.declared.answer.Message.{Message as Messages}
 use Rattle.channel.specs.Calls as Channel
 use Rattle.calls.specs.Call as Call
 use Rattle.calls.specs.Call.{Conf, Call, Answer, Message}
@@ -52,12 +51,12 @@ quiet_call c s e = by c (kind c s) e
     by c (Finish.speaks b) e = absurd (omega arith)
 
 -- a record that is read says nothing
-read_unsaid : (a : Answers.Answer) → said_in (read_as a) ≡ []
-read_unsaid (Reads.Receipt Receipt.Applied) = refl
-read_unsaid (Reads.Receipt Receipt.Stale) = refl
-read_unsaid (Reads.Receipt Receipt.Late) = refl
-read_unsaid Reads.Ok = refl
-read_unsaid (Reads.Refused x) = refl
+read_unsaid : (a : Result (Option Receipt) Refusal) → said_in (read_as a) ≡ []
+read_unsaid (Ok (Some Receipt.Applied)) = refl
+read_unsaid (Ok (Some Receipt.Stale)) = refl
+read_unsaid (Ok (Some Receipt.Late)) = refl
+read_unsaid (Ok None) = refl
+read_unsaid (Err x) = refl
 
 module _ (conf : Conf) (channel : ℕ) (o : OfChannel conf channel) where
   entry_heard : (e : Entry) (s : State) → Good conf s → Muted s.runner → Lone channel e
@@ -72,15 +71,15 @@ module _ (conf : Conf) (channel : ℕ) (o : OfChannel conf channel) where
 
 -- ---- where nothing is said, nothing stands on the wire
 
-unsent : (w : Wrote) (b : List ℕ) → is_message (wrote_as w b) ≡ false → written w b ≡ []
-unsent Wrote.None b e = refl
-unsent (Wrote.Message (Messages.Credit n) k) b e = absurd (true≢false e)
-unsent (Wrote.Message Messages.Started k) b e = absurd (true≢false e)
-unsent (Wrote.Message (Messages.Output x n) k) b e = absurd (true≢false e)
-unsent (Wrote.Message (Messages.End x) k) b e = absurd (true≢false e)
-unsent (Wrote.Message Messages.InputClosed k) b e = absurd (true≢false e)
-unsent (Wrote.Message (Messages.Terminal o) k) b e = absurd (true≢false e)
-unsent (Wrote.Refused x) b e = refl
+unsent : (w : Result (Option (Messages × ℕ)) Refusal) (b : List ℕ) → is_message (wrote_as w b) ≡ false → written w b ≡ []
+unsent (Ok None) b e = refl
+unsent (Ok (Some (Messages.Credit n, k))) b e = absurd (true≢false e)
+unsent (Ok (Some (Messages.Started, k))) b e = absurd (true≢false e)
+unsent (Ok (Some (Messages.Output x n, k))) b e = absurd (true≢false e)
+unsent (Ok (Some (Messages.End x, k))) b e = absurd (true≢false e)
+unsent (Ok (Some (Messages.InputClosed, k))) b e = absurd (true≢false e)
+unsent (Ok (Some (Messages.Terminal o, k))) b e = absurd (true≢false e)
+unsent (Err x) b e = refl
 
 unwired : (e : Entry) (s : State) → is_message (answer_entry s e) ≡ false → on_wire s e ≡ []
 unfolding answer_entry on_wire

@@ -1,17 +1,16 @@
 -- A channel of RFC 4254 as a wire: the records that the sender puts on it, what its peer's readers make of them, and what is to be
 -- heard of a message. The sender cuts what a write left by its answer; the peer has the bytes, and no message, length or answer.
-use Rattle.std.specs.Prelude.{Bool, cond, ◌&&◌, List, [], ◌∷◌, ◌++◌, map, ℕ, ◌-◌, eqb, length, take, drop, get_or}
-use Rattle.exec.specs.declared.MaybeStatus.{MaybeStatus}
+use Rattle.std.specs.Prelude.{Bool, cond, ◌&&◌, List, [], ◌∷◌, ◌++◌, map, ℕ, ◌-◌, eqb, length, take, drop, get_or, Option, Result, Some, None, Ok, Err}
+use Rattle.runner.specs.declared.answer.Message.{Message}
+use Rattle.codec.specs.declared.Record.{Record}
+use Rattle.exec.specs.declared.Status.{Status}
+use Rattle.exec.specs.declared.Refusal.{Refusal}
 use Rattle.exec.specs.declared.Stream.TheVariants.{Stdout, Stderr}
 use Rattle.exec.specs.Each.{Each, every}
 use Rattle.runner.specs.declared.answer.Message as Messages
-use Rattle.runner.specs.declared.answer.Message.TheVariants as Message
 use Rattle.octets.specs.Bytes.{number_at}
-use Rattle.codec.specs.declared.Parsed.{Parsed}
 use Rattle.codec.specs.Codec as Codec
-use Rattle.exits.specs.declared.Told.{Told}
 use Rattle.exits.specs.Exit as Exits
-use Rattle.channel.specs.declared.calls.Wrote.{Wrote}
 use Rattle.channel.specs.Calls as Channel
 use Rattle.calls.specs.Call as Call
 use Rattle.account.specs.Step.{State}
@@ -34,10 +33,10 @@ packets (Message.End x) n buffer = packet (take n buffer)
 packets Message.InputClosed n buffer = packet (take n buffer)
 packets (Message.Terminal o) n buffer = packet (take (n - 5) buffer) ++ packet (take 5 (drop (n - 5) buffer))
 
-abbrev pub written : Wrote → (buffer : List ℕ) → List (List ℕ)
-written Wrote.None buffer = []
-written (Wrote.Message m n) buffer = packets m n buffer
-written (Wrote.Refused x) buffer = []
+abbrev pub written : (Result (Option (Message × ℕ)) Refusal) → (buffer : List ℕ) → List (List ℕ)
+written (Ok None) buffer = []
+written (Ok (Some (m, n))) buffer = packets m n buffer
+written (Err x) buffer = []
 
 -- the records that an entry writes
 unfoldable pub on_wire : State → Entry → List (List ℕ)
@@ -62,14 +61,14 @@ by_kind channel kind b =
     (cond (eqb kind 96) Eof
     (cond (eqb kind 97) Close Unread)))))
 
-abbrev pub as_record : (channel : ℕ) → Parsed → List ℕ → Heard
-as_record channel (Parsed.Read rec) b = by_kind channel (get_or b 0 0) b
-as_record channel (Parsed.Refused x) b = Unread
+abbrev pub as_record : (channel : ℕ) → Result Record Refusal → List ℕ → Heard
+as_record channel (Ok rec) b = by_kind channel (get_or b 0 0) b
+as_record channel (Err x) b = Unread
 
 -- 98, by the reader of the exit requests
-abbrev pub as_request : Told → Heard
-as_request (Told.Status s) = Exit s
-as_request (Told.Refused x) = Unread
+abbrev pub as_request : Result Status Refusal → Heard
+as_request (Ok s) = Exit s
+as_request (Err x) = Unread
 
 abbrev pub hear : (channel : ℕ) → List ℕ → Heard
 hear channel b = cond (eqb (get_or b 0 0) 98) (as_request (Exits.read channel b)) (as_record channel (Codec.read channel b) b)
@@ -79,9 +78,9 @@ heard channel bs = map (hear channel) bs
 
 -- ---- what is to be heard of a message
 
-abbrev pub exit_of : MaybeStatus → List Heard
-exit_of MaybeStatus.None = []
-exit_of (MaybeStatus.Some s) = Exit s ∷ []
+abbrev pub exit_of : Option Status → List Heard
+exit_of None = []
+exit_of (Some s) = Exit s ∷ []
 
 -- Credit its units, Output its bytes, the End with which every stream has ended an EOF, Terminal the status, if there is one, and
 -- then CLOSE; Started, InputClosed and any other End nothing

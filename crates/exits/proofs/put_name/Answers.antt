@@ -9,4 +9,4 @@ unfolding bytes
 returns c =
     let a = c.args in
     c.copy_in.ensures
-    ∙ name_laid a.buffer.now a.channel a.signal _ _ c.requires.0 c.requires.1 c.put_head.ensures c.put_be32.ensures
+    ∙ name_laid a.buffer.now a.channel a.name.now _ _ c.requires.0 c.requires.1 c.put_head.ensures c.put_be32.ensures

@@ -1,10 +1,9 @@
 -- The text is tested whole before a byte is written.
 use Rattle.std.proofs.Common.{sym, ap, ◌∙◌, arith, List, ℕ, ◌++◌, drop}
-use Rattle.std.proofs.Math.Option.{Option}
+use Rattle.std.specs.Prelude.{Option, Some}
 use Rattle.hexadecimal.specs.Hexadecimal.{pairs}
 use Rattle.hexadecimal.specs.HexadecimalLaws.{pairs_hex, pairs_even, pairs_length, unhex_some, unhex_none}
 use Rattle.hexadecimal.specs.Answers.{maybe_length, unhex_into}
-use Rattle.hexadecimal.specs.declared.MaybeLength.TheVariants as MaybeLength
 use Rattle.hexadecimal.proofs.read.Goals as goal
 
 pub put_pairs-requires : goal.put_pairs-requires
@@ -15,7 +14,7 @@ pub returns-then-are_pairs-clause-value : goal.returns-then-are_pairs-clause-val
 returns-then-are_pairs-clause-value c =
     let s = c.args.text.now in
     let e = unhex_some s (sym c.are_pairs.ensures ∙ c.if-are_pairs.true) in
-    ap MaybeLength.Some (sym (pairs_length s)) ∙ sym (ap maybe_length e)
+    ap Some (sym (pairs_length s)) ∙ sym (ap maybe_length e)
 
 pub returns-then-are_pairs-clause-out_after : goal.returns-then-are_pairs-clause-out_after
 returns-then-are_pairs-clause-out_after c =

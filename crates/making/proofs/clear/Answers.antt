@@ -1,17 +1,11 @@
--- A turn of the loop is `zeros_turn`.
-use Rattle.std.proofs.Common.{◌≡◌, refl, arith, length-set}
-use Rattle.syntax.specs.Zeros.{zeros_start, zeros_turn}
+-- n zeros, and the rest.
+use Rattle.std.proofs.Common.{◌∙◌, ap, arith, length, length-take, take, drop, List, ℕ, ◌++◌, ◌≡◌}
+use Rattle.syntax.specs.Zeros.{zeros_are}
 use Rattle.making.proofs.clear.Goals as goal
 
-pub loop-i-init : goal.loop-i-init
-loop-i-init c = (omega arith, zeros_start _, refl)
-
-pub loop-i-preserved : goal.loop-i-preserved
-loop-i-preserved c = (
-  omega arith,
-  rw c.loop-i.invariant.1 (zeros_turn _ _ (omega arith)),
-  simp length-set c.loop-i.invariant.2,
-)
-
 pub returns : goal.returns
-returns c = let i : c.loop-i.i ≡ c.args.n = omega arith in rw (← i) c.loop-i.invariant.1
+returns c =
+    let n = c.args.n in
+    let w = c.args.work.now in
+    let m : length (take n w) ≡ n = omega (arith, length-take n w) in
+    ap (λ (x : List ℕ). x ++ drop n w) (c.fill.ensures.after (λ y e. e) ∙ rw m (zeros_are n))

@@ -13,5 +13,5 @@ returns c =
     let size : length buffer ≡ a.n - 0 = search rules in
     let lent : take (a.n - 0) c.clear.new.work ≡ zeros a.n = cleared a.work.now c.clear.new.work a.n c.clear.ensures in
     let e = c.next_message-saying.ensures ∙ ap (next_message a.runner.now a.store.now) lent in
-    let m = said_made a.runner.now a.store.now a.n _ buffer _ c.said.result e (omega arith) c.said.ensures in
+    let m = said_made a.runner.now a.store.now a.n _ buffer _ c.into.result e (omega arith) c.into.ensures in
     (ap (said_moved a.runner.now) m.0 ∙ sym (said_kept a.runner.now a.store.now (zeros a.n)), m.1)

@@ -4,8 +4,8 @@ use Rattle.inbox.specs.RangeLaws.{freed_fits}
 use Rattle.inbox.specs.Inbox.{pop}
 use Rattle.input.proofs.Input.written.Goals as goal
 
-pub free-granted-requires : goal.free-granted-requires
+pub free-self-requires : goal.free-self-requires
 unfolding pop
-free-granted-requires c =
+free-self-requires c =
     let a = c.args in
     grind (arith, freed_fits a.limits a.self.window a.self.inbox c.requires.range a.count a.lengths.now c.requires.slots)

@@ -1,9 +1,10 @@
 -- What credit leaves differs from what it was by the accounts alone.
 use Rattle.std.proofs.Common.{◌≡◌, refl, ℕ, true}
+use Rattle.std.specs.Prelude.{Result, Ok, Err}
+use Rattle.exec.specs.declared.Receipt.{Receipt}
+use Rattle.exec.specs.declared.Refusal.{Refusal}
 use Rattle.exec.specs.declared.Key.{Key}
 use Rattle.exec.specs.declared.Pool.{Pool}
-use Rattle.exec.specs.declared.Received.{Received}
-use Rattle.exec.specs.declared.Reply.{Reply}
 use Rattle.exec.specs.Key.{admits}
 use Rattle.exec.specs.Limits.{output_pool}
 use Rattle.runner.specs.declared.answer.Hearing.{Hearing}
@@ -23,14 +24,14 @@ credit-back r k p units a e = rw e (by (stop r true))
     next : Runner
     next = credit_next (admits r.key k) (output_pool r.limits.shared p) r units
 
-    answer : Received
+    answer : Result Receipt Refusal
     answer = credit_answer (admits r.key k) (output_pool r.limits.shared p) r units
 
-    by : (g : Reply) → ◌≡◌ {A = Hearing}
+    by : (g : Result (Unit {0}) Refusal) → ◌≡◌ {A = Hearing}
         (record { runner = with_flow (hearing g answer next r).runner.credits r.turn r.flags r.high_water r; received = (hearing g answer next r).received })
         (hearing g answer next r)
-    by Reply.Ok = refl
-    by (Reply.Refused x) = refl
+    by (Ok tt) = refl
+    by (Err x) = refl
 
 pub returns : goal.returns
 returns c = credit-back _ _ _ _ _ c.account_for-accounting.ensures

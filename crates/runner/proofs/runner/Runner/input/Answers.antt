@@ -11,8 +11,8 @@ receive-receiving-requires c =
     let g = stores_good a.self c.stands.ensures c.agrees.ensures h.good a.store.now a.lengths.now _ _ refl c.bytes_do.ensures c.lengths_do.ensures in
     record { range = g.0.input; bytes = g.1; slots = g.2 }
 
-pub mark-mark-requires : goal.mark-mark-requires
-mark-mark-requires c =
+pub mark-requires : goal.mark-requires
+mark-requires c =
     let a = c.args in
     let h = heard a.self a.key _ _ c.hears.ensures c.if-hears.true in
     let g = stores_good a.self c.stands.ensures c.agrees.ensures h.good a.store.now a.lengths.now _ _ refl c.bytes_do.ensures c.lengths_do.ensures in

@@ -12,9 +12,9 @@ take_in-intake-requires c =
     let q = g.0.queue a.stream in
     rw (c.output_in-output.ensures, c.ring_base-base.ensures) (area_of a.self a.stream a.store.now g.1, q.begins, q.most)
 
-pub mark-mark-requires : goal.mark-mark-requires
-mark-mark-requires c =
+pub mark-requires : goal.mark-requires
+mark-requires c =
     let a = c.args in
     let g = bytes_good a.self c.stands.ensures c.agrees.ensures c.if-agrees-stands.true a.store.now c.bytes_do-enough.ensures in
-    filled_small a.self a.stream a.bytes.now a.store.now _ _ _ _ _ c.output_in-output.ensures c.take_in-intake.ensures c.put_output-next.ensures g.0
+    filled_small a.self a.stream a.bytes.now a.store.now _ _ _ _ _ c.output_in-output.ensures c.take_in-intake.ensures c.put_output-outputs.ensures g.0
     (omega (arith, g.1))

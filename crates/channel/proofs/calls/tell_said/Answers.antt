@@ -1,8 +1,0 @@
--- A message's record fits where its payload does.
-use Rattle.channel.specs.CallLaws.{Sayable}
-use Rattle.channel.proofs.Steps.{roomy_sent}
-use Rattle.channel.proofs.calls.tell_said.Goals as goal
-
-pub lay_out-n-requires : goal.lay_out-n-requires
-unfolding Sayable
-lay_out-n-requires c = rw c.sent_as-out.ensures (roomy_sent _ _ _ (rw c.in-Message.is at c.requires).1)

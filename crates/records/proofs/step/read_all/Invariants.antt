@@ -1,6 +1,0 @@
--- What is left of the records grows less with each turn.
-use Rattle.std.proofs.Common.{◌-◌, length}
-use Rattle.records.proofs.step.read_all.Given as goal
-
-abbrev pub decreases-loop-i : goal.decreases-loop-i
-decreases-loop-i g l = length l.records - l.i
