@@ -9,6 +9,7 @@ use exec::Stream;
 // What the runner says next, by what its state shows.
 #[derive(Clone, Copy)]
 pub enum Choice {
+    // One of seven cases of a match: an Option round the others would only nest it.
     None,
     Credit,
     Started,

@@ -1,13 +1,17 @@
 -- The credit of a pool: what was granted and is not spent.
-use Rattle.std.specs.Prelude.{ℕ, ◌+◌, ◌-◌, min, Bool, cond, ◌&&◌, leb, ltb, Ok, Err}
+use Rattle.std.specs.Prelude.{ℕ, ◌+◌, ◌-◌, min, Bool, cond, ◌&&◌, leb, ltb, Result, Ok, Err}
 use Rattle.exec.specs.declared.Refusal.{Refusal}
 use Rattle.exec.specs.declared.Unit as Units
 use Rattle.exec.specs.declared.Unit.TheVariants.{Bytes, Frames}
 use Rattle.credit.specs.declared.sender.Credit.{Credit}
-use Rattle.credit.specs.declared.sender.Granting.{Granting}
 
 abbrev pub new_credit : ℕ → Credit
 new_credit window = record { window = window; available = 0 }
+
+-- what a grant leaves, and its answer
+pub record Granting : Type 0 where
+  pub credit : Credit
+  pub reply : Result (Unit {0}) Refusal
 
 -- a grant of 0, or of a sum above the window, is refused
 abbrev pub grantable : Credit → ℕ → Bool

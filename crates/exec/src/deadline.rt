@@ -16,7 +16,7 @@ pub fn then(deadline: Option<u64>, duration: u64) -> Option<u64>
     after(deadline?, duration)
 }
 
-// The earlier of two.
+// The earlier of two. (One match of both, or `or`, costs the runner's call `deadline` 6 to 32 instructions more; this one takes 135.)
 pub fn earliest(first: Option<u64>, second: Option<u64>) -> Option<u64>
     ensures { result ≡ earliest first second }
 {
@@ -33,20 +33,17 @@ pub fn earliest(first: Option<u64>, second: Option<u64>) -> Option<u64>
 pub fn due(deadline: Option<u64>, now: u64) -> bool
     ensures { result ≡ due deadline now }
 {
-    match deadline {
-        None => false,
-        Some(at) => at <= now,
-    }
+    deadline.is_some_and(|at| at <= now)
 }
 
-// A deadline while it matters, and none otherwise.
+// A deadline while it matters, and none otherwise. (By `filter` that call takes 17 instructions more.)
 pub fn keep_if(deadline: Option<u64>, keep: bool) -> Option<u64>
     ensures { result ≡ cond keep deadline None }
 {
     if keep { deadline } else { None }
 }
 
-// The same, made anew: a copy would move the bytes between its tag and its instant too (docs/DECISIONS.md, Speed).
+// The same, made anew, for speed: a copy would move the bytes between its tag and its instant too (docs/DECISIONS.md, Speed).
 pub fn again(deadline: Option<u64>) -> Option<u64>
     ensures { result ≡ deadline }
 {

@@ -1,5 +1,6 @@
 // What the two sides of an execution agree on (mod.rs of the Rust), in the Rust's order: keys, streams, pools, limits, timers,
-// outcomes, receipts and refusals; deadlines in `deadline`. A call that is refused answers an Err with its Refusal.
+// outcomes, receipts and refusals; deadlines in `deadline`, what each stream has side by side in `pair`. A call that is refused
+// answers an Err with its Refusal.
 #![tactic(auto)]
 
 ghost use Rattle.std.specs.Prelude.{◌≡◌};
@@ -35,6 +36,7 @@ use std::error::Error;
 use std::fmt;
 
 pub mod deadline;
+pub mod pair;
 
 // The identity of one execution: an identifier, and the generation of its use.
 #[derive(Clone, Copy, Debug, PartialEq, Eq)]
@@ -89,13 +91,13 @@ impl Stream {
     pub fn is_stdout(self) -> bool
         ensures { result ≡ is_stdout self }
     {
-        matches!(self, Stream::Stdout)
+        self == Stream::Stdout
     }
 
     pub fn is_stderr(self) -> bool
         ensures { result ≡ is_stderr self }
     {
-        matches!(self, Stream::Stderr)
+        self == Stream::Stderr
     }
 
     // The stream that has its turn after this one.
@@ -119,10 +121,7 @@ impl Stream {
     pub fn index(self) -> usize
         ensures { result ≡ index self }
     {
-        match self {
-            Stream::Stdout => 0,
-            Stream::Stderr => 1,
-        }
+        self as usize
     }
 }
 
@@ -251,7 +250,7 @@ impl Limits {
         self
     }
 
-    // The position of a stream's output pool.
+    // The position of a stream's output pool: a number, as the scope has it, since the pools' accounts stand side by side.
     pub fn pool_of(self, stream: Stream) -> usize
         ensures { result ≡ pool_of self stream }
     {
@@ -360,7 +359,7 @@ pub enum Settlement {
     Failed,
 }
 
-// How an execution ended. (An enum holds no array, so the truncation of the two streams is two flags.)
+// How an execution ended. (The truncation of the two streams is two flags, as the scope has it.)
 #[derive(Clone, Copy, Debug, PartialEq, Eq)]
 pub struct Outcome {
     pub status: Option<Status>,
@@ -439,25 +438,25 @@ pub enum Receipt {
 // changes nothing.
 #[derive(Clone, Copy, Debug, PartialEq, Eq)]
 pub enum Refusal {
-    Key,
-    Pool,
-    Credit,
-    Chunk,
-    Window,
-    Ended,
-    NoLimits,
-    StoreShort,
-    StateOutOfRange,
-    NotAChannel,
-    BadLength,
-    UnknownKind,
-    OtherChannel,
-    BadType,
-    NotInbound,
-    BufferShort,
-    BadLine,
-    UntoldStatus,
-    BadRequest,
+    Key = 1,
+    Pool = 2,
+    Credit = 3,
+    Chunk = 4,
+    Window = 5,
+    Ended = 6,
+    NoLimits = 10,
+    StoreShort = 11,
+    StateOutOfRange = 12,
+    NotAChannel = 13,
+    BadLength = 20,
+    UnknownKind = 21,
+    OtherChannel = 22,
+    BadType = 23,
+    NotInbound = 24,
+    BufferShort = 25,
+    BadLine = 30,
+    UntoldStatus = 40,
+    BadRequest = 41,
 }
 
 impl Refusal {
@@ -465,27 +464,7 @@ impl Refusal {
     pub fn number(self) -> u32
         ensures { result ≡ number self }
     {
-        match self {
-            Refusal::Key => 1,
-            Refusal::Pool => 2,
-            Refusal::Credit => 3,
-            Refusal::Chunk => 4,
-            Refusal::Window => 5,
-            Refusal::Ended => 6,
-            Refusal::NoLimits => 10,
-            Refusal::StoreShort => 11,
-            Refusal::StateOutOfRange => 12,
-            Refusal::NotAChannel => 13,
-            Refusal::BadLength => 20,
-            Refusal::UnknownKind => 21,
-            Refusal::OtherChannel => 22,
-            Refusal::BadType => 23,
-            Refusal::NotInbound => 24,
-            Refusal::BufferShort => 25,
-            Refusal::BadLine => 30,
-            Refusal::UntoldStatus => 40,
-            Refusal::BadRequest => 41,
-        }
+        self as u32
     }
 }
 

@@ -1,6 +1,5 @@
 // The deadlines of an execution, and what each event does to them.
 ghost use Rattle.std.specs.Prelude.{◌≡◌};
-ghost use Rattle.lifecycle.specs.Setters.{set_timeout_at, set_grace_until, set_give_up_at, set_abandon_at};
 ghost use Rattle.lifecycle.specs.Clocks.{terminate_clocks, stop_waiting, give_up_by, clocks_due, first_of};
 
 use exec::deadline;
@@ -20,34 +19,6 @@ pub struct Clocks {
 }
 
 impl Clocks {
-    pub fn set_timeout_at(mut self, timeout_at: Option<u64>) -> Clocks
-        ensures { result ≡ set_timeout_at timeout_at self }
-    {
-        self.timeout_at = timeout_at;
-        self
-    }
-
-    pub fn set_grace_until(mut self, grace_until: Option<u64>) -> Clocks
-        ensures { result ≡ set_grace_until grace_until self }
-    {
-        self.grace_until = grace_until;
-        self
-    }
-
-    pub fn set_give_up_at(mut self, give_up_at: Option<u64>) -> Clocks
-        ensures { result ≡ set_give_up_at give_up_at self }
-    {
-        self.give_up_at = give_up_at;
-        self
-    }
-
-    pub fn set_abandon_at(mut self, abandon_at: Option<u64>) -> Clocks
-        ensures { result ≡ set_abandon_at abandon_at self }
-    {
-        self.abandon_at = abandon_at;
-        self
-    }
-
     // The same, made anew (`deadline::again`).
     pub fn again(self) -> Clocks
         ensures { result ≡ self }

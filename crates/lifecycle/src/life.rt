@@ -1,6 +1,5 @@
 // What is known of the workload, and where the settlement of the execution stands.
 ghost use Rattle.std.specs.Prelude.{◌≡◌};
-ghost use Rattle.lifecycle.specs.Setters.{set_launch, set_exit, set_settling};
 ghost use Rattle.lifecycle.specs.Life.{
   launch_of,
   launch_known,
@@ -26,7 +25,7 @@ ghost use Rattle.lifecycle.specs.Life.{
 
 use exec::{Cause, LaunchFailure, Outcome, Settlement, Status, deadline};
 
-// The workload's launch result, once it arrived.
+// The workload's launch result, once it arrived: three states, each by its name, which Option<Result<(), _>> would not give them.
 #[derive(Clone, Copy)]
 pub enum Launch {
     Awaited,
@@ -62,7 +61,7 @@ impl Launch {
     }
 }
 
-// The workload's end, once it is known; its status may be lost. The Rust's Option<Option<Status>>.
+// The workload's end, once it is known; its status may be lost. The Rust's Option<Option<Status>>, whose two None mean these two.
 #[derive(Clone, Copy)]
 pub enum Exit {
     Running,
@@ -138,25 +137,17 @@ impl Settling {
     pub fn late(self, now: u64) -> bool
         ensures { result ≡ settling_late self now }
     {
-        match self {
-            Settling::Requested(by) => deadline::due(by, now),
-            _ => false,
-        }
+        deadline::due(self.by(), now)
     }
 
     // Fenced once the result that was requested is late.
     pub fn expire(self, now: u64) -> Settling
         ensures { result ≡ expired self now }
     {
-        match self {
-            Settling::Requested(by) => {
-                if deadline::due(by, now) {
-                    return Settling::Fenced;
-                }
-                self
-            }
-            _ => self,
+        if self.late(now) {
+            return Settling::Fenced;
         }
+        self
     }
 
     // The settlement's result, which changes nothing unless it is awaited.
@@ -194,32 +185,12 @@ pub struct Life {
 }
 
 impl Life {
-    pub fn set_launch(mut self, launch: Launch) -> Life
-        ensures { result ≡ set_launch launch self }
-    {
-        self.launch = launch;
-        self
-    }
-
-    pub fn set_exit(mut self, exit: Exit) -> Life
-        ensures { result ≡ set_exit exit self }
-    {
-        self.exit = exit;
-        self
-    }
-
-    pub fn set_settling(mut self, settling: Settling) -> Life
-        ensures { result ≡ set_settling settling self }
-    {
-        self.settling = settling;
-        self
-    }
-
     // The same, with its deadline made anew (`deadline::again`).
-    pub fn again(self) -> Life
+    pub fn again(mut self) -> Life
         ensures { result ≡ self }
     {
-        self.set_settling(self.settling.again())
+        self.settling = self.settling.again();
+        self
     }
 
     // The runner ends the workload for `cause`; one that has ended needs no end, and gets no cause.

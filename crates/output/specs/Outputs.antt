@@ -1,5 +1,5 @@
 -- The outputs side by side, in the order of Stream::ALL: that of one stream, and what is asked of every one.
-use Rattle.std.specs.Prelude.{ℕ, ◌≡◌, Bool, cond, List, [], ◌∷◌, get_or}
+use Rattle.std.specs.Prelude.{ℕ, ◌≡◌, Bool, cond, ◌&&◌, List, [], ◌∷◌, get_or}
 use Rattle.exec.specs.declared.Stream.{Stream}
 use Rattle.exec.specs.declared.Stream.TheVariants.{Stdout, Stderr}
 use Rattle.exec.specs.Stream.{is_stdout, is_stderr, pick, every_stream, any_stream, sum_of_streams}
@@ -27,6 +27,10 @@ each_output f os = f (output_in Stdout os) ∷ f (output_in Stderr os) ∷ []
 -- the same, where After says what each may become
 abbrev pub Changes : (After : Output → Output → Type 0) → (os changed : List Output) → Type 0
 Changes After os changed = (a b : Output) × After (output_in Stdout os) a × After (output_in Stderr os) b × (changed ≡ a ∷ b ∷ [])
+
+-- whether every one passes a test, where After says what the test may answer of each
+abbrev pub Passes : (After : Output → Bool → Type 0) → List Output → Bool → Type 0
+Passes After os passes = (a b : Bool) × After (output_in Stdout os) a × After (output_in Stderr os) b × (passes ≡ (a && b))
 
 abbrev pub all_closed : List Output → Bool
 all_closed os = every_stream (λ (x : Stream). (output_in x os).closed)

@@ -5,6 +5,7 @@ ghost use Rattle.output.specs.Outputs.{
   output_in,
   put_output,
   Changes,
+  Passes,
   all_closed,
   any_held,
   all_delivered,
@@ -14,20 +15,18 @@ ghost use Rattle.output.specs.Outputs.{
 };
 
 use crate::Output;
-use exec::Stream;
+use exec::{Stream, pair};
 
 pub fn output_in(stream: Stream, outputs: [Output; 2]) -> Output
     ensures { result ≡ output_in stream outputs }
 {
-    stream.pick(outputs[0], outputs[1])
+    pair::at(stream.index(), outputs)
 }
 
 pub fn put_output(stream: Stream, output: Output, outputs: [Output; 2]) -> [Output; 2]
     ensures { result ≡ put_output stream output outputs }
 {
-    let first = stream.pick(output, outputs[0]);
-    let second = stream.pick(outputs[1], output);
-    [first, second]
+    pair::put(stream.index(), output, outputs)
 }
 
 // Each changed alike.
@@ -38,13 +37,21 @@ pub fn each<F: Fn(Output) -> Output>(outputs: [Output; 2], change: F) -> [Output
     [change(outputs[0]), change(outputs[1])]
 }
 
+// Whether every one passes. Without a branch between them: calls of every turn ask it.
+fn every<F: Fn(Output) -> bool>(outputs: [Output; 2], test: F) -> bool
+    requires { F.IsAlwaysCallable test }
+    ensures { Passes (F.post test) outputs result }
+{
+    test(outputs[0]) & test(outputs[1])
+}
+
 pub fn all_closed(outputs: [Output; 2]) -> bool
     ensures { result ≡ all_closed outputs }
 {
-    let [stdout, stderr] = outputs;
-    stdout.closed & stderr.closed
+    every(outputs, |output| output.closed)
 }
 
+// (By itself: it is the one that asks whether any does.)
 pub fn any_held(outputs: [Output; 2]) -> bool
     ensures { result ≡ any_held outputs }
 {
@@ -55,8 +62,7 @@ pub fn any_held(outputs: [Output; 2]) -> bool
 pub fn all_delivered(outputs: [Output; 2], detached: bool) -> bool
     ensures { result ≡ all_delivered outputs detached }
 {
-    let [stdout, stderr] = outputs;
-    stdout.is_delivered(detached) & stderr.is_delivered(detached)
+    every(outputs, |output| output.is_delivered(detached))
 }
 
 // The bytes of output that the runner holds.
@@ -71,14 +77,12 @@ pub fn buffered_of(outputs: [Output; 2]) -> usize
 pub fn fit(outputs: [Output; 2], chunk: u32) -> bool
     ensures { result ≡ outputs_fit chunk outputs }
 {
-    let [stdout, stderr] = outputs;
-    stdout.fits(chunk) & stderr.fits(chunk)
+    every(outputs, |output| output.fits(chunk))
 }
 
 // The same, for a chunk that is not 0.
 pub fn within(outputs: [Output; 2], chunk: u32) -> bool
     ensures { result ≡ outputs_within chunk outputs }
 {
-    let [stdout, stderr] = outputs;
-    stdout.within(chunk) & stderr.within(chunk)
+    every(outputs, |output| output.within(chunk))
 }
