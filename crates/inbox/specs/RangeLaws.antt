@@ -1,9 +1,10 @@
 -- The ranges as facts: what the calls on an inbox ask follows from them and from the needs of the stores.
-use Rattle.std.specs.Prelude.{ℕ, ◌+◌, ◌*◌, ◌^◌, ◌≤◌, ◌<◌, min, ◌≡◌, refl, Bool, true, false, ◌&&◌, ◌||◌, List, leb, ltb, eqb, length}
+use Rattle.std.specs.Prelude.{ℕ, ◌+◌, ◌*◌, ◌^◌, ◌≤◌, ◌<◌, min, ◌≡◌, refl, Bool, true, false, ◌&&◌, List, leb, ltb, eqb, length}
 use native.Mathlib.Omega.{arith}
-use Rattle.std.proofs.Math.Decide.{dec_lt}
 use Rattle.std.proofs.Math.Nat.{mul-le-mul}
-use Rattle.std.proofs.Common.{mul-pos, sym, leb-true, eqb-true, le-ltb, ne_eqb, le-leb}
+use Rattle.std.proofs.Common.{mul-pos, sym, leb-true, ne_eqb, le-leb}
+use Rattle.std.proofs.lemmas.Bool.Decides.{nat_tests}
+use Rattle.std.proofs.Math.Bool.{or-false}
 use Rattle.exec.specs.declared.Limits.{Limits}
 use Rattle.exec.specs.declared.Unit as Units
 use Rattle.exec.specs.declared.Unit.TheVariants.{Bytes, Frames}
@@ -15,38 +16,19 @@ use Rattle.inbox.specs.Inbox.{inbox_held, freed_by, pop_freed}
 use Rattle.inbox.specs.Receiver.{units_fit}
 use Rattle.inbox.specs.Need.{byte_need, length_need, need_fits}
 use Rattle.inbox.specs.Range.{ring_fits, frames_fit, inbox_fits, inbox_within, Waiting, Pushable, Poppable}
-
-pub both : (a b : Bool) → (a && b) ≡ true → (a ≡ true) × (b ≡ true)
-both true b h = (refl, h)
-both false true h = (h, refl)
-both false false h = (h, h)
+-- two flags that hold together hold each
+pub use Rattle.std.proofs.lemmas.Bool.{and_parts as both}
 
 -- a start in range is at most the size, and below it unless that is 0
 pub ring_start : (start size : ℕ) → ring_fits start size ≡ true → start ≤ size
-ring_start start size h =
-    elim (dec_lt start size) [
-      | yes l ↦ omega arith
-      | no l ↦
-          let z : (eqb size 0 && eqb start 0) ≡ true = rw (le-ltb start size (omega arith)) at h in
-          omega (arith, eqb-true start 0 (both (eqb size 0) (eqb start 0) z).1)
-    ]
+ring_start start size h = grind (arith, nat_tests)
 
 pub ring_below : (start size : ℕ) → ring_fits start size ≡ true → 0 < size → start < size
-ring_below start size h some =
-    elim (dec_lt start size) [
-      | yes l ↦ l
-      | no l ↦
-          let z : (eqb size 0 && eqb start 0) ≡ true = rw (le-ltb start size (omega arith)) at h in
-          absurd (omega (arith, eqb-true size 0 (both (eqb size 0) (eqb start 0) z).0))
-    ]
+ring_below start size h some = grind (arith, nat_tests)
 
 -- where the size is not 0
 pub ring_valid : (start size : ℕ) → 0 < size → ring_fits start size ≡ ltb start size
-ring_valid start size some = rw (ne_eqb size 0 (omega arith)) (or_false (ltb start size))
-  where
-    or_false : (a : Bool) → (a || false) ≡ a
-    or_false true = refl
-    or_false false = refl
+ring_valid start size some = rw (ne_eqb size 0 (omega arith)) (or-false (ltb start size))
 
 -- in Frames, the lengths and the bytes of the frames
 pub record FramesIn (u : Units.Unit) (size chunk : ℕ) (b : Inbox) : Type 0 where
@@ -54,7 +36,7 @@ pub record FramesIn (u : Units.Unit) (size chunk : ℕ) (b : Inbox) : Type 0 whe
   pub held : u ≡ Frames → b.length ≤ b.frames * chunk
 
 frames_in : (u : Units.Unit) (size chunk : ℕ) (b : Inbox) → frames_fit u size chunk b ≡ true → FramesIn u size chunk b
-frames_in Bytes size chunk b h = record { first = λ e. absurd (let z : ◌≡◌ {A = ℕ} 0 1 = cc in omega arith); held = λ e. absurd (let z : ◌≡◌ {A = ℕ} 0 1 = cc in omega arith) }
+frames_in Bytes size chunk b h = record { first = λ e. cc; held = λ e. cc }
 frames_in Frames size chunk b h =
     let p = both (ring_fits b.first size) (leb b.length (b.frames * chunk)) h in record {
       first = λ e. ring_start b.first size p.0;

@@ -70,20 +70,20 @@ impl Inbox {
     }
 
     // Appends one data message, which its pool charged.
-    #[tactic(auto, unfolding(crate::specs::Inbox::push, crate::specs::Inbox::pushed_frame))]
+    #[tactic(auto, using(ring::specs::AreaLaws::write_part), unfolding(crate::specs::Inbox::push, crate::specs::Inbox::pushed_frame))]
     pub fn push(self, limits: Limits, store: &mut [u8], lengths: &mut [u32], bytes: &[u8]) -> Inbox
         requires { Pushable limits self (length bytes.now) store.old lengths.old }
         ensures { push_after result store.new lengths.new ≡ push limits self bytes.now store.old lengths.old }
     {
         let base = rings(limits);
         let size = limits.input_bytes();
-        let n = bytes.len();
-        ring::push(store, base, size, self.start, self.length, bytes, n);
-        self.push_frame(limits.input, lengths, n)
+        let area = &mut store[base..base + size];
+        ring::push(area, self.start, self.length, bytes);
+        self.push_frame(limits.input, lengths, bytes.len())
     }
 
     // Counts a message of n bytes, and in Frames appends its length.
-    #[tactic(auto, unfolding(crate::specs::Inbox::pushed_frame))]
+    #[tactic(auto, using(ring::specs::AreaLaws::pushed_part), unfolding(crate::specs::Inbox::pushed_frame))]
     fn push_frame(mut self, window: Window, lengths: &mut [u32], n: usize) -> Inbox
         requires { FrameRoom window self n lengths.old }
         ensures { frame_after result lengths.new ≡ pushed_frame window self n lengths.old }
@@ -95,7 +95,7 @@ impl Inbox {
                 let size = window.size as usize;
                 let first = self.first as usize;
                 let frames = self.frames as usize;
-                ring::push_length(lengths, size, first, frames, n as u32);
+                ring::push_length(&mut lengths[..size], first, frames, n as u32);
                 self.frames += 1;
                 self
             }
@@ -103,14 +103,14 @@ impl Inbox {
     }
 
     // The waiting bytes, as many as stand in one run: a part of the byte store.
-    #[tactic(auto, unfolding(crate::specs::Inbox::front))]
+    #[tactic(auto, using(ring::specs::AreaLaws::pending_part), unfolding(crate::specs::Inbox::front))]
     pub fn front<'a>(self, limits: Limits, store: &'a [u8]) -> &'a [u8]
         requires { Waiting limits self store.now }
         ensures { result.now ≡ front limits self store.now }
     {
         let base = rings(limits);
         let size = limits.input_bytes();
-        ring::pending(store, base, size, self.start, self.length)
+        ring::pending(&store[base..base + size], self.start, self.length)
     }
 
     // Removes the first `count` bytes, at most as many as wait, and frees units for them: each byte's, or that of each frame
@@ -128,7 +128,7 @@ impl Inbox {
     }
 
     // The units that n bytes free, the frames that they finish removed.
-    #[tactic(auto, unfolding(crate::specs::Inbox::pop_units))]
+    #[tactic(auto, using(ring::specs::AreaLaws::popped_part), unfolding(crate::specs::Inbox::pop_units))]
     fn pop_units(mut self, window: Window, lengths: &mut [u32], n: usize) -> Popping
         requires { Slots window self n lengths.old }
         ensures { pop_after result lengths.new ≡ pop_units window self n lengths.old }
@@ -142,7 +142,7 @@ impl Inbox {
                 let size = window.size as usize;
                 let first = self.first as usize;
                 let frames = self.frames as usize;
-                let freed = ring::pop_frames(lengths, size, first, frames, n);
+                let freed = ring::pop_frames(&mut lengths[..size], first, frames, n);
                 self.first = ring::advance(size, first, freed) as u32;
                 self.frames = (frames - freed) as u32;
                 Popping {

@@ -13,6 +13,7 @@ pub fn rings(limits: Limits) -> usize
 }
 
 // The bytes: the rings of the output streams, and the inbox.
+#[tactic(auto, using(crate::specs::Need::need_fits))]
 pub fn byte_need(limits: Limits) -> usize
     ensures { result ≡ byte_need limits }
 {

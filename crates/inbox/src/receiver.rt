@@ -11,7 +11,7 @@ pub struct Granted {
     pub returnable: u32,
 }
 
-// What taking a grant leaves, and its units; none where they are 0.
+// What taking a grant leaves, and its units. (A number and no Option: it is asked only where there is some.)
 #[derive(Clone, Copy)]
 pub struct Taking {
     pub granted: Granted,

@@ -52,7 +52,7 @@ pub struct Receiving {
     pub received: Result<Receipt, Refusal>,
 }
 
-// What is left once credit is taken, and its units.
+// What is left once credit is taken, and its units. (A number and no Option: it is asked only where there is some.)
 #[derive(Clone, Copy)]
 pub struct Crediting {
     pub input: Input,

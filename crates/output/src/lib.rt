@@ -203,8 +203,9 @@ impl Output {
         self
     }
 
-    // Takes bytes that were read: as many as the allowance, or all of them to drop where the stream is discarded.
-    #[tactic(auto, unfolding(crate::specs::Output::taken_in))]
+    // Takes bytes that were read: as many as the allowance, or all of them to drop where the stream is discarded. (The chunk is the
+    // limits', so that no Output can hold what is asked of both.)
+    #[tactic(auto, using(ring::specs::AreaLaws::write_part, ring::specs::AreaLaws::write_front), unfolding(crate::specs::Output::taken_in))]
     pub fn take_in(
         self,
         gave_up: bool,
@@ -221,15 +222,16 @@ impl Output {
         let dropped = !(self.closed | gave_up) & self.discarding;
         let room = self.allowance(gave_up, chunk);
         let n = bytes.len();
-        let kept = ring::smaller(n, room as usize);
-        ring::push(store, base, chunk as usize, start, queued, bytes, kept);
+        let kept = n.min(room as usize);
+        let area = &mut store[base..base + chunk as usize];
+        ring::push(area, start, queued, &bytes[..kept]);
         let taken = taken(dropped, n, kept);
         let output = self.fill(kept as u32, dropped & (0 < n));
         Intake { taken, output }
     }
 
     // Sends the first n queued bytes: they go to the start of `buffer`, and off the queue.
-    #[tactic(auto, unfolding(crate::specs::Output::sent))]
+    #[tactic(auto, using(ring::specs::AreaLaws::read_part), unfolding(crate::specs::Output::sent))]
     pub fn send(
         mut self,
         store: &[u8],
@@ -244,7 +246,7 @@ impl Output {
         let size = chunk as usize;
         let start = self.start as usize;
         let count = n as usize;
-        ring::take(store, base, size, start, count, buffer);
+        ring::take(&store[base..base + size], start, &mut buffer[..count]);
         let next = ring::advance(size, start, count);
         self.start = next as u32;
         self.queued = self.queued - n;

@@ -4,6 +4,7 @@ use Rattle.std.specs.Prelude.{◌≡◌, true, false, List, [], ◌∷◌, ◌++
 use Rattle.std.proofs.Math.Path.{refl}
 use Rattle.std.proofs.Common.{sym, ap, ◌∙◌, lt-ltb, le-ltb, eq-eqb, ne_eqb, length-set, get_or-set_same, get_or-set_other}
 use native.Mathlib.Omega.{arith}
+use Rattle.std.proofs.lemmas.Bool.Decides.{nat_tests}
 use Rattle.std.proofs.Math.Decide.{dec_lt}
 use Rattle.ring.specs.Runs.{copied, copied_zero, copied_one}
 use Rattle.ring.specs.Ring.{wrap, first_run, ring_read, ring_from, ring_write}
@@ -33,46 +34,26 @@ way f n =
 pub rest_sum : (fs : List ℕ) (n : ℕ) → sum (rest_of fs n) ≡ sum fs - n
 unfolding rest_of
 rest_sum [] n = omega arith
-rest_sum (f ∷ fs) n =
-    elim (way f n) [
-      | used z e ↦ rw e (omega arith)
-      | part l e t ↦ rw (e, t) (omega arith)
-      | whole l e t ↦ rw (e, t) (rest_sum fs (n - f) ∙ omega arith)
-    ]
+rest_sum (f ∷ fs) n = grind (arith, nat_tests, rest_sum fs (n - f))
 
 -- every frame is freed or left
 pub rest_length : (fs : List ℕ) (n : ℕ) → freed_of fs n + length (rest_of fs n) ≡ length fs
 unfolding freed_of rest_of
 rest_length [] n = omega arith
-rest_length (f ∷ fs) n =
-    elim (way f n) [
-      | used z e ↦ rw e (omega arith)
-      | part l e t ↦ rw (e, t) (omega arith)
-      | whole l e t ↦ rw (e, t) (omega (arith, rest_length fs (n - f)))
-    ]
+rest_length (f ∷ fs) n = grind (arith, nat_tests, rest_length fs (n - f))
 
 -- only a finished frame frees a unit: the n bytes cover all frames that are freed
 pub freed_finished : (fs : List ℕ) (n : ℕ) → sum (take (freed_of fs n) fs) ≤ n
 unfolding freed_of
 freed_finished [] n = omega arith
-freed_finished (f ∷ fs) n =
-    elim (way f n) [
-      | used z e ↦ rw e (omega arith)
-      | part l e t ↦ rw (e, t) (omega arith)
-      | whole l e t ↦ rw (e, t) (omega (arith, freed_finished fs (n - f)))
-    ]
+freed_finished (f ∷ fs) n = grind (arith, nat_tests, freed_finished fs (n - f))
 
 -- and every finished frame frees one, where no frame is empty: the n bytes do not cover one frame more
 pub freed_all : (fs : List ℕ) (n : ℕ) → ((i : ℕ) → i < length fs → 0 < get_or fs i 0) → freed_of fs n < length fs
     → n < sum (take (suc (freed_of fs n)) fs)
 unfolding freed_of
 freed_all [] n some = λ h. absurd (omega arith)
-freed_all (f ∷ fs) n some =
-    elim (way f n) [
-      | used z e ↦ rw e (λ h. omega (arith, some 0 (omega arith)))
-      | part l e t ↦ rw (e, t) (λ h. omega arith)
-      | whole l e t ↦ rw (e, t) (λ h. omega (arith, freed_all fs (n - f) (λ i l. some (suc i) (omega arith)) (omega arith)))
-    ]
+freed_all (f ∷ fs) n some = grind (arith, nat_tests, some 0, freed_all fs (n - f) (λ i l. some (suc i) (omega arith)))
 
 -- ---- the ring of lengths: a push
 
@@ -104,7 +85,7 @@ module _ (size start frames len : ℕ) (s : List ℕ) (area : size ≤ length s)
 pub pop_used : (k size start left done : ℕ) (s : List ℕ) → left ≡ 0 → pop_from k size start left done s ≡ stop done s
 unfolding pop_from
 pop_used zero size start left done s h = refl
-pop_used (suc k) size start left done s h = simp (eq-eqb left 0 h)
+pop_used (suc k) size start left done s h = grind (arith, nat_tests)
 
 pub pop_none : (k size start left done : ℕ) (s : List ℕ) → k ≡ 0 → pop_from k size start left done s ≡ stop done s
 unfolding pop_from
@@ -114,27 +95,22 @@ pub pop_part : (k size start left done at : ℕ) (s : List ℕ) → at ≡ wrap 
     → pop_from k size start left done s ≡ stop done (set s at (get_or s at 0 - left))
 unfolding pop_from
 pop_part zero size start left done at s e h n l = absurd (omega arith)
-pop_part (suc k) size start left done at s e h n l = rw (← e) (simp (ne_eqb left 0 n, lt-ltb left (get_or s at 0) l))
+pop_part (suc k) size start left done at s e h n l = rw (← e) (grind (arith, nat_tests))
 
 pub pop_whole : (k size start left done at : ℕ) (s : List ℕ) → at ≡ wrap size (start + done) → 0 < k → (left ≡ 0 → ⊥) → get_or s at 0 ≤ left
     → pop_from k size start left done s ≡ pop_from (k - 1) size start (left - get_or s at 0) (done + 1) s
 unfolding pop_from
 pop_whole zero size start left done at s e h n l = absurd (omega arith)
 pop_whole (suc k) size start left done at s e h n l =
-    let less : suc k - 1 ≡ k = omega arith in rw (less, ← e) (simp (ne_eqb left 0 n, le-ltb left (get_or s at 0) l))
+    let less : suc k - 1 ≡ k = omega arith in rw (less, ← e) (grind (arith, nat_tests))
 
 -- the store keeps its length
 pub pop_length : (k size start left done : ℕ) (s : List ℕ) → length (pop_from k size start left done s).lengths ≡ length s
 unfolding pop_from
 pop_length zero size start left done s = refl
 pop_length (suc k) size start left done s =
-    let at = wrap size (start + done) in
-    let f = get_or s at 0 in
-    elim (way f left) [
-      | used z e ↦ rw e refl
-      | part l e t ↦ rw (e, t) (length-set s at (f - left))
-      | whole l e t ↦ rw (e, t) (pop_length k size start (left - f) (done + 1) s)
-    ]
+    let f = get_or s (wrap size (start + done)) 0 in
+    grind (arith, nat_tests, length-set {A = ℕ}, pop_length k size start (left - f) (done + 1) s)
 
 -- k + 1 frames from place x on, which may be past the end of the area
 module _ (size x k : ℕ) (s : List ℕ) (area : size ≤ length s) (twice : x + k < size + size) (room : k < size) where

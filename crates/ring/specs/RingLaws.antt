@@ -3,6 +3,7 @@
 use Rattle.std.specs.Prelude.{◌≡◌, refl, ◌⊎◌, List, [], ◌++◌, ℕ, ◌+◌, ◌-◌, ◌≤◌, ◌<◌, take, drop}
 use Rattle.std.proofs.Math.Path.{sym, ap}
 use Rattle.std.proofs.Common.{◌∙◌, inl, inr, arith, lt-ltb, le-ltb, length-take, length-drop, length-take-le, drop-drop, take_at, drop_at, ext_get_or}
+use Rattle.std.proofs.lemmas.Bool.Decides.{nat_tests}
 use Rattle.std.proofs.Math.Logic.{⊎_elim}
 use Rattle.std.proofs.Math.Decide.{dec_lt}
 use Rattle.std.proofs.Math.ListN.{length, get_or, length-append, get_or-append}
@@ -21,41 +22,22 @@ unfolding wrap
 wrap_past size x h = simp (le-ltb x size h)
 
 pub wrap_le : (size x : ℕ) → x ≤ size + size → wrap size x ≤ size
-wrap_le size x h =
-    elim (dec_lt x size) [
-      | yes l ↦ omega (arith, wrap_below size x l)
-      | no l ↦ omega (arith, wrap_past size x (omega arith))
-    ]
+unfolding wrap
+wrap_le size x h = grind (arith, nat_tests)
 
 pub wrap_lt : (size x : ℕ) → x < size + size → wrap size x < size
-wrap_lt size x h =
-    elim (dec_lt x size) [
-      | yes l ↦ omega (arith, wrap_below size x l)
-      | no l ↦ omega (arith, wrap_past size x (omega arith))
-    ]
+unfolding wrap
+wrap_lt size x h = grind (arith, nat_tests)
 
 -- going on from a place brought into the area is going on from the place itself
 pub wrap_wrap : (size x i : ℕ) → x + i < size + size → wrap size (wrap size x + i) ≡ wrap size (x + i)
-wrap_wrap size x i h =
-    elim (dec_lt x size) [
-      | yes l ↦ ap (λ (k : ℕ). wrap size (k + i)) (wrap_below size x l)
-      | no l ↦
-          ap (λ (k : ℕ). wrap size (k + i)) (wrap_past size x (omega arith))
-          ∙ wrap_below size (x - size + i) (omega arith)
-          ∙ omega (arith, wrap_past size (x + i) (omega arith))
-    ]
+unfolding wrap
+wrap_wrap size x i h = grind (arith, nat_tests)
 
 -- places less than a size apart differ
 pub wrap_apart : (size x i : ℕ) → 0 < i → i < size → x + i < size + size → wrap size (x + i) ≡ wrap size x → ⊥
-wrap_apart size x i some less h =
-    elim (dec_lt x size) [
-      | yes l ↦
-          elim (dec_lt (x + i) size) [
-            | yes m ↦ omega (arith, wrap_below size x l, wrap_below size (x + i) m)
-            | no m ↦ omega (arith, wrap_below size x l, wrap_past size (x + i) (omega arith))
-          ]
-      | no l ↦ omega (arith, wrap_past size x (omega arith), wrap_past size (x + i) (omega arith))
-    ]
+unfolding wrap
+wrap_apart size x i some less h e = grind (arith, nat_tests)
 
 -- the index in the store of the ring's byte number i
 abbrev pub ring_at : (base size start i : ℕ) → ℕ

@@ -1,11 +1,11 @@
 -- A copy of a run of one list into another, and its laws.
 -- Proofs use the laws and leave the definition shut, so that they meet one name and not three lists joined.
 use Rattle.std.specs.Prelude.{◌≡◌, List, [], ◌∷◌, ◌++◌, ℕ, suc, ◌+◌, ◌-◌, ◌≤◌, ◌<◌, drop, set}
-use Rattle.std.proofs.Common.{sym, ◌∙◌, arith, add-one, length-drop, get_or-append-add}
+use Rattle.std.proofs.Common.{sym, ◌∙◌, arith, add-one, length-drop, refl}
 use Rattle.std.proofs.Math.Path.{ap}
 use Rattle.std.proofs.Math.ListN.{length, take, get_or, get_or-append}
 use Rattle.std.proofs.Math.Seq.{paste-zero, paste-suc, length-paste, get_or-take, get_or-drop, length_paste_head, length-take-le, append_snoc}
-use Rattle.std.proofs.lemmas.List.{set_split}
+use Rattle.std.proofs.lemmas.List.{set_split, get_or-append_right}
 
 -- d, with the n elements from index at on replaced by those of src from index from on
 unfoldable pub copied : (d : List ℕ) (at : ℕ) (src : List ℕ) (from n : ℕ) → List ℕ
@@ -13,9 +13,7 @@ copied d at src from n = take at d ++ take n (drop from src) ++ drop (at + n) d
 
 -- an element of two lists joined that is past the first
 pub get_or_append_ge : (xs ys : List ℕ) (i : ℕ) → length xs ≤ i → get_or (xs ++ ys) i 0 ≡ get_or ys (i - length xs) 0
-get_or_append_ge xs ys i h =
-    let e : i ≡ length xs + (i - length xs) = omega arith in
-    ap (λ (k : ℕ). get_or (xs ++ ys) k 0) e ∙ get_or-append-add xs ys (i - length xs) 0
+get_or_append_ge xs ys i h = get_or-append_right xs ys (length xs) i 0 refl h
 
 -- where a loop that copies begins
 pub copied_zero : (d : List ℕ) (at : ℕ) (src : List ℕ) (from : ℕ) → d ≡ copied d at src from 0

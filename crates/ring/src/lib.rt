@@ -1,19 +1,12 @@
-// Rings of bytes and of frame lengths, in stores that the caller lends. A ring is `size` places of a store: of bytes from
-// index `base` on, of lengths from index 0 on. Its oldest element stands at place `start`, and past the last place it goes
-// on at place 0. A start is below the size, but for a ring of size 0, whose start is 0.
+// Rings of bytes and of frame lengths, in areas that the caller lends. A ring is all of its area: its oldest element stands
+// at place `start`, and past the last place it goes on at place 0. A start is below the area's length, but for a ring of no
+// places, whose start is 0.
 #![tactic(auto)]
 
-ghost use Rattle.std.specs.Prelude.{◌≡◌, ◌++◌, ◌+◌, ◌≤◌, ◌<◌, min, length, take, drop, set};
+ghost use Rattle.std.specs.Prelude.{◌≡◌, ◌+◌, ◌≤◌, ◌<◌, min, length, take, drop, set};
 ghost use Rattle.ring.specs.Runs.{copied};
 ghost use Rattle.ring.specs.Ring.{wrap, first_run, ring_read, ring_write};
 ghost use Rattle.ring.specs.Frames.{popped, stop};
-
-// The smaller of two numbers.
-pub fn smaller(a: usize, b: usize) -> usize
-    ensures { result ≡ min a b }
-{
-    a.min(b)
-}
 
 // The place n further on than `start`: past the end of the area it goes on from the area's start. (No sum of the two: an area
 // that is not lent may be so large that it would wrap.)
@@ -26,7 +19,8 @@ pub fn advance(size: usize, start: usize, n: usize) -> usize
     if n < run { start + n } else { n - run }
 }
 
-// Copies n bytes of src, from index `from`, into dst from index `at`. The rest of dst is kept.
+// Copies n bytes of src, from index `from`, into dst from index `at`. The rest of dst is kept. (The definition `copied`, argument by
+// argument: a copy within a lent area is what the rings' laws speak of.)
 #[tactic(auto, using(crate::specs::Runs::copied_zero), unfolding(crate::specs::Runs::copied))]
 pub fn copy_in(dst: &mut [u8], at: usize, src: &[u8], from: usize, n: usize)
     requires { (at + n ≤ length dst.old) × (from + n ≤ length src.now) }
@@ -38,70 +32,59 @@ pub fn copy_in(dst: &mut [u8], at: usize, src: &[u8], from: usize, n: usize)
     }
 }
 
-// Appends the first n of bytes to a ring that holds `count`.
+// Appends all of bytes to a ring that holds `count`.
 #[tactic(auto, unfolding(crate::specs::Ring::ring_write, crate::specs::Ring::ring_from))]
-pub fn push(
-    store: &mut [u8],
-    base: usize,
-    size: usize,
-    start: usize,
-    count: usize,
-    bytes: &[u8],
-    n: usize,
-)
-    requires { (base + size ≤ length store.old) × (start ≤ size) × (count + n ≤ size) × (n ≤ length bytes.now) }
-    ensures { store.new ≡ ring_write base size start count bytes.now n store.old }
+pub fn push(area: &mut [u8], start: usize, count: usize, bytes: &[u8])
+    requires { (start ≤ length area.old) × (count + length bytes.now ≤ length area.old) }
+    ensures { area.new ≡ ring_write 0 (length area.old) start count bytes.now (length bytes.now) area.old }
 {
-    let at = advance(size, start, count);
-    let k = smaller(n, size - at);
-    copy_in(store, base + at, bytes, 0, k);
-    copy_in(store, base, bytes, k, n - k);
+    let n = bytes.len();
+    let at = advance(area.len(), start, count);
+    let k = n.min(area.len() - at);
+    copy_in(area, at, bytes, 0, k);
+    copy_in(area, 0, bytes, k, n - k);
 }
 
-// Writes the ring's first n bytes to the first n of buffer, and nothing else. The ring's start is the caller's to move.
-#[tactic(auto, using(crate::specs::RingLaws::read_copied))]
-pub fn take(store: &[u8], base: usize, size: usize, start: usize, n: usize, buffer: &mut [u8])
-    requires { (base + size ≤ length store.now) × (start ≤ size) × (n ≤ size) × (n ≤ length buffer.old) }
-    ensures { buffer.new ≡ ring_read base size start n store.now ++ drop n buffer.old }
+// Fills all of buffer with the ring's first bytes. The ring's start is the caller's to move.
+#[tactic(auto, using(crate::specs::AreaLaws::read_filled))]
+pub fn take(area: &[u8], start: usize, buffer: &mut [u8])
+    requires { (start ≤ length area.now) × (length buffer.old ≤ length area.now) }
+    ensures { buffer.new ≡ ring_read 0 (length area.now) start (length buffer.old) area.now }
 {
-    let k = smaller(n, size - start);
-    copy_in(buffer, 0, store, base + start, k);
-    copy_in(buffer, k, store, base, n - k);
+    let n = buffer.len();
+    let k = n.min(area.len() - start);
+    copy_in(buffer, 0, area, start, k);
+    copy_in(buffer, k, area, 0, n - k);
 }
 
-// Of `count` waiting bytes those from the ring's head to the end of its area or the last of them, as a part of the store.
-pub fn pending(store: &[u8], base: usize, size: usize, start: usize, count: usize) -> &[u8]
-    requires { (base + size ≤ length store.now) × (start ≤ size) }
-    ensures { result.now ≡ take (first_run size start count) (drop (base + start) store.now) }
+// Of `count` waiting bytes those from the ring's head to the end of its area or the last of them, as a part of the area.
+pub fn pending(area: &[u8], start: usize, count: usize) -> &[u8]
+    requires { start ≤ length area.now }
+    ensures { result.now ≡ take (first_run (length area.now) start count) (drop start area.now) }
 {
-    let at = base + start;
-    let k = smaller(count, size - start);
-    let end = at + k;
-    &store[at..end]
+    let k = count.min(area.len() - start);
+    &area[start..start + k]
 }
 
 // Appends a frame's length to the ring of lengths, which holds `frames`.
 #[tactic(auto, unfolding(crate::specs::Ring::wrap))]
-pub fn push_length(lengths: &mut [u32], size: usize, start: usize, frames: usize, len: u32)
-    requires { (size ≤ length lengths.old) × (start ≤ size) × (frames < size) }
-    ensures { lengths.new ≡ set lengths.old (wrap size (start + frames)) len }
+pub fn push_length(lengths: &mut [u32], start: usize, frames: usize, len: u32)
+    requires { (start ≤ length lengths.old) × (frames < length lengths.old) }
+    ensures { lengths.new ≡ set lengths.old (wrap (length lengths.old) (start + frames)) len }
 {
-    let at = advance(size, start, frames);
+    let at = advance(lengths.len(), start, frames);
     lengths[at] = len;
 }
 
 // Takes count bytes from the `frames` frames in the ring of lengths, and returns the units that this frees: one for each
-// frame finished. The length of a frame left unfinished is lowered in place. Lengths may be any, 0 among them.
-pub fn pop_frames(
-    lengths: &mut [u32],
-    size: usize,
-    start: usize,
-    frames: usize,
-    count: usize,
-) -> usize
-    requires { (size ≤ length lengths.old) × (start ≤ size) × (frames ≤ size) }
-    ensures { (popped frames size start count lengths.old ≡ stop result lengths.new) × (result ≤ frames) }
+// frame finished. The length of a frame left unfinished is lowered in place. Lengths may be any, 0 among them. (A loop that is left
+// by break, with the units that it frees: the scope's own form.)
+#[tactic(auto, using(crate::specs::RingLaws::wrap_lt, crate::specs::FrameLaws::pop_used, crate::specs::FrameLaws::pop_none, crate::specs::FrameLaws::pop_part))]
+pub fn pop_frames(lengths: &mut [u32], start: usize, frames: usize, count: usize) -> usize
+    requires { (start ≤ length lengths.old) × (frames ≤ length lengths.old) }
+    ensures { (popped frames (length lengths.old) start count lengths.old ≡ stop result lengths.new) × (result ≤ frames) }
 {
+    let size = lengths.len();
     let mut left = count;
     let mut done: usize = 0;
     let freed = loop {

@@ -6,7 +6,7 @@ use Rattle.ring.proofs.pop_frames.Given as goal
 abbrev pub invariant-loop-left : goal.invariant-loop-left
 invariant-loop-left l =
     (l.done ≤ l.frames)
-    × (popped l.frames l.size l.start l.count l.initial.lengths ≡ pop_from (l.frames - l.done) l.size l.start l.left l.done l.lengths)
+    × (popped l.frames (length l.initial.lengths) l.start l.count l.initial.lengths ≡ pop_from (l.frames - l.done) (length l.initial.lengths) l.start l.left l.done l.lengths)
     × (length l.lengths ≡ length l.initial.lengths)
 
 abbrev pub decreases-loop-left : goal.decreases-loop-left

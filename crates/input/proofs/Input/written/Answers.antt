@@ -6,6 +6,4 @@ use Rattle.input.proofs.Input.written.Goals as goal
 
 pub free-self-requires : goal.free-self-requires
 unfolding pop
-free-self-requires c =
-    let a = c.args in
-    grind (arith, freed_fits a.limits a.self.window a.self.inbox c.requires.range a.count a.lengths.now c.requires.slots)
+free-self-requires c = grind (arith, freed_fits _ _ _ c.requires.range c.args.count c.args.lengths.now c.requires.slots)
