@@ -1,3 +1,2 @@
--- What the proofs of several functions share, and what was read, written again.
-pub mod Laying
+-- What was read, written again.
 pub mod RoundTrip

@@ -1,10 +1,10 @@
 -- The records of an open channel, by RFC 4254, 5.2 and 5.3: kind, channel, and what the kind has behind them.
-use Rattle.std.specs.Prelude.{Bool, true, cond, List, ◌∷◌, ◌++◌, ℕ, ◌+◌, ◌^◌, ◌<◌, eqb, leb, length, take, drop, get_or, Result, Ok, Err}
+use Rattle.std.specs.Prelude.{Bool, true, cond, List, ◌∷◌, ◌++◌, ℕ, ◌+◌, ◌^◌, ◌<◌, eqb, leb, length, take, drop, get_or, Option, Some, None, Result, Ok, Err}
 use Rattle.exec.specs.declared.Refusal.{Refusal}
 use Rattle.exec.specs.declared.Refusal.TheVariants.{BadLength, UnknownKind, OtherChannel, BadType, BufferShort}
 use Rattle.codec.specs.declared.Record.{Record}
 use Rattle.codec.specs.declared.Record.TheVariants.{Adjust, Data, Extended, Eof, Close}
-use Rattle.octets.specs.Bytes.{be32, number_at}
+use Rattle.octets.specs.Bytes.{be32, number_at, number_within}
 
 -- ---- a record in bytes
 
@@ -55,6 +55,19 @@ kinded kind s =
     cond (eqb kind 93) (Ok (Adjust (number_at s 5)))
     (cond (eqb kind 94) (Ok (Data (number_at s 5)))
     (cond (eqb kind 95) (Ok (Extended (number_at s 9)))
+    (cond (eqb kind 96) (Ok Eof)
+    (cond (eqb kind 97) (Ok Close) (Err UnknownKind)))))
+
+-- as the code reads it: where the bytes end before the number, their length is refused at once (`checked_spelled`)
+abbrev pub numbered : (ℕ → Record) → Option ℕ → Result Record Refusal
+numbered rec None = Err BadLength
+numbered rec (Some n) = Ok (rec n)
+
+unfoldable pub spelled : (kind : ℕ) → List ℕ → Result Record Refusal
+spelled kind s =
+    cond (eqb kind 93) (numbered Adjust (number_within s 5))
+    (cond (eqb kind 94) (numbered Data (number_within s 5))
+    (cond (eqb kind 95) (numbered Extended (number_within s 9))
     (cond (eqb kind 96) (Ok Eof)
     (cond (eqb kind 97) (Ok Close) (Err UnknownKind)))))
 

@@ -1,18 +1,22 @@
 -- What bytes hold that are a record's: they are read as it, what is written holds it, and nothing else does; the answers of `write`, and what `lay` leaves.
-use Rattle.std.specs.Prelude.{◌≡◌, refl, true, false, ℕ, ◌+◌, ◌^◌, ◌≤◌, ◌<◌, eqb, length, take, drop, get_or, Ok, Err}
+use Rattle.std.specs.Prelude.{◌≡◌, refl, Bool, true, false, cond, ℕ, ◌+◌, ◌-◌, ◌^◌, ◌≤◌, ◌<◌, eqb, length, take, drop, get_or, Some, Result, Ok, Err}
+use Rattle.std.specs.List.{copy_within}
+use Rattle.std.specs.Option.{option_eq}
 use Rattle.std.proofs.Common.{sym, ◌∙◌, arith, length-append, drop-cons}
 use Rattle.std.proofs.Math.Path.{ap}
 use mathlib.Core.List.{List, [], ◌∷◌, ◌++◌, append_assoc}
 use Rattle.std.proofs.Math.Seq.{take_all}
 use borrow.Author.Tests.{eq-eqb, ne_eqb, le-leb, lt-leb, eqb-true}
+use Rattle.std.proofs.Math.Decide.{dec_lt}
+use Rattle.exec.specs.declared.Refusal.{Refusal}
 use Rattle.exec.specs.declared.Refusal.TheVariants.{BadLength, BufferShort}
 use Rattle.ring.specs.Runs.{copied}
 use Rattle.ring.specs.Lent.{copied_drop}
 use Rattle.codec.specs.declared.Record.{Record}
 use Rattle.codec.specs.declared.Record.TheVariants.{Adjust, Data, Extended, Eof, Close}
-use Rattle.octets.specs.Bytes.{be32, number_at}
-use Rattle.octets.specs.BytesLaws.{number_written, number_fits, peel}
-use Rattle.codec.specs.Codec.{header, start, size, Fits, bytes_of, kinded, is_typed, fitting, checked, read, written_after, write, laid_record, lay}
+use Rattle.octets.specs.Bytes.{be32, number_at, number_within}
+use Rattle.octets.specs.BytesLaws.{number_written, number_fits, within_some, within_none, peel}
+use Rattle.codec.specs.Codec.{header, start, size, Fits, bytes_of, kinded, numbered, spelled, is_typed, fitting, checked, read, written_after, write, laid_record, lay}
 
 pub header_length : (channel : ℕ) (rec : Record) → length (header channel rec) ≡ start rec
 unfolding header
@@ -52,6 +56,41 @@ start_most (Data n) = omega arith
 start_most (Extended n) = omega arith
 start_most Eof = omega arith
 start_most Close = omega arith
+
+-- a number that the bytes do not hold is refused as they would be with 0 in its place
+number_checked : (channel : ℕ) (s : List ℕ) (at : ℕ) (rec : ℕ → Record) → ((n : ℕ) → at + 4 ≤ start (rec n) + size (rec n))
+    → checked channel s (numbered rec (number_within s at)) ≡ checked channel s (Ok (rec (number_at s at)))
+unfolding checked fitting
+number_checked channel s at rec most =
+    let n = number_at s at in
+    elim (dec_lt (length s) (at + 4)) [
+      | yes l ↦ rw (within_none s at l, ne_eqb (length s) (start (rec n) + size (rec n)) (λ e. omega (arith, most n))) refl
+      | no l ↦ rw (within_some s at (omega arith)) refl
+    ]
+
+either : (channel : ℕ) (s : List ℕ) (b : Bool) (x y v w : Result Record Refusal) → checked channel s x ≡ checked channel s v
+    → checked channel s y ≡ checked channel s w → checked channel s (cond b x y) ≡ checked channel s (cond b v w)
+either channel s true x y v w e f = e
+either channel s false x y v w e f = f
+
+pub checked_spelled : (channel k : ℕ) (s : List ℕ) → checked channel s (spelled k s) ≡ checked channel s (kinded k s)
+unfolding spelled kinded
+checked_spelled channel k s =
+    either channel s (eqb k 93) _ _ _ _ (number_checked channel s 5 Adjust (λ n. omega arith))
+    (either channel s (eqb k 94) _ _ _ _ (number_checked channel s 5 Data (λ n. omega arith))
+    (either channel s (eqb k 95) _ _ _ _ (number_checked channel s 9 Extended (λ n. omega arith)) refl))
+
+pub spelled_err : (channel k : ℕ) (s : List ℕ) (x : Refusal) → spelled k s ≡ Err x → Err x ≡ checked channel s (kinded k s)
+unfolding checked
+spelled_err channel k s x h = sym (ap (checked channel s) h) ∙ checked_spelled channel k s
+
+pub spelled_ok : (channel k : ℕ) (s : List ℕ) (rec : Record) → spelled k s ≡ Ok rec → fitting channel s rec ≡ checked channel s (kinded k s)
+unfolding checked
+spelled_ok channel k s rec h = sym (ap (checked channel s) h) ∙ checked_spelled channel k s
+
+-- a number that the bytes hold, compared
+pub number_is : (s : List ℕ) (at n : ℕ) → at + 4 ≤ length s → option_eq eqb (number_within s at) (Some n) ≡ eqb (number_at s at) n
+number_is s at n h = rw (within_some s at h) refl
 
 kinded_of : (k : ℕ) (s : List ℕ) (rec : Record) → IsKind k s rec → kinded k s ≡ Ok rec
 unfolding kinded
@@ -148,6 +187,14 @@ unfolding bytes_of
 header_laid channel rec b src from n h =
     ap (λ (x : List ℕ). header channel rec ++ x) (copied_drop b (start rec) src from n h)
     ∙ sym (append_assoc (header channel rec) (take n (drop from src)) (drop (start rec + n) b))
+
+-- and before a payload that was moved to it from byte 13
+pub header_moved : (channel : ℕ) (rec : Record) (b : List ℕ) (to : ℕ) → to ≡ 13 + size rec → to ≤ length b
+    → header channel rec ++ drop (start rec) (copy_within b 13 to (start rec)) ≡ laid_record channel rec b
+unfolding laid_record copied
+header_moved channel rec b to e h =
+    let n : to - 13 ≡ size rec = omega arith in
+    rw n (header_laid channel rec b b 13 (size rec) (omega (arith, start_most rec)))
 
 -- the three answers
 module _ (channel : ℕ) (rec : Record) (payload b : List ℕ) where

@@ -1,16 +1,14 @@
 // The records of an open channel, RFC 4254, 5.2 and 5.3, read from and written to byte slices. Numbers are big-endian.
 #![tactic(auto)]
 
-ghost use Rattle.std.specs.Prelude.{◌≡◌, ◌∷◌, ◌++◌, ◌+◌, ◌*◌, ◌≤◌, length, drop};
+ghost use Rattle.std.specs.Prelude.{◌≡◌, nat_eq, ◌∷◌, ◌++◌, ◌+◌, ◌*◌, ◌≤◌, length, drop};
 ghost use Rattle.std.specs.List.{flat_map};
-ghost use Rattle.ring.specs.Runs.{copied};
-ghost use Rattle.octets.specs.Bytes.{be32};
+ghost use Rattle.octets.specs.Bytes.{be32, number_at};
 ghost use Rattle.codec.specs.Codec.{
   start,
   size,
   header,
-  kinded,
-  is_typed,
+  spelled,
   fitting,
   read,
   written_after,
@@ -21,7 +19,7 @@ ghost use Rattle.codec.specs.Codec.{
 
 use exec::Refusal;
 
-// The kinds' message numbers, RFC 4250, 4.1.2.
+// The kinds' message numbers, RFC 4250, 4.1.2. (Constants and no enum: each is read at one place and written at one.)
 const ADJUST: u8 = 93;
 
 const DATA: u8 = 94;
@@ -79,49 +77,50 @@ impl Record {
 
 // ---- reading
 
-// The record of a kind. Where the bytes end before its number it is read as 0, and its length is refused.
-#[tactic(auto, unfolding(crate::specs::Codec::kinded))]
+// The record of a kind. Where the bytes end before its number, their length is refused.
+#[tactic(auto, unfolding(crate::specs::Codec::spelled))]
 fn kinded(kind: u8, bytes: &[u8]) -> Result<Record, Refusal>
-    ensures { result ≡ kinded kind bytes.now }
+    ensures { result ≡ spelled kind bytes.now }
 {
-    match kind {
-        ADJUST => Ok(Record::Adjust(octets::number_at(bytes, 5))),
-        DATA => Ok(Record::Data(octets::number_at(bytes, 5))),
-        EXTENDED => Ok(Record::Extended(octets::number_at(bytes, 9))),
-        EOF => Ok(Record::Eof),
-        CLOSE => Ok(Record::Close),
-        _ => Err(Refusal::UnknownKind),
-    }
+    let record = match kind {
+        ADJUST => octets::number_at(bytes, 5).map(Record::Adjust),
+        DATA => octets::number_at(bytes, 5).map(Record::Data),
+        EXTENDED => octets::number_at(bytes, 9).map(Record::Extended),
+        EOF => Some(Record::Eof),
+        CLOSE => Some(Record::Close),
+        _ => return Err(Refusal::UnknownKind),
+    };
+    record.ok_or(Refusal::BadLength)
 }
 
-// Whether extended data is of type 1.
-fn is_typed(rec: Record, bytes: &[u8]) -> bool
-    ensures { result ≡ is_typed rec bytes.now }
+// Whether n is the number at an index.
+#[tactic(auto, using(crate::specs::CodecLaws::number_is))]
+fn has_number(bytes: &[u8], at: usize, n: u32) -> bool
+    requires { at + 4 ≤ length bytes.now }
+    ensures { result ≡ nat_eq (number_at bytes.now at) n }
 {
-    match rec {
-        Record::Extended(_) => octets::number_at(bytes, 5) == 1,
-        _ => true,
-    }
+    octets::number_at(bytes, at) == Some(n)
 }
 
-#[tactic(auto, unfolding(crate::specs::Codec::fitting))]
+#[tactic(auto, unfolding(crate::specs::Codec::fitting), using(crate::specs::CodecLaws::start_least))]
 fn fitting(rec: Record, bytes: &[u8], channel: u32) -> Result<Record, Refusal>
     ensures { result ≡ fitting channel bytes.now rec }
 {
     if bytes.len() != rec.whole() {
         return Err(Refusal::BadLength);
     }
-    if octets::number_at(bytes, 1) != channel {
+    if !has_number(bytes, 1, channel) {
         return Err(Refusal::OtherChannel);
     }
-    if !is_typed(rec, bytes) {
+    // Extended data is of type 1.
+    if matches!(rec, Record::Extended(_)) && !has_number(bytes, 5, 1) {
         return Err(Refusal::BadType);
     }
     Ok(rec)
 }
 
 // The record that all of bytes are, for a channel.
-#[tactic(auto, unfolding(crate::specs::Codec::read, crate::specs::Codec::checked))]
+#[tactic(auto, unfolding(crate::specs::Codec::read, crate::specs::Codec::checked), using(crate::specs::CodecLaws::spelled_ok, crate::specs::CodecLaws::spelled_err))]
 pub fn read(bytes: &[u8], channel: u32) -> Result<Record, Refusal>
     ensures { result ≡ read channel bytes.now }
 {
@@ -133,16 +132,25 @@ pub fn read(bytes: &[u8], channel: u32) -> Result<Record, Refusal>
 
 // ---- writing
 
+// Numbers, one behind the other.
+fn put_numbers(buffer: &mut [u8], numbers: &[u32])
+    requires { 4 * length numbers.now ≤ length buffer.old }
+    ensures { buffer.new ≡ flat_map be32 numbers.now ++ drop (4 * length numbers.now) buffer.old }
+{
+    if let Some((&number, behind)) = numbers.split_first() {
+        let (first, rest) = buffer.split_at_mut(4);
+        first.copy_from_slice(&number.to_be_bytes());
+        put_numbers(rest, behind);
+    }
+}
+
 // A kind and the numbers behind it.
-#[tactic(auto, using(octets::specs::BytesLaws::laid_first, crate::proofs::Laying::numbers_turn))]
-fn put_numbers(buffer: &mut [u8], kind: u8, numbers: &[u32])
+fn put_kind(buffer: &mut [u8], kind: u8, numbers: &[u32])
     requires { 1 + 4 * length numbers.now ≤ length buffer.old }
     ensures { buffer.new ≡ kind ∷ flat_map be32 numbers.now ++ drop (1 + 4 * length numbers.now) buffer.old }
 {
-    octets::put_byte(buffer, 0, kind);
-    for (i, &number) in numbers.iter().enumerate() {
-        octets::put_be32(buffer, 1 + 4 * i, number);
-    }
+    buffer[0] = kind;
+    put_numbers(&mut buffer[1..], numbers);
 }
 
 // Writes all of a record but its payload at the buffer's start.
@@ -152,11 +160,11 @@ fn put_header(buffer: &mut [u8], channel: u32, rec: Record)
     ensures { buffer.new ≡ header channel rec ++ drop (start rec) buffer.old }
 {
     match rec {
-        Record::Adjust(units) => put_numbers(buffer, ADJUST, &[channel, units]),
-        Record::Data(n) => put_numbers(buffer, DATA, &[channel, n]),
-        Record::Extended(n) => put_numbers(buffer, EXTENDED, &[channel, 1, n]),
-        Record::Eof => put_numbers(buffer, EOF, &[channel]),
-        Record::Close => put_numbers(buffer, CLOSE, &[channel]),
+        Record::Adjust(units) => put_kind(buffer, ADJUST, &[channel, units]),
+        Record::Data(n) => put_kind(buffer, DATA, &[channel, n]),
+        Record::Extended(n) => put_kind(buffer, EXTENDED, &[channel, 1, n]),
+        Record::Eof => put_kind(buffer, EOF, &[channel]),
+        Record::Close => put_kind(buffer, CLOSE, &[channel]),
     }
 }
 
@@ -178,14 +186,14 @@ pub fn write(channel: u32, rec: Record, payload: &[u8], buffer: &mut [u8]) -> Re
 }
 
 // The same with a payload that stands in the buffer already, from byte 13 on, where the longest header ends.
-#[tactic(auto, unfolding(crate::specs::Codec::lay, crate::specs::Codec::laid_record), using(crate::specs::CodecLaws::header_laid, crate::specs::CodecLaws::start_most))]
+#[tactic(auto, unfolding(crate::specs::Codec::lay), using(crate::specs::CodecLaws::header_moved, crate::specs::CodecLaws::start_most))]
 pub fn lay(channel: u32, rec: Record, buffer: &mut [u8]) -> Result<usize, Refusal>
     ensures { written_after result buffer.new ≡ lay channel rec buffer.old }
 {
     if buffer.len() < 13 + rec.size() {
         return Err(Refusal::BufferShort);
     }
-    octets::slide(buffer, rec.start(), 13, rec.size());
+    buffer.copy_within(13..13 + rec.size(), rec.start());
     put_header(buffer, channel, rec);
     Ok(rec.whole())
 }

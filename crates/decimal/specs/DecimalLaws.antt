@@ -223,6 +223,30 @@ pub digits_begin : (n : ℕ) → digits_of n ≡ digits_before n n []
 unfolding digits_of
 digits_begin n = refl
 
+-- a digit, and those before it
+last_before : (k n : ℕ) (t : List ℕ) → last_digits k n t ≡ last_digits k n [] ++ t
+unfolding last_digits
+last_before zero n t = refl
+last_before (suc k) n t =
+    let x = 48 + n % 10 in
+    last_before k (n / 10) (x ∷ t) ∙ sym (append_snoc (last_digits k (n / 10) []) x t) ∙ ap (λ (s : List ℕ). s ++ t) (sym (last_before k (n / 10) (x ∷ [])))
+
+pub last_more : (k m n : ℕ) → m ≡ k + 1 → last_digits k (n / 10) [] ++ (48 + n % 10) ∷ [] ≡ last_digits m n []
+unfolding last_digits
+last_more k m n h = rw (h, add-one) (sym (last_before k (n / 10) ((48 + n % 10) ∷ [])))
+
+pub last_empty : (d : List ℕ) (n : ℕ) → length d ≡ 0 → d ≡ last_digits (length d) n []
+unfolding last_digits
+last_empty [] n h = refl
+last_empty (x ∷ d) n h = absurd (omega arith)
+
+-- d, whose first k places are filled with so many digits as n has
+pub last_filled : (d s : List ℕ) (n k : ℕ) → s ≡ last_digits (length (take k d)) n [] → k ≡ length (digits_of n) → k ≤ length d
+    → s ++ drop k d ≡ digits_of n ++ drop (length (digits_of n)) d
+last_filled d s n k h e room =
+    let all : s ≡ digits_of n = h ∙ ap (λ (m : ℕ). last_digits m n []) (length-take-le k d room ∙ e) ∙ sym (last_all n) in
+    rw (all, e) refl
+
 -- with t written up to `end` and more than one digit to come, there is room for two
 pub digits_room : (n rest : ℕ) (t : List ℕ) → digits_of n ≡ digits_before rest rest t → 10 ≤ rest → 2 + length t ≤ length (digits_of n)
 digits_room n rest t e h =

@@ -1,10 +1,9 @@
 // Decimal numbers, read from a text and written into a lent buffer. `0` is 48, `9` is 57.
 #![tactic(auto)]
 
-ghost use Rattle.std.specs.Prelude.{◌≡◌, [], ◌∷◌, ◌+◌, ◌-◌, ◌≤◌, ◌<◌, length, pos, neg_ℤ, nat_abs};
-ghost use Rattle.ring.specs.Runs.{copied};
-ghost use Rattle.decimal.specs.Decimal.{takes, number, starts_minus, signed, digits_of, signed_of};
-ghost use Rattle.decimal.specs.Answers.{AtMost, positive, negative};
+ghost use Rattle.std.specs.Prelude.{◌≡◌, [], ◌++◌, ◌≤◌, length, drop};
+ghost use Rattle.decimal.specs.Decimal.{takes, number, signed, digits_of, signed_of};
+ghost use Rattle.decimal.specs.DecimalLaws.{last_digits};
 
 // ---- reading
 
@@ -34,58 +33,14 @@ pub fn read(text: &[u8], most: u64) -> Option<u64>
     Some(v)
 }
 
-fn plus(n: u64) -> i32
-    requires { n < 2147483648 }
-    ensures { result ≡ pos n }
-{
-    n as i32
-}
-
-fn minus(n: u64) -> i32
-    requires { n ≤ 2147483648 }
-    ensures { result ≡ neg_ℤ (pos n) }
-{
-    if n == 0 {
-        return 0;
-    }
-    !plus(n - 1)
-}
-
-fn positive(n: Option<u64>) -> Option<i32>
-    requires { AtMost 2147483647 n }
-    ensures { result ≡ positive n }
-{
-    match n {
-        None => None,
-        Some(m) => Some(plus(m)),
-    }
-}
-
-fn negative(n: Option<u64>) -> Option<i32>
-    requires { AtMost 2147483648 n }
-    ensures { result ≡ negative n }
-{
-    match n {
-        None => None,
-        Some(m) => Some(minus(m)),
-    }
-}
-
-fn starts_minus(text: &[u8]) -> bool
-    ensures { result ≡ starts_minus text.now }
-{
-    text.first() == Some(&45)
-}
-
 // The number that all of text is, with a minus in front or none, if an i32 holds it.
+#[tactic(auto, unfolding(crate::specs::Decimal::signed), using(crate::specs::SignedLaws::number_most))]
 pub fn read_signed(text: &[u8]) -> Option<i32>
     ensures { result ≡ signed text.now }
 {
-    if starts_minus(text) {
-        let n = text.len();
-        negative(read(&text[1..n], 2147483648))
-    } else {
-        positive(read(text, 2147483647))
+    match text.strip_prefix(b"-") {
+        Some(digits) => read(digits, 2147483648).map(|n| (-(n as i64)) as i32),
+        None => read(text, 2147483647).map(|n| n as i32),
     }
 }
 
@@ -99,46 +54,40 @@ pub fn places(n: u64) -> usize
     n.checked_ilog10().unwrap_or(0) as usize + 1
 }
 
-// Writes the digits of n from index at on, and returns the index behind them.
-pub fn write(n: u64, out: &mut [u8], at: usize) -> usize
-    requires { at + 20 ≤ length out.old }
-    ensures out_after { out.new ≡ copied out.old at (digits_of n) 0 (length (digits_of n)) }
-    ensures value { result ≡ at + length (digits_of n) }
+// Fills out with the last digits of n, and with zeros before them where n has fewer.
+#[tactic(auto, using(crate::specs::DecimalLaws::last_more, crate::specs::DecimalLaws::last_empty))]
+fn put_last_digits(n: u64, out: &mut [u8])
+    ensures { out.new ≡ last_digits (length out.old) n [] }
 {
-    let end = at + places(n);
-    let mut rest = n;
-    for i in (at..end).rev() {
-        out[i] = (48 + rest % 10) as u8;
-        rest /= 10;
+    if let Some((last, front)) = out.split_last_mut() {
+        *last = (48 + n % 10) as u8;
+        put_last_digits(n / 10, front);
     }
-    end
 }
 
-// The number without its minus.
-fn magnitude(n: i32) -> u64
-    ensures { result ≡ nat_abs n }
+// Writes the digits of n at the start of out, and returns how many they are.
+#[tactic(auto, using(crate::specs::DecimalLaws::last_filled))]
+pub fn write(n: u64, out: &mut [u8]) -> usize
+    requires { 20 ≤ length out.old }
+    ensures out_after { out.new ≡ digits_of n ++ drop (length (digits_of n)) out.old }
+    ensures value { result ≡ length (digits_of n) }
 {
-    u64::from(n.unsigned_abs())
+    let digits = places(n);
+    put_last_digits(n, &mut out[..digits]);
+    digits
 }
 
-#[tactic(auto, using(ring::specs::Runs::copied_one))]
-fn put_minus(out: &mut [u8], at: usize)
-    requires { at < length out.old }
-    ensures { out.new ≡ copied out.old at (45 ∷ []) 0 1 }
-{
-    out[at] = 45;
-}
-
-// Writes n, with a minus in front where it is negative, from index at on, and returns the index behind it.
+// Writes n, with a minus in front where it is negative, at the start of out, and returns how many bytes that takes.
 #[tactic(auto, unfolding(crate::specs::Decimal::signed_of))]
-pub fn write_signed(n: i32, out: &mut [u8], at: usize) -> usize
-    requires { at + 21 ≤ length out.old }
-    ensures out_after { out.new ≡ copied out.old at (signed_of n) 0 (length (signed_of n)) }
-    ensures value { result ≡ at + length (signed_of n) }
+pub fn write_signed(n: i32, out: &mut [u8]) -> usize
+    requires { 21 ≤ length out.old }
+    ensures out_after { out.new ≡ signed_of n ++ drop (length (signed_of n)) out.old }
+    ensures value { result ≡ length (signed_of n) }
 {
+    let magnitude = u64::from(n.unsigned_abs());
     if n < 0 {
-        put_minus(out, at);
-        return write(magnitude(n), out, at + 1);
+        out[0] = b'-';
+        return 1 + write(magnitude, &mut out[1..]);
     }
-    write(magnitude(n), out, at)
+    write(magnitude, out)
 }

@@ -37,6 +37,15 @@ is_told (Exited (pos code)) = ltb code (2 ^ 31)
 is_told (Exited (negsuc n)) = false
 is_told (Signaled n) = is_some (name_of n)
 
+-- the request of a status that is told
+unfoldable pub told : (channel : ℕ) → Status → Option (List ℕ)
+told channel status = cond (is_told status) (Some (request channel status)) None
+
+-- bytes put at a buffer's start, where there are any to be put
+abbrev pub put : Option (List ℕ) → (buffer : List ℕ) → List ℕ
+put None buffer = buffer
+put (Some bs) buffer = bs ++ drop (length bs) buffer
+
 -- ---- the end of a channel
 
 -- a missing status has no request, and none is left untold

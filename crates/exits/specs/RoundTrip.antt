@@ -71,12 +71,13 @@ forth channel s status =
 
 -- ---- written, then read
 
--- what is guessed of a request is its status
-coded : (channel code : ℕ) → ltb code (2 ^ 31) ≡ true → guess (request channel (Exited (pos code))) ≡ Some (Exited (pos code))
+-- what is guessed of the request of a code: the code, where a status holds it
+coded_in : (channel code : ℕ) → code < 2 ^ 32 → guess (request channel (Exited (pos code))) ≡ code_in code
 unfolding guess request bytes
-coded channel code t =
-    let h = ltb-true code (2 ^ 31) t in
-    ap code_in (number_written (head channel (bytes "exit-status")) [] code (omega arith)) ∙ rw t refl
+coded_in channel code h = ap code_in (number_written (head channel (bytes "exit-status")) [] code h)
+
+coded : (channel code : ℕ) → ltb code (2 ^ 31) ≡ true → guess (request channel (Exited (pos code))) ≡ Some (Exited (pos code))
+coded channel code t = let h = ltb-true code (2 ^ 31) t in coded_in channel code (omega arith) ∙ rw t refl
 
 -- the name stands between byte 25 and the last 9
 name_back : (channel : ℕ) (name : List ℕ) → name_in (named channel name) ≡ name

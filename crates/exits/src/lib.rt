@@ -1,21 +1,20 @@
 // How a program ended, on the wire: the requests of RFC 4254, 6.10, exit-status and exit-signal, written before CLOSE, and read.
 #![tactic(auto)]
 
-ghost use Rattle.std.specs.Prelude.{◌≡◌, unwrap_or, [], ◌∷◌, ◌++◌, ◌+◌, ◌≤◌, length, drop};
+ghost use Rattle.std.specs.Prelude.{◌≡◌, ◌&&◌, ◌++◌, ◌+◌, ◌≤◌, length, drop};
+ghost use Rattle.std.specs.Option.{option_map};
 ghost use Rattle.octets.specs.Bytes.{be32};
 ghost use Rattle.octets.specs.Text.{bytes, same};
-ghost use Rattle.ring.specs.Runs.{copied};
 ghost use Rattle.codec.specs.Codec.{written_after};
-ghost use Rattle.exits.specs.Signals.{name_of};
 ghost use Rattle.exits.specs.Exit.{
   string,
   head,
   named,
   request,
   is_told,
+  told,
+  put,
   is_untold,
-  request_of,
-  closed,
   close,
   guess,
   matching,
@@ -28,7 +27,7 @@ mod signals;
 use codec::Record;
 use exec::{Refusal, Status};
 
-// SSH_MSG_CHANNEL_REQUEST.
+// SSH_MSG_CHANNEL_REQUEST, as it stands on the wire.
 const REQUEST: u8 = 98;
 
 // ---- what a request tells
@@ -54,16 +53,15 @@ pub fn is_untold(status: Option<Status>) -> bool
 // ---- writing
 
 // The kind, the channel, the request's name and that no reply is wanted.
-#[tactic(auto, using(crate::proofs::Laying::head_laid))]
 fn put_head(buffer: &mut [u8], channel: u32, name: &[u8])
     requires { (length name.now ≡ 11) × (21 ≤ length buffer.old) }
     ensures { buffer.new ≡ head channel name.now ++ drop 21 buffer.old }
 {
-    octets::put_byte(buffer, 0, REQUEST);
+    buffer[0] = REQUEST;
     octets::put_be32(buffer, 1, channel);
     octets::put_be32(buffer, 5, 11);
-    ring::copy_in(buffer, 9, name, 0, 11);
-    octets::put_byte(buffer, 20, 0);
+    buffer[9..20].copy_from_slice(name);
+    buffer[20] = 0;
 }
 
 fn put_code(buffer: &mut [u8], channel: u32, code: u32)
@@ -81,77 +79,38 @@ fn put_name(buffer: &mut [u8], channel: u32, name: &[u8])
 {
     put_head(buffer, channel, b"exit-signal");
     octets::put_be32(buffer, 21, name.len() as u32);
-    ring::copy_in(buffer, 25, name, 0, name.len());
+    buffer[25..25 + name.len()].copy_from_slice(name);
 }
 
-// No core was dumped, no error message, no language.
-#[tactic(auto, using(crate::proofs::Laying::nothing_laid))]
-fn put_nothing(buffer: &mut [u8], at: usize)
-    requires { at + 9 ≤ length buffer.old }
-    ensures { buffer.new ≡ copied buffer.old at (0 ∷ string [] ++ string []) 0 9 }
-{
-    octets::put_byte(buffer, at, 0);
-    octets::put_be32(buffer, at + 1, 0);
-    octets::put_be32(buffer, at + 5, 0);
-}
-
+// Behind the name no core was dumped, no error message, no language.
 #[tactic(auto, using(crate::proofs::Laying::signal_laid))]
 fn put_signal(buffer: &mut [u8], channel: u32, name: &[u8])
     requires { (length name.now ≤ 4) × (38 ≤ length buffer.old) }
     ensures { buffer.new ≡ named channel name.now ++ drop (34 + length name.now) buffer.old }
 {
     put_name(buffer, channel, name);
-    put_nothing(buffer, 25 + name.len());
+    buffer[25 + name.len()..34 + name.len()].fill(0);
 }
 
-// The name of a signal, empty where the table has none.
-fn signal_name(number: i32) -> &'static [u8]
-    ensures { result.now ≡ unwrap_or (name_of number) [] }
-{
-    signals::name_of(number).unwrap_or(b"")
-}
-
-// Writes the request of a status at the buffer's start, if one tells it, and returns its length.
-#[tactic(auto, unfolding(crate::specs::Exit::request), using(crate::specs::SignalLaws::name_short, crate::proofs::Told::signal_put))]
-fn put_request(buffer: &mut [u8], channel: u32, status: Status) -> usize
+// Writes the request of a status at the buffer's start, if one tells it, and returns its length. (The longest has 38 bytes.)
+fn put_request(buffer: &mut [u8], channel: u32, status: Status) -> Option<usize>
     requires { 38 ≤ length buffer.old }
-    ensures value { (result ≡ length (request channel status)) × (result ≤ 38) }
-    ensures buffer_after { buffer.new ≡ request channel status ++ drop (length (request channel status)) buffer.old }
+    ensures { (result ≡ option_map length (told channel status)) × (buffer.new ≡ put (told channel status) buffer.old) }
 {
     match status {
         Status::Exited(code) => {
             let Ok(code) = u32::try_from(code) else {
-                return 0;
+                return None;
             };
             put_code(buffer, channel, code);
-            25
+            Some(25)
         }
         Status::Signaled(number) => {
-            let name = signal_name(number);
+            let name = signals::name_of(number)?;
             put_signal(buffer, channel, name);
-            34 + name.len()
+            Some(34 + name.len())
         }
     }
-}
-
-fn put_maybe(buffer: &mut [u8], channel: u32, status: Option<Status>) -> usize
-    requires { 38 ≤ length buffer.old }
-    ensures value { (result ≡ length (request_of channel status)) × (result ≤ 38) }
-    ensures buffer_after { buffer.new ≡ request_of channel status ++ drop (length (request_of channel status)) buffer.old }
-{
-    match status {
-        None => 0,
-        Some(status) => put_request(buffer, channel, status),
-    }
-}
-
-fn close_in(channel: u32, status: Option<Status>, buffer: &mut [u8]) -> Result<usize, Refusal>
-    requires { 43 ≤ length buffer.old }
-    ensures { written_after result buffer.new ≡ closed channel status buffer.old }
-{
-    let n = put_maybe(buffer, channel, status);
-    let closed = codec::write(channel, Record::Close, b"", &mut buffer[n..])?;
-    Ok(n + closed)
 }
 
 // Writes how a program ended, and CLOSE directly behind it, at the buffer's start: the request of its status, if there is one,
@@ -163,30 +122,36 @@ pub fn close(channel: u32, status: Option<Status>, buffer: &mut [u8]) -> Result<
     if buffer.len() < 43 {
         return Err(Refusal::BufferShort);
     }
-    if is_untold(status) {
+    let Some(status) = status else {
+        return codec::write(channel, Record::Close, b"", buffer);
+    };
+    let Some(n) = put_request(buffer, channel, status) else {
         return Err(Refusal::UntoldStatus);
-    }
-    close_in(channel, status, buffer)
+    };
+    let closed = codec::write(channel, Record::Close, b"", &mut buffer[n..])?;
+    Ok(n + closed)
 }
 
 // ---- reading
 
 // Whether bytes are the request of a status: it is written anew and compared.
 fn is_request(bytes: &[u8], channel: u32, status: Status) -> bool
-    ensures { result ≡ same (request channel status) bytes.now }
+    ensures { result ≡ (is_told status && same (request channel status) bytes.now) }
 {
     let mut own = [0u8; 38];
-    let n = put_request(&mut own, channel, status);
-    octets::same(&own[..n], bytes)
+    let Some(n) = put_request(&mut own, channel, status) else {
+        return false;
+    };
+    &own[..n] == bytes
 }
 
 // The only status that bytes can tell, by their length: a code that a status holds, or a signal that has a name.
-#[tactic(auto, unfolding(crate::specs::Exit::guess), using(crate::proofs::Told::short_none))]
+#[tactic(auto, unfolding(crate::specs::Exit::guess), using(crate::proofs::Told::short_none, octets::specs::BytesLaws::within_some))]
 fn guess(bytes: &[u8]) -> Option<Status>
     ensures { result ≡ guess bytes.now }
 {
     if bytes.len() == 25 {
-        let code = octets::number_at(bytes, 21);
+        let code = octets::number_at(bytes, 21)?;
         return i32::try_from(code).ok().map(Status::Exited);
     }
     let name = bytes.get(25..bytes.len().checked_sub(9)?)?;
@@ -198,16 +163,17 @@ fn matching(bytes: &[u8], channel: u32, status: Option<Status>) -> Result<Status
     ensures { result ≡ matching channel bytes.now status }
 {
     match status {
-        Some(status) if is_told(status) && is_request(bytes, channel, status) => Ok(status),
+        Some(status) if is_request(bytes, channel, status) => Ok(status),
         _ => Err(Refusal::BadRequest),
     }
 }
 
 // Whether bytes are for the channel, as far as they name one.
+#[tactic(auto, using(octets::specs::BytesLaws::within_some, octets::specs::BytesLaws::within_none))]
 fn is_mine(bytes: &[u8], channel: u32) -> bool
     ensures { result ≡ is_mine channel bytes.now }
 {
-    bytes.len() < 5 || octets::number_at(bytes, 1) == channel
+    octets::number_at(bytes, 1).is_none_or(|named| named == channel)
 }
 
 // The status that all of bytes tell, as one request for a channel.

@@ -215,6 +215,17 @@ hex_write d b at j x y h room high low =
     ∙ copied_on d at p (k + 1) y (omega arith) (omega arith) (low ∙ sym (hex_last b j h))
     ∙ ap (copied d at p 0) n
 
+-- the same at the front of d
+pub hex_write_front : (d b : List ℕ) (j x y : ℕ) → j < length b → 2 * length b ≤ length d
+    → x ≡ hex_digit (get_or b j 0 / 16) → y ≡ hex_digit (get_or b j 0 % 16)
+    → set (set (copied d 0 (hex_of b) 0 (2 * j)) (2 * j) x) (2 * j + 1) y ≡ copied d 0 (hex_of b) 0 (2 * (j + 1))
+hex_write_front d b j x y h room high low = rw (zero-add (2 * j)) at (hex_write d b 0 j x y h (omega arith) high low)
+
+pub hex_written : (d b : List ℕ) (n : ℕ) → n ≡ length b → copied d 0 (hex_of b) 0 (2 * n) ≡ hex_of b ++ drop (length (hex_of b)) d
+hex_written d b n h =
+    let l : length (hex_of b) ≡ 2 * n = hex_length b ∙ rw h refl in
+    copied_all d 0 (hex_of b) (2 * n) l ∙ ap (λ (k : ℕ). hex_of b ++ drop k d) (zero-add (2 * n) ∙ sym l)
+
 -- no digit's byte is below that of 0
 pub hex_low : (c : ℕ) → is_hex c ≡ true → 48 ≤ c
 hex_low c h =

@@ -1,8 +1,7 @@
 // Bytes in lowercase hexadecimal, two digits a byte, read from a text and written into a lent buffer.
 #![tactic(auto)]
 
-ghost use Rattle.std.specs.Prelude.{◌≡◌, true, ◌++◌, ◌+◌, ◌*◌, ◌/◌, ◌≤◌, ◌<◌, length, drop};
-ghost use Rattle.ring.specs.Runs.{copied};
+ghost use Rattle.std.specs.Prelude.{◌≡◌, true, ◌++◌, ◌*◌, ◌/◌, ◌≤◌, ◌<◌, length, drop};
 ghost use Rattle.hexadecimal.specs.Hexadecimal.{is_hex, are_hex, are_pairs, digit_of, hex_digit, hex_of, pairs, unhex};
 ghost use Rattle.hexadecimal.specs.Answers.{maybe_length, unhex_into};
 
@@ -29,8 +28,8 @@ fn are_pairs(text: &[u8]) -> bool
     (text.len() % 2 == 0) & are_hex(text)
 }
 
-// Entry c is the value of the byte c as a digit, and 255 where c is none: `0` is 48, `a` is 97. (No constant: that would be
-// made anew on the stack wherever it is indexed.)
+// Entry c is the value of the byte c as a digit, and 255 where c is none: `0` is 48, `a` is 97. (No Option: a byte is looked up
+// once the text is known to have digits only. No constant: that would be made anew on the stack wherever it is indexed.)
 #[rattlefmt::skip]
 static DIGITS: [u8; 256] = [
     255, 255, 255, 255, 255, 255, 255, 255, 255, 255, 255, 255, 255, 255, 255, 255,
@@ -66,12 +65,15 @@ fn put_pairs(text: &[u8], out: &mut [u8])
     ensures { out.new ≡ pairs text.now ++ drop (length text.now / 2) out.old }
 {
     let (pairs, _) = text.as_chunks::<2>();
+    // (By index: of a slice that is written through an adapter of `iter_mut` a proof knows its length alone; and no recursion, as in
+    // decimal, since the loop is to have the registers for itself.)
     for (j, pair) in pairs.iter().enumerate() {
         out[j] = value(pair[0]) * 16 + value(pair[1]);
     }
 }
 
 // Writes the bytes that all of text stands for at the start of out, and says how many; where text is refused, nothing is written.
+#[tactic(auto, unfolding(crate::specs::Hexadecimal::unhex), using(crate::specs::HexadecimalLaws::pairs_hex, crate::specs::HexadecimalLaws::pairs_even, crate::specs::HexadecimalLaws::pairs_length))]
 pub fn read(text: &[u8], out: &mut [u8]) -> Option<usize>
     requires { length text.now / 2 ≤ length out.old }
     ensures value { result ≡ maybe_length (unhex text.now) }
@@ -95,16 +97,17 @@ fn digit(d: u8) -> u8
     if d < 10 { 48 + d } else { 87 + d }
 }
 
-// Writes the digits of bytes from index at on, and returns the index behind them.
-#[tactic(auto, using(ring::specs::Runs::copied_zero, crate::specs::HexadecimalLaws::hex_write, crate::specs::HexadecimalLaws::hex_length))]
-pub fn write(bytes: &[u8], out: &mut [u8], at: usize) -> usize
-    requires { at + 2 * length bytes.now ≤ length out.old }
-    ensures out_after { out.new ≡ copied out.old at (hex_of bytes.now) 0 (length (hex_of bytes.now)) }
-    ensures value { result ≡ at + length (hex_of bytes.now) }
+// Writes the digits of bytes at the start of out, and returns how many they are.
+#[tactic(auto, using(ring::specs::Runs::copied_zero, crate::specs::HexadecimalLaws::hex_write_front, crate::specs::HexadecimalLaws::hex_written, crate::specs::HexadecimalLaws::hex_length))]
+pub fn write(bytes: &[u8], out: &mut [u8]) -> usize
+    requires { 2 * length bytes.now ≤ length out.old }
+    ensures out_after { out.new ≡ hex_of bytes.now ++ drop (length (hex_of bytes.now)) out.old }
+    ensures value { result ≡ length (hex_of bytes.now) }
 {
+    // (By index, as in `put_pairs`.)
     for (j, &b) in bytes.iter().enumerate() {
-        out[at + 2 * j] = digit(b / 16);
-        out[at + 2 * j + 1] = digit(b % 16);
+        out[2 * j] = digit(b / 16);
+        out[2 * j + 1] = digit(b % 16);
     }
-    at + 2 * bytes.len()
+    2 * bytes.len()
 }

@@ -1,12 +1,13 @@
 -- Laws of numbers in bytes, each side undone by the other, and of the copies that write them.
-use Rattle.std.specs.Prelude.{◌≡◌, refl, Bool, true, false, cond, List, [], ◌∷◌, ◌++◌, ℕ, suc, ◌+◌, ◌*◌, ◌/◌, ◌%◌, ◌^◌, ◌≤◌, ◌<◌, leb, length, drop, get_or, set}
+use Rattle.std.specs.Prelude.{◌≡◌, refl, Bool, true, false, cond, List, [], ◌∷◌, ◌++◌, ℕ, suc, ◌+◌, ◌*◌, ◌/◌, ◌%◌, ◌^◌, ◌≤◌, ◌<◌, leb, length, drop, get_or, set, Some, None}
 use Rattle.std.proofs.Common.{sym, ap, ◌∙◌, arith, add-one, div-add-mod', mod-eq_of_lt, le-leb, length-append, drop-cons, get_or-append-add}
 use Rattle.std.proofs.Math.Nat.{div-div-eq-div-mul}
+use Rattle.std.proofs.lemmas.Bool.{lt-leb}
 use Rattle.std.proofs.Math.Seq.{get_or-append_seam}
 use Rattle.std.proofs.lemmas.List.Edits.{sets-eq}
 use Rattle.ring.specs.Runs.{copied, copied_step, copied_after}
 use Rattle.ring.specs.Lent.{copied_all, copied_join}
-use Rattle.octets.specs.Bytes.{be32, be32_at, number_at}
+use Rattle.octets.specs.Bytes.{be32, be32_at, number_at, number_within}
 
 -- ---- a number and its bytes
 
@@ -39,6 +40,15 @@ be32_of a b c d ha hb hc hd =
 pub number_there : (s : List ℕ) (at : ℕ) → at + 4 ≤ length s → number_at s at ≡ be32_at s at
 unfolding number_at
 number_there s at h = simp (le-leb (at + 4) (length s) h)
+
+-- where the bytes hold it, and where they end before
+pub within_some : (s : List ℕ) (at : ℕ) → at + 4 ≤ length s → number_within s at ≡ Some (number_at s at)
+unfolding number_within
+within_some s at h = simp (le-leb (at + 4) (length s) h, number_there s at h)
+
+pub within_none : (s : List ℕ) (at : ℕ) → length s < at + 4 → number_within s at ≡ None
+unfolding number_within
+within_none s at h = simp (lt-leb (at + 4) (length s) h)
 
 -- a number is read where it was written
 pub number_written : (p t : List ℕ) (v : ℕ) → v < 2 ^ 32 → number_at (p ++ (be32 v ++ t)) (length p) ≡ v

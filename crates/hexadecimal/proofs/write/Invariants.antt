@@ -5,4 +5,4 @@ use Rattle.hexadecimal.specs.Hexadecimal.{hex_of}
 use Rattle.hexadecimal.proofs.write.Given as goal
 
 abbrev pub invariant-loop-j : goal.invariant-loop-j
-invariant-loop-j l = l.out ≡ copied l.initial.out l.at (hex_of l.bytes) 0 (2 * l.j)
+invariant-loop-j l = l.out ≡ copied l.initial.out 0 (hex_of l.bytes) 0 (2 * l.j)
