@@ -18,10 +18,10 @@ ghost use Rattle.printing.specs.Adding.{HasRoom, Adds, answer_most};
 ghost use Rattle.answering.specs.Answering.{answer_is, AnswerIs};
 
 use exec::{Receipt, Refusal};
-use printing::{Field, Text, name_of};
+use printing::{Field, Text, first, name_of};
 use runner::answer::{Message, Request};
 
-// What a line is answered. The bytes of a pending and of an Output stand at the start of `work`.
+// What a line is answered. The bytes of a pending and of an Output stand at the start of `work`, as there is no heap to keep them.
 #[derive(Clone, Copy)]
 pub enum Answer {
     Ok,
@@ -95,6 +95,7 @@ impl IntoAnswer for Option<u64> {
     }
 }
 
+// (Not one for every Option: a time that may be missing is told as a value.)
 impl IntoAnswer for Option<Request> {
     ghost told = { λ q w. maybe_request_of q };
 
@@ -161,7 +162,7 @@ fn put_message(message: Message, work: &[u8], out: &mut Text<'_>)
     match message {
         Message::Credit(n) => out.with(b"Credit", n),
         Message::Started => out.alone(b"Started"),
-        Message::Output(x, n) => out.with_first(name_of(x), n, work),
+        Message::Output(x, n) => out.with_bytes(name_of(x), first(work, n)),
         Message::End(x) => out.with(b"End", x),
         Message::InputClosed => out.alone(b"InputClosed"),
         Message::Terminal(o) => o.put(out),
@@ -180,7 +181,7 @@ fn put_answer(answer: Answer, work: &[u8], out: &mut Text<'_>)
         Answer::Late => out.alone(b"Late"),
         Answer::Refused(x) => out.with(b"refused", x.number()),
         Answer::Taken(n) => out.with(b"taken", n),
-        Answer::Pending(n) => out.with_first(b"pending", n, work),
+        Answer::Pending(n) => out.with_bytes(b"pending", first(work, n)),
         Answer::Value(n) => out.with(b"value", n),
         Answer::Time(None) => out.alone(b"none"),
         Answer::Time(Some(t)) => out.with(b"value", t),
@@ -202,7 +203,7 @@ fn put_line(line: u64, answer: Answer, work: &[u8], out: &mut Text<'_>)
     out.put_byte(b'\n');
 }
 
-// The same in a lent area, from index `at` on; and the index behind it.
+// The same in a lent area, from index `at` on, behind the answers of earlier lines; and the index behind it.
 pub fn write_line(line: u64, answer: Answer, work: &[u8], out: &mut [u8], at: usize) -> usize
     requires { (length work.now ≤ 65536) × (at + 131200 ≤ length out.old) }
     ensures { Wrote 131200 out.old out.new at result (line_text line (answer_is answer work.now)) }

@@ -45,7 +45,7 @@ fn count(line: &[u8]) -> usize
     line.split(|b| *b == b',').count()
 }
 
-// The field at a place; an empty one, where there are fewer.
+// The field at a place; an empty one, where there are fewer. (No Option: the fields are counted before one is read.)
 fn field(line: &[u8], k: usize) -> &[u8]
     ensures { result.now ≡ at (fields line.now) k }
 {

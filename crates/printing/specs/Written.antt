@@ -1,8 +1,9 @@
 -- A text written into a lent area from an index on, and texts written one behind the other.
-use Rattle.std.specs.Prelude.{◌≡◌, refl, List, ◌++◌, ℕ, ◌+◌, ◌≤◌, length}
+use Rattle.std.specs.Prelude.{◌≡◌, refl, List, ◌++◌, ℕ, ◌+◌, ◌≤◌, length, take, drop}
 use Rattle.std.proofs.Common.{sym, ap, ◌∙◌, append_assoc, arith, length-append}
 use Rattle.ring.specs.Runs.{copied, copied_length}
-use Rattle.ring.specs.Lent.{copied_join}
+use Rattle.ring.specs.Lent.{copied_join, lent_front}
+use borrow.Rule.Slice.PartMut.{put_mid}
 
 -- `out` became `then` by the text, which has at most `most` bytes and stands from index `at` to before index `to`, all of it
 -- within `out`. (`size` follows: it stands here for omega to read.)
@@ -23,6 +24,16 @@ wrote {out} {at} text h e s r = record {
   room = omega arith;
   size = ap length h ∙ copied_length out at text 0 (length text) r (omega arith);
 }
+
+-- what a part that was lent from index `at` on came back with
+pub wrote_lent : {most : ℕ} (out part : List ℕ) (at k n : ℕ) (text : List ℕ) → part ≡ text ++ drop (length text) (take k (drop at out))
+    → n ≡ length text → at + k ≡ length out → length text ≤ most → length text ≤ k → Wrote most out (put_mid at k out part) at (at + n) text
+wrote_lent out part at k n text e l whole short room =
+    wrote text
+    (ap (put_mid at k out) e ∙ lent_front out at k text (length text) refl room (omega arith))
+    (ap (λ (m : ℕ). at + m) l)
+    short
+    (omega arith)
 
 -- TWO TEXTS, ONE BEHIND THE OTHER, ARE ONE
 pub joined : {a b : ℕ} {out mid then : List ℕ} {at m to : ℕ} {s t : List ℕ} → Wrote a out mid at m s → Wrote b mid then m to t

@@ -29,8 +29,8 @@ pub struct Text<'a> {
     pub end: usize,
 }
 
-// What can stand in a field of an answer. (No `Display`: a flag is 1 or 0 here and what is missing `-`, and it would answer a Result
-// that is always Ok, through a `dyn Write`.)
+// What can stand in a field of an answer. (No `Display`: a flag is 1 or 0 here and what is missing `-`, the most bytes that a field
+// takes are part of its contract, and a Result would be answered that is always Ok.)
 pub trait Field: Copy {
     ghost text: { Self → List ℕ };
 
@@ -55,9 +55,9 @@ impl Text<'_> {
         requires { HasRoom (length bytes.now) self.old }
         ensures { Adds (length bytes.now) self.old self.new bytes.now }
     {
-        let n = bytes.len();
-        ring::copy_in(self.area, self.end, bytes, 0, n);
-        self.end += n;
+        let end = self.end + bytes.len();
+        self.area[self.end..end].copy_from_slice(bytes);
+        self.end = end;
     }
 
     // A mark of one byte, and a field behind it.
@@ -88,28 +88,35 @@ impl Text<'_> {
         self.put(b",-");
     }
 
-    // The first n bytes of work, or all of them where there are fewer.
-    pub fn with_first(&mut self, name: &[u8], n: usize, work: &[u8])
-        requires { IsWord name.now × (length work.now ≤ 65536) × HasRoom answer_most self.old }
-        ensures { Adds answer_most self.old self.new (filled name.now (take n work.now)) }
+    pub fn with_bytes(&mut self, name: &[u8], bytes: &[u8])
+        requires { IsWord name.now × (length bytes.now ≤ 65536) × HasRoom answer_most self.old }
+        ensures { Adds answer_most self.old self.new (filled name.now bytes.now) }
     {
-        let bytes = &work[..n.min(work.len())];
         self.put(name);
         self.put_after(b',', bytes.len());
         self.put_byte(b',');
-        self.end = hexadecimal::write(bytes, self.area, self.end);
+        self.end += hexadecimal::write(bytes, &mut self.area[self.end..]);
     }
+}
+
+// The first n bytes of work, or all of them where there are fewer.
+#[tactic(auto, using(crate::specs::Lengths::take_fewer))]
+pub fn first(work: &[u8], n: usize) -> &[u8]
+    ensures { result.now ≡ take n work.now }
+{
+    &work[..n.min(work.len())]
 }
 
 // ---- fields
 
+// (Three impls: one for whatever is `Into<u64>` would take a bool too.)
 impl Field for u64 {
     ghost text = { digits_of };
 
     ghost most = { 20 };
 
     fn put(self, out: &mut Text<'_>) {
-        out.end = decimal::write(self, out.area, out.end);
+        out.end += decimal::write(self, &mut out.area[out.end..]);
     }
 }
 
@@ -140,7 +147,7 @@ impl Field for i32 {
     ghost most = { 21 };
 
     fn put(self, out: &mut Text<'_>) {
-        out.end = decimal::write_signed(self, out.area, out.end);
+        out.end += decimal::write_signed(self, &mut out.area[out.end..]);
     }
 }
 

@@ -8,7 +8,7 @@ ghost use Rattle.reading.specs.Meaning.{bytes_is};
 use crate::words::{flag, missing};
 use exec::{Key, LaunchFailure, Status};
 
-// ---- numbers
+// ---- numbers. (Two of smaller types, and no generic one: over `TryFrom<u64>` its contract alone would be longer than both.)
 
 pub fn wide(field: &[u8]) -> Option<u64>
     ensures { result ≡ u64 field.now }

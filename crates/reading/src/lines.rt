@@ -83,7 +83,8 @@ fn call1(name: &[u8], a: &[u8]) -> Option<Call>
     }
 }
 
-// ---- with two or more. (A `match` on byte strings would leave a goal for each byte at which a name may differ.)
+// ---- with two or more. (Names compared one by one: for so few a table would take an enum of its own and a `match` over it, and a
+// `match` on byte strings would leave a goal for each byte at which a name may differ.)
 
 fn output(a: &[u8], b: &[u8], work: &mut [u8]) -> Option<Call>
     requires { length b.now / 2 ≤ length work.old }

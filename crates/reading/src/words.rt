@@ -17,7 +17,7 @@ pub(crate) fn named<T: Copy>(field: &[u8], table: &[(&[u8], T)]) -> Option<T>
         .map(|entry| entry.1)
 }
 
-// ---- words
+// ---- words. (A function for each type and no trait: an impl would name the table and the definition as these do, and be longer.)
 
 static STREAMS: [(&[u8], Stream); 2] = [(b"Stdout", Stream::Stdout), (b"Stderr", Stream::Stderr)];
 

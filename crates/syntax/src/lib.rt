@@ -3,7 +3,8 @@
 
 use exec::{Cause, Key, LaunchFailure, Pool, Settlement, Status, Stream};
 
-// A call of the runner's. An input and an output have so many bytes of `work`, a message a buffer of so many.
+// A call of the runner's. An input and an output have so many bytes of `work`, which the call's answer is written to while the
+// call is kept; a message has a buffer of so many.
 #[derive(Clone, Copy)]
 pub enum Call {
     Credit(Key, Pool, u32),
