@@ -25,7 +25,7 @@ use Rattle.channel.specs.Ended.{Writes, elsewhere, short, left, taken, number_of
 -- ---- the ways of a write
 
 module _ (r : Runner) (channel : ℕ) (store b : List ℕ) where
-  write_by : (channels roomy isleft : Bool) → is_channel r.limits ≡ channels → leb (room r.limits) (length b) ≡ roomy → is_left (asked r store b).saying.said ≡ isleft
+  write_by : (channels roomy isleft : Bool) → is_channel r.limits ≡ channels → leb (room r.limits) (length b) ≡ roomy → is_left (asked r store b).saying.answer ≡ isleft
       → Writes r channel store b (channels && roomy) (admitted_write (cond channels (Ok tt) (Err NotAChannel)) r channel store b)
   unfolding admitted_write roomy_write sent
   write_by false roomy isleft c e u = elsewhere c
@@ -37,7 +37,7 @@ module _ (r : Runner) (channel : ℕ) (store b : List ℕ) where
   pub writes : stop r (bytes_do r.limits store) ≡ Ok tt
       → Writes r channel store b (is_channel r.limits && leb (room r.limits) (length b)) (write_record r channel store b)
   unfolding write_record admitted
-  writes g = rw g (write_by (is_channel r.limits) (leb (room r.limits) (length b)) (is_left (asked r store b).saying.said) refl refl refl)
+  writes g = rw g (write_by (is_channel r.limits) (leb (room r.limits) (length b)) (is_left (asked r store b).saying.answer) refl refl refl)
 
   -- and of any other
   pub stopped : (x : Refusal) → stop r (bytes_do r.limits store) ≡ Err x → write_record r channel store b ≡ write_after (unwritten x r) b
@@ -59,7 +59,7 @@ choice_left Choice.Terminal r e = (refl, e)
 
 -- where there is room it is left by 40
 pub write_left : (r : Runner) (channel : ℕ) (store b : List ℕ) (met : Bool) (w : WriteAfter) → Writes r channel store b met w → met ≡ true
-    → is_left (asked r store b).saying.said ≡ true → w ≡ write_after (unwritten UntoldStatus r) b
+    → is_left (asked r store b).saying.answer ≡ true → w ≡ write_after (unwritten UntoldStatus r) b
 write_left r channel store b met w (elsewhere c) m e = absurd (false≢true m)
 write_left r channel store b met w (short c l) m e = absurd (false≢true m)
 write_left r channel store b met w (left u) m e = refl
@@ -85,7 +85,7 @@ stop_number true true false x e = let q : number StoreShort ≡ number x = cc in
 stop_number true true true x e = let z : ◌≡◌ {A = ℕ} 0 1 = cc in absurd (omega arith)
 
 module _ (r : Runner) (channel : ℕ) (store b : List ℕ) where
-  still_left : stop r (bytes_do r.limits store) ≡ Ok tt → is_left (asked r store b).saying.said ≡ true
+  still_left : stop r (bytes_do r.limits store) ≡ Ok tt → is_left (asked r store b).saying.answer ≡ true
       → write_record r channel store b ≡ write_after (unwritten UntoldStatus r) b → Still r channel store b
   unfolding asked Calls.next_message said_for
   still_left g u e =
@@ -93,7 +93,7 @@ module _ (r : Runner) (channel : ℕ) (store b : List ℕ) where
       record { kept = e; said = λ part. rw (g, still r _ (length part) p.0) refl; untold = p.1 }
 
   by_writes : stop r (bytes_do r.limits store) ≡ Ok tt → (met : Bool) (w : WriteAfter) → Writes r channel store b met w → write_record r channel store b ≡ w
-      → number_of w.writing.wrote ≡ 40 → Still r channel store b
+      → number_of w.writing.answer ≡ 40 → Still r channel store b
   unfolding asked told Calls.next_message
   by_writes g met w (elsewhere c) e h = absurd (omega arith)
   by_writes g met w (short c l) e h = absurd (omega arith)
@@ -103,17 +103,17 @@ module _ (r : Runner) (channel : ℕ) (store b : List ℕ) where
       absurd (omega arith)
 
   -- A WRITE REFUSED BY 40 CHANGES NOTHING, AND NEXT_MESSAGE STILL GIVES THE TERMINAL
-  pub untold_still : (write_record r channel store b).writing.wrote ≡ Err UntoldStatus → Still r channel store b
+  pub untold_still : (write_record r channel store b).writing.answer ≡ Err UntoldStatus → Still r channel store b
   unfolding stop
   untold_still h = by (stop r (bytes_do r.limits store)) refl
     where
-      n : number_of (write_record r channel store b).writing.wrote ≡ 40
+      n : number_of (write_record r channel store b).writing.answer ≡ 40
       n = ap number_of h
 
       by : (met : Result (Unit {0}) Refusal) → stop r (bytes_do r.limits store) ≡ met → Still r channel store b
       by (Ok tt) g = by_writes g _ _ (writes r channel store b g) refl n
       by (Err x) g =
-          let z : number x ≡ 40 = sym (ap (λ (w : WriteAfter). number_of w.writing.wrote) (stopped r channel store b x g)) ∙ n in
+          let z : number x ≡ 40 = sym (ap (λ (w : WriteAfter). number_of w.writing.answer) (stopped r channel store b x g)) ∙ n in
           absurd (omega (arith, stop_number (in_range r) (is_valid r.limits) (bytes_do r.limits store) x g))
 
 -- ---- a Terminal that is told
@@ -133,21 +133,21 @@ module _ (r : Runner) (channel : ℕ) (known : channel < 2 ^ 32) where
       record { told = u; size = refl; tells = q.0; closes = q.1 }
 
   ends : (store b : List ℕ) → stop r (bytes_do r.limits store) ≡ Ok tt → (met : Bool) (w : WriteAfter) → Writes r channel store b met w
-      → EndsAs channel w.buffer w.writing.wrote
+      → EndsAs channel w.buffer w.writing.answer
   unfolding asked told Calls.next_message
   ends store b g met w (elsewhere c) = tt
   ends store b g met w (short c l) = tt
   ends store b g met w (left u) = tt
   ends store b g met w (taken u l) = rw g (choice_ends (choose r (length (take r.limits.chunk (drop 13 b)))) (has_ended r) _ (rw g at u))
 
-  ends_so : (store b : List ℕ) → EndsAs channel (write_record r channel store b).buffer (write_record r channel store b).writing.wrote
+  ends_so : (store b : List ℕ) → EndsAs channel (write_record r channel store b).buffer (write_record r channel store b).writing.answer
   ends_so store b = by (stop r (bytes_do r.limits store)) refl
     where
-      by : (met : Result (Unit {0}) Refusal) → stop r (bytes_do r.limits store) ≡ met → EndsAs channel (write_record r channel store b).buffer (write_record r channel store b).writing.wrote
+      by : (met : Result (Unit {0}) Refusal) → stop r (bytes_do r.limits store) ≡ met → EndsAs channel (write_record r channel store b).buffer (write_record r channel store b).writing.answer
       by (Ok tt) g = ends store b g _ _ (writes r channel store b g)
-      by (Err x) g = subst⁻¹ (λ (w : WriteAfter). EndsAs channel w.buffer w.writing.wrote) (stopped r channel store b x g) tt
+      by (Err x) g = subst⁻¹ (λ (w : WriteAfter). EndsAs channel w.buffer w.writing.answer) (stopped r channel store b x g) tt
 
   -- THE RECORD OF A TERMINAL TELLS ITS STATUS, AND THEN CLOSES
-  pub terminal_reads : (store b : List ℕ) (o : Outcome) (n : ℕ) → (write_record r channel store b).writing.wrote ≡ (Ok (Some (Message.Terminal o, n)))
+  pub terminal_reads : (store b : List ℕ) (o : Outcome) (n : ℕ) → (write_record r channel store b).writing.answer ≡ (Ok (Some (Message.Terminal o, n)))
       → Ending channel o n (write_record r channel store b).buffer
   terminal_reads store b o n e = subst (EndsAs channel (write_record r channel store b).buffer) e (ends_so store b)

@@ -1,12 +1,12 @@
 -- Laws of the record calls' code, over plain variables: there is too much to compute at the calls' own places.
 use Rattle.std.proofs.Common.{Bool, true, false, cond, ◌≡◌, refl, sym, ap, ◌∙◌, List, ◌++◌, ℕ, ◌+◌, ◌^◌, ◌≤◌, ◌<◌, arith, length, take, drop, length-append, length-take, length-drop, take-append-drop, drop-drop}
-use Rattle.std.specs.Prelude.{not, min, Result, Ok, Err}
+use Rattle.std.specs.Prelude.{Option, not, min, Result, Ok, Err}
 use Rattle.exec.specs.declared.Refusal.{Refusal}
 use Rattle.exec.specs.declared.Limits.{Limits}
 use Rattle.exec.specs.declared.Refusal.TheVariants.{NoLimits, StoreShort, StateOutOfRange, UntoldStatus}
 use Rattle.exec.specs.Limits.{is_valid, pool_of}
 use Rattle.runner.specs.declared.answer.Message.{Message}
-use Rattle.runner.specs.declared.answer.Saying.{Saying}
+use Rattle.runner.specs.declared.answer.After.{After}
 use Rattle.choice.specs.declared.Choice.{Choice}
 use Rattle.runner.specs.declared.runner.Runner.{Runner}
 use Rattle.runner.specs.Calls as Calls
@@ -15,7 +15,6 @@ use Rattle.runner.specs.Message.{MessageAfter, message_after, choose, said_for, 
 use Rattle.runner.specs.MessageLaws.{chosen, least}
 use Rattle.runner.specs.Range.{in_range, bytes_do, stop}
 use Rattle.runner.specs.State.{out_of, credit_at}
-use Rattle.channel.specs.declared.calls.Writing.{Writing}
 use Rattle.codec.specs.Codec.{size}
 use Rattle.exec.specs.declared.Stream.{Stream}
 use Rattle.exec.specs.declared.Stream.TheVariants.{Stdout, Stderr}
@@ -76,14 +75,14 @@ module _ (r : Runner) (store buffer : List ℕ) (narrow : r.limits.chunk < 2 ^ 3
       (omega (arith, b, q), omega (arith, b, q))
   said_within k Choice.Terminal h e l = (tt, (omega arith, l))
 
-  pub said_fits : is_left (asked r store buffer).saying.said ≡ false → Sayable (asked r store buffer).saying.said (length buffer)
+  pub said_fits : is_left (asked r store buffer).saying.answer ≡ false → Sayable (asked r store buffer).saying.answer (length buffer)
   unfolding asked Calls.next_message Sayable
   said_fits = at (stop r (bytes_do r.limits store))
     where
       part : List ℕ
       part = take r.limits.chunk (drop 13 buffer)
 
-      at : (x : Result (Unit {0}) Refusal) → is_left (message_by x r store part).saying.said ≡ false → Sayable (message_by x r store part).saying.said (length buffer)
+      at : (x : Result (Unit {0}) Refusal) → is_left (message_by x r store part).saying.answer ≡ false → Sayable (message_by x r store part).saying.answer (length buffer)
       at (Ok tt) l = said_within (length part) (choose r (length part)) (simp (length-take, length-drop) (omega arith)) refl l
       at (Err x) l = tt
 
@@ -98,14 +97,14 @@ part_kept b part k h =
     ∙ ap length (take-append-drop 13 b)
 
 -- what next_message said in that part
-module _ (r : Runner) (channel : ℕ) (store b : List ℕ) (k : ℕ) (x : Saying) (part : List ℕ) (chunk : k ≡ r.limits.chunk)
+module _ (r : Runner) (channel : ℕ) (store b : List ℕ) (k : ℕ) (x : After (Option Message)) (part : List ℕ) (chunk : k ≡ r.limits.chunk)
     (said : message_after x part ≡ Calls.next_message r store (take k (drop 13 b))) where
   as_asked : message_after x part ≡ asked r store b
   unfolding asked
   as_asked = rw chunk at said
 
-  left_as : (left : Bool) → is_left x.said ≡ left → is_left (asked r store b).saying.said ≡ left
-  left_as left e = sym (ap (λ (y : MessageAfter). is_left y.saying.said) as_asked) ∙ e
+  left_as : (left : Bool) → is_left x.answer ≡ left → is_left (asked r store b).saying.answer ≡ left
+  left_as left e = sym (ap (λ (y : MessageAfter). is_left y.saying.answer) as_asked) ∙ e
 
   -- the buffer with its part as next_message left it
   part_as : take 13 b ++ (part ++ drop k (drop 13 b)) ≡ part_back r.limits.chunk b (asked r store b).buffer
@@ -114,17 +113,17 @@ module _ (r : Runner) (channel : ℕ) (store b : List ℕ) (k : ℕ) (x : Saying
       ∙ ap (λ (y : List ℕ). take 13 b ++ (part ++ y)) (drop-drop r.limits.chunk 13 b)
       ∙ ap (λ (y : MessageAfter). part_back r.limits.chunk b y.buffer) as_asked
 
-  pub told_fits : r.limits.chunk < 2 ^ 32 → room r.limits ≤ length b → length part ≡ length (take k (drop 13 b)) → is_left x.said ≡ false
-      → Sayable x.said (length (take 13 b ++ (part ++ drop k (drop 13 b))))
+  pub told_fits : r.limits.chunk < 2 ^ 32 → room r.limits ≤ length b → length part ≡ length (take k (drop 13 b)) → is_left x.answer ≡ false
+      → Sayable x.answer (length (take 13 b ++ (part ++ drop k (drop 13 b))))
   told_fits narrow roomy kept e =
-      rw (part_kept b part k kept, ap (λ (y : MessageAfter). y.saying.said) as_asked) (said_fits r store b narrow roomy (left_as false e))
+      rw (part_kept b part k kept, ap (λ (y : MessageAfter). y.saying.answer) as_asked) (said_fits r store b narrow roomy (left_as false e))
 
   -- a message that is left, and one that is told
-  pub sent_left : is_left x.said ≡ true → write_after (unwritten UntoldStatus r) (take 13 b ++ (part ++ drop k (drop 13 b))) ≡ sent r channel store b
+  pub sent_left : is_left x.answer ≡ true → write_after (unwritten UntoldStatus r) (take 13 b ++ (part ++ drop k (drop 13 b))) ≡ sent r channel store b
   unfolding sent
   sent_left e = rw (left_as true e, part_as) (ap (write_after (unwritten UntoldStatus r)) (left_kept r store b (left_as true e)))
 
-  pub sent_told : (ended : Bool) (w : Writing) (after : List ℕ) → ended ≡ has_ended r → is_left x.said ≡ false
+  pub sent_told : (ended : Bool) (w : After (Option (Message × ℕ))) (after : List ℕ) → ended ≡ has_ended r → is_left x.answer ≡ false
       → write_after w after ≡ told x ended channel (take 13 b ++ (part ++ drop k (drop 13 b))) → write_after w after ≡ sent r channel store b
   unfolding sent
   sent_told ended w after h e t =

@@ -141,11 +141,11 @@ left_choice (Choice.End x) r store part e = refl
 left_choice (Choice.Output x n) r store part e = absurd (false≢true e)
 left_choice Choice.Terminal r store part e = refl
 
-left_by : (met : Result (Unit {0}) Refusal) (r : Runner) (store part : List ℕ) → is_left (message_by met r store part).saying.said ≡ true → (message_by met r store part).buffer ≡ part
+left_by : (met : Result (Unit {0}) Refusal) (r : Runner) (store part : List ℕ) → is_left (message_by met r store part).saying.answer ≡ true → (message_by met r store part).buffer ≡ part
 left_by (Ok tt) r store part e = left_choice (choose r (length part)) r store part e
 left_by (Err x) r store part e = refl
 
-pub left_kept : (r : Runner) (store b : List ℕ) → is_left (asked r store b).saying.said ≡ true → part_back r.limits.chunk b (asked r store b).buffer ≡ b
+pub left_kept : (r : Runner) (store b : List ℕ) → is_left (asked r store b).saying.answer ≡ true → part_back r.limits.chunk b (asked r store b).buffer ≡ b
 unfolding asked Calls.next_message
 left_kept r store b e =
     ap (part_back r.limits.chunk b) (left_by (stop r (bytes_do r.limits store)) r store (take r.limits.chunk (drop 13 b)) e)
@@ -163,34 +163,34 @@ none_said (Choice.Output x n) r channel k ended store b e = absurd (some_message
 none_said Choice.Terminal r channel k ended store b e = absurd (some_message _ _ e)
 
 none_told : (met : Result (Unit {0}) Refusal) (r : Runner) (channel : ℕ) (ended : Bool) (store b : List ℕ)
-    → wrote channel ended (message_by met r store (take r.limits.chunk (drop 13 b))).saying.said ≡ Ok None
-    → wrote_buffer channel ended (message_by met r store (take r.limits.chunk (drop 13 b))).saying.said
+    → wrote channel ended (message_by met r store (take r.limits.chunk (drop 13 b))).saying.answer ≡ Ok None
+    → wrote_buffer channel ended (message_by met r store (take r.limits.chunk (drop 13 b))).saying.answer
     (part_back r.limits.chunk b (message_by met r store (take r.limits.chunk (drop 13 b))).buffer) ≡ b
 unfolding wrote_buffer
 none_told (Ok tt) r channel ended store b e =
     none_said (choose r (length (take r.limits.chunk (drop 13 b)))) r channel r.limits.chunk ended store b e
 none_told (Err x) r channel ended store b e = part_kept r.limits.chunk b
 
-none_sent : (left : Bool) (r : Runner) (channel : ℕ) (store b : List ℕ) → is_left (asked r store b).saying.said ≡ left
-    → (sent r channel store b).writing.wrote ≡ Ok None → (sent r channel store b).buffer ≡ b
+none_sent : (left : Bool) (r : Runner) (channel : ℕ) (store b : List ℕ) → is_left (asked r store b).saying.answer ≡ left
+    → (sent r channel store b).writing.answer ≡ Ok None → (sent r channel store b).buffer ≡ b
 unfolding sent asked told Calls.next_message
 none_sent true r channel store b l e = rw l refl
 none_sent false r channel store b l e = rw l (none_told (stop r (bytes_do r.limits store)) r channel (has_ended r) store b (rw l at e))
 
 none_roomy : (roomy : Bool) (r : Runner) (channel : ℕ) (store b : List ℕ) → leb (room r.limits) (length b) ≡ roomy
-    → (roomy_write r channel store b).writing.wrote ≡ Ok None → (roomy_write r channel store b).buffer ≡ b
+    → (roomy_write r channel store b).writing.answer ≡ Ok None → (roomy_write r channel store b).buffer ≡ b
 unfolding roomy_write
-none_roomy true r channel store b h e = rw h (none_sent (is_left (asked r store b).saying.said) r channel store b refl (rw h at e))
+none_roomy true r channel store b h e = rw h (none_sent (is_left (asked r store b).saying.answer) r channel store b refl (rw h at e))
 none_roomy false r channel store b h e = rw h refl
 
 none_admitted : (a : Result (Unit {0}) Refusal) (r : Runner) (channel : ℕ) (store b : List ℕ)
-    → (admitted_write a r channel store b).writing.wrote ≡ Ok None → (admitted_write a r channel store b).buffer ≡ b
+    → (admitted_write a r channel store b).writing.answer ≡ Ok None → (admitted_write a r channel store b).buffer ≡ b
 unfolding admitted_write
 none_admitted (Ok tt) r channel store b e = none_roomy (leb (room r.limits) (length b)) r channel store b refl e
 none_admitted (Err x) r channel store b e = refl
 
 -- WHERE NO MESSAGE WAITS, THE WHOLE RECORD BUFFER IS KEPT
 pub none_kept : (r : Runner) (channel : ℕ) (store b : List ℕ)
-    → (write_record r channel store b).writing.wrote ≡ Ok None → (write_record r channel store b).buffer ≡ b
+    → (write_record r channel store b).writing.answer ≡ Ok None → (write_record r channel store b).buffer ≡ b
 unfolding write_record
 none_kept r channel store b e = none_admitted (admitted r (bytes_do r.limits store)) r channel store b e

@@ -10,10 +10,8 @@ use Rattle.exec.specs.declared.Stream.{Stream}
 use Rattle.exec.specs.declared.Stream.TheVariants.{Stdout, Stderr}
 use Rattle.exec.specs.declared.Unit as Units
 use Rattle.exec.specs.declared.Unit.TheVariants.{Bytes, Frames}
-use Rattle.runner.specs.declared.answer.Hearing.{Hearing}
+use Rattle.runner.specs.declared.answer.After.{After}
 use Rattle.runner.specs.declared.answer.Message.{Message}
-use Rattle.runner.specs.declared.answer.Noting.{Noting}
-use Rattle.runner.specs.declared.answer.Saying.{Saying}
 use Rattle.runner.specs.declared.runner.Runner.{Runner}
 use Rattle.runner.specs.Calls as Calls
 use Rattle.runner.specs.Calls.{stores_do}
@@ -21,9 +19,7 @@ use Rattle.runner.specs.Message.{MessageAfter}
 use Rattle.runner.specs.Range.{bytes_do, stop}
 use Rattle.exec.specs.Stream.{any_stream}
 use Rattle.runner.specs.State.{out_of}
-use Rattle.channel.specs.declared.calls.Reading.{Reading}
 use Rattle.channel.specs.declared.calls.Sending.{Sending}
-use Rattle.channel.specs.declared.calls.Writing.{Writing}
 use Rattle.codec.specs.declared.Record.{Record}
 use Rattle.codec.specs.declared.Record.TheVariants.{Adjust, Data, Extended, Eof, Close}
 use Rattle.codec.specs.Codec.{start, size, read, laid_record}
@@ -50,11 +46,11 @@ admitted r stores = on_channel (stop r stores) r.limits
 
 -- what it leaves: the answer with the state, and both stores
 pub record ReadAfter : Type 0 where
-  pub reading : Reading
+  pub reading : After (Option Receipt)
   pub bytes : List ℕ
   pub lengths : List ℕ
 
-abbrev pub read_after : Reading → (bytes lengths : List ℕ) → ReadAfter
+abbrev pub read_after : After (Option Receipt) → (bytes lengths : List ℕ) → ReadAfter
 read_after x bytes lengths = record { reading = x; bytes = bytes; lengths = lengths }
 
 abbrev pub heard_as : Result Receipt Refusal → Result (Option Receipt) Refusal
@@ -65,13 +61,13 @@ abbrev pub noted_as : Result (Unit {0}) Refusal → Result (Option Receipt) Refu
 noted_as (Ok tt) = Ok None
 noted_as (Err x) = Err x
 
-abbrev pub heard : Hearing → Reading
-heard h = record { runner = h.runner; answer = heard_as h.received }
+abbrev pub heard : After Receipt → After (Option Receipt)
+heard h = record { runner = h.runner; answer = heard_as h.answer }
 
-abbrev pub noted : Noting → Reading
-noted n = record { runner = n.runner; answer = noted_as n.reply }
+abbrev pub noted : After (Unit {0}) → After (Option Receipt)
+noted n = record { runner = n.runner; answer = noted_as n.answer }
 
-abbrev pub unread : Refusal → Runner → Reading
+abbrev pub unread : Refusal → Runner → After (Option Receipt)
 unread x r = record { runner = r; answer = Err x }
 
 -- the call that a record makes under the runner's own key: 93 credit on pool Output, 94 input, 96 end_input, 97 disconnect
@@ -100,10 +96,10 @@ read_record r at channel s store lengths = admitted_read (admitted r (stores_do 
 
 -- what it leaves: the answer with the state, and the buffer
 pub record WriteAfter : Type 0 where
-  pub writing : Writing
+  pub writing : After (Option (Message × ℕ))
   pub buffer : List ℕ
 
-abbrev pub write_after : Writing → (buffer : List ℕ) → WriteAfter
+abbrev pub write_after : After (Option (Message × ℕ)) → (buffer : List ℕ) → WriteAfter
 write_after x buffer = record { writing = x; buffer = buffer }
 
 abbrev pub output_record : Stream → (n : ℕ) → Record
@@ -149,9 +145,9 @@ wrote_buffer channel ended (Err x) buffer = buffer
 abbrev pub part_back : (chunk : ℕ) → (buffer part : List ℕ) → List ℕ
 part_back chunk buffer part = take 13 buffer ++ (part ++ drop (13 + chunk) buffer)
 
-unfoldable pub told : Saying → (ended : Bool) (channel : ℕ) → (buffer : List ℕ) → WriteAfter
+unfoldable pub told : After (Option Message) → (ended : Bool) (channel : ℕ) → (buffer : List ℕ) → WriteAfter
 told x ended channel buffer =
-    write_after (record { runner = x.runner; wrote = wrote channel ended x.said }) (wrote_buffer channel ended x.said buffer)
+    write_after (record { runner = x.runner; answer = wrote channel ended x.answer }) (wrote_buffer channel ended x.answer buffer)
 
 -- a message is asked for in that part
 unfoldable pub asked : Runner → (store buffer : List ℕ) → MessageAfter
@@ -171,13 +167,13 @@ is_left (Ok None) = false
 is_left (Ok (Some m)) = is_left_message m
 is_left (Err x) = false
 
-abbrev pub unwritten : Refusal → Runner → Writing
-unwritten x r = record { runner = r; wrote = Err x }
+abbrev pub unwritten : Refusal → Runner → After (Option (Message × ℕ))
+unwritten x r = record { runner = r; answer = Err x }
 
 -- 40, and nothing changes; else the message is taken and told
 unfoldable pub sent : Runner → (channel : ℕ) → (store buffer : List ℕ) → WriteAfter
 sent r channel store buffer =
-    cond (is_left (asked r store buffer).saying.said)
+    cond (is_left (asked r store buffer).saying.answer)
     (write_after (unwritten UntoldStatus r) buffer)
     (told (asked r store buffer).saying (has_ended r) channel (part_back r.limits.chunk buffer (asked r store buffer).buffer))
 

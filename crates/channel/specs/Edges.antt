@@ -22,7 +22,7 @@ use Rattle.ring.specs.Runs.{copied}
 use Rattle.inbox.specs.Inbox.{front}
 use Rattle.input.specs.Input as Input
 use Rattle.output.specs.Output.{output_fits}
-use Rattle.runner.specs.declared.answer.Hearing.{Hearing}
+use Rattle.runner.specs.declared.answer.After.{After}
 use Rattle.runner.specs.declared.answer.Message.TheVariants as Messages
 use Rattle.runner.specs.declared.runner.Runner.{Runner}
 use Rattle.runner.specs.Calls as Calls
@@ -73,8 +73,8 @@ unfolding opened Calls.next_message Message.choose order if_else Message.effect
 granted l = (Calls.next_message (opened l) (zeros 16) []).saying.runner
 
 -- what the peer's message leaves, and its answer
-abbrev heard : Runner → Result Receipt Refusal → Hearing
-heard r x = record { runner = r; received = x }
+abbrev heard : Runner → Result Receipt Refusal → After Receipt
+heard r x = record { runner = r; answer = x }
 
 -- input under the runner's own key, lent stores of zeros
 sent : Runner → List ℕ → InputAfter
@@ -91,7 +91,7 @@ abcd = 97 ∷ 98 ∷ 99 ∷ 100 ∷ []
 -- ---- the table
 
 -- (1) "Key 7,2: 7,1 Stale; 7,3 and 8,2 Key", by each call that has a key, and the state is kept
-keyed : Key → List Hearing
+keyed : Key → List (After Receipt)
 unfolding opened sent Calls.credit Streams.credit_answer Streams.credit_next Calls.end_input Streams.end_answer Streams.end_next Calls.cancel Life.cancel_answer Life.cancel_next
 keyed k = Calls.credit (opened in_bytes) k Stdout 3
     ∷ (Calls.input (opened in_bytes) k abcd (zeros 16) []).hearing
@@ -99,7 +99,7 @@ keyed k = Calls.credit (opened in_bytes) k Stdout 3
     ∷ Calls.cancel (opened in_bytes) 20 k Cancelled
     ∷ []
 
-abbrev each : Result Receipt Refusal → List Hearing
+abbrev each : Result Receipt Refusal → List (After Receipt)
 each x = heard (opened in_bytes) x ∷ heard (opened in_bytes) x ∷ heard (opened in_bytes) x ∷ heard (opened in_bytes) x ∷ []
 
 edge1 : (keyed (new_key 7 1) ≡ each (Ok Stale))
@@ -109,14 +109,14 @@ unfolding keyed
 edge1 = (refl, refl, refl)
 
 -- (2) "Window 8: 8 Applied, then 1 and 0 Credit"; credited is credit under the runner's own key
-credited : Runner → Pool → ℕ → Hearing
+credited : Runner → Pool → ℕ → After Receipt
 unfolding opened Calls.credit Streams.credit_answer Streams.credit_in Streams.credit_next
 credited r p units = Calls.credit r own p units
 
 abbrev full : Runner
 full = (credited (opened in_bytes) Stdout 8).runner
 
-edge2 : ((credited (opened in_bytes) Stdout 8).received ≡ Ok Applied)
+edge2 : ((credited (opened in_bytes) Stdout 8).answer ≡ Ok Applied)
     × (credited full Stdout 1 ≡ heard full (Err Refusal.Credit))
     × (credited full Stdout 0 ≡ heard full (Err Refusal.Credit))
 unfolding credited
@@ -142,7 +142,7 @@ unfolding granted Calls.input_closed Life.close_runner_input
 closed = (Calls.input_closed (granted in_bytes)).runner
 
 edge5 : (closed.input.window.open ≡ 8)
-    × ((sent closed abcd).hearing.received ≡ Ok Late)
+    × ((sent closed abcd).hearing.answer ≡ Ok Late)
     × ((sent closed abcd).hearing.runner.input.window.open ≡ 4)
 unfolding closed sent
 edge5 = (refl, refl, refl)
@@ -186,7 +186,7 @@ edge9 = (refl, refl)
 -- (10) "Chunk 4, Frames 2: 16 bytes and 2 lengths do, 15 give 11"; so does one length
 opened_with : (bytes lengths : ℕ) → Result (Unit {0}) Refusal
 unfolding Calls.«open» bytes_with
-opened_with bytes lengths = (Calls.«open» own in_frames timers 0 (zeros bytes) (zeros lengths)).reply
+opened_with bytes lengths = (Calls.«open» own in_frames timers 0 (zeros bytes) (zeros lengths)).answer
 
 edge10 : (opened_with 16 2 ≡ Ok tt)
     × (opened_with 15 2 ≡ Err Refusal.StoreShort)
@@ -228,10 +228,10 @@ abbrev beyond : Runner
 beyond = overwritten.noting.runner
 
 foreign : (frame44.lengths ≡ 4 ∷ 4 ∷ [])
-    × (overwritten.noting.reply ≡ Ok tt)
+    × (overwritten.noting.answer ≡ Ok tt)
     × (beyond.input.inbox.frames ≡ 1)
     × (beyond.input.inbox.length ≡ 6)
-    × (Calls.tick beyond 0 ≡ record { runner = beyond; reply = Err Refusal.StateOutOfRange })
+    × (Calls.tick beyond 0 ≡ record { runner = beyond; answer = Err Refusal.StateOutOfRange })
     × (number Refusal.StateOutOfRange ≡ 12)
 unfolding written Calls.tick Range.stop
 foreign = (refl, refl, refl, refl, refl, refl)
@@ -260,7 +260,7 @@ on_channel = limits_for 4 (bytes_window 8) (bytes_window 8) true
 
 wrotes : (bytes : ℕ) → (Result (Option (Message × ℕ)) Refusal)
 unfolding opened Calls.next_message Message.choose order if_else Message.effect Message.said_for Channel.write_record Channel.admitted Channel.admitted_write Channel.roomy_write Channel.sent Channel.asked Channel.is_left Channel.told Channel.wrote Channel.sent_as on_channel
-wrotes bytes = (Channel.write_record (opened on_channel) 5 (zeros 16) (zeros bytes)).writing.wrote
+wrotes bytes = (Channel.write_record (opened on_channel) 5 (zeros 16) (zeros bytes)).writing.answer
 
 short : (wrotes 42 ≡ Err Refusal.BufferShort) × (wrotes 43 ≡ (Ok (Some (Messages.Credit 8, 9)))) × (number Refusal.BufferShort ≡ 25)
 unfolding wrotes

@@ -26,8 +26,8 @@ tells r channel store b = told (asked r store b).saying (has_ended r) channel (p
 pub data Writes (r : Runner) (channel : ℕ) (store b : List ℕ) : Bool → WriteAfter → Type 0 where
   elsewhere : is_channel r.limits ≡ false → Writes r channel store b false (write_after (unwritten NotAChannel r) b)
   short : is_channel r.limits ≡ true → length b < room r.limits → Writes r channel store b false (write_after (unwritten BufferShort r) b)
-  left : is_left (asked r store b).saying.said ≡ true → Writes r channel store b true (write_after (unwritten UntoldStatus r) b)
-  taken : is_left (asked r store b).saying.said ≡ false → room r.limits ≤ length b → Writes r channel store b true (tells r channel store b)
+  left : is_left (asked r store b).saying.answer ≡ true → Writes r channel store b true (write_after (unwritten UntoldStatus r) b)
+  taken : is_left (asked r store b).saying.answer ≡ false → room r.limits ≤ length b → Writes r channel store b true (tells r channel store b)
 
 -- ---- a Terminal that is left
 
@@ -40,7 +40,7 @@ number_of (Err x) = number x
 -- nothing changed, and next_message says it into a buffer of any length
 pub record Still (r : Runner) (channel : ℕ) (store b : List ℕ) : Type 0 where
   pub kept : write_record r channel store b ≡ write_after (unwritten UntoldStatus r) b
-  pub said : (part : List ℕ) → (Calls.next_message r store part).saying.said ≡ (Ok (Some (Message.Terminal (outcome_of r))))
+  pub said : (part : List ℕ) → (Calls.next_message r store part).saying.answer ≡ (Ok (Some (Message.Terminal (outcome_of r))))
   pub untold : is_untold (outcome_of r).status ≡ true
 
 -- ---- a Terminal that is told

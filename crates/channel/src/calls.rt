@@ -1,10 +1,8 @@
 // The two record calls on a runner: a record read is the call that it stands for, a record written is the next message.
-ghost use Rattle.std.specs.Prelude.{◌≡◌, ◌≤◌, length};
+ghost use Rattle.std.specs.Prelude.{◌≡◌, ◌≤◌, length, Ok, Err, MatchResult, IsOkAnd};
 ghost use Rattle.channel.specs.Calls.{
   is_channel,
   read_after,
-  heard,
-  noted,
   made,
   read_record,
   write_after,
@@ -26,22 +24,10 @@ ghost use Rattle.codec.specs.Codec.{start, read};
 use codec::Record;
 use exec::{Limits, Pool, Receipt, Refusal, Status, Stream, Unit};
 use inbox::need;
-use runner::answer::{Hearing, Message, Noting};
+use runner::answer::{After, Message};
 use runner::runner::Runner;
 
-#[derive(Clone, Copy)]
-pub struct Reading {
-    pub runner: Runner,
-    pub answer: Result<Option<Receipt>, Refusal>,
-}
-
-#[derive(Clone, Copy)]
-pub struct Writing {
-    pub runner: Runner,
-    pub wrote: Result<Option<(Message, usize)>, Refusal>,
-}
-
-// What a message is sent as.
+// What a message is sent as: one of three cases of a `match`, so that an Option round the other two would only nest it.
 #[derive(Clone, Copy, Debug, PartialEq, Eq)]
 pub enum Sending {
     Nothing,
@@ -59,7 +45,8 @@ fn is_channel(limits: Limits) -> bool
     limits.shared && limits.input.unit == Unit::Bytes && limits.output.unit == Unit::Bytes
 }
 
-// The runner's own limits tell 12 and 10; `enough` is whether the lent stores do.
+// The runner's own limits tell 12 and 10; `enough` is whether the lent stores do. (Both are tests of a runner that the call behind
+// them takes away.)
 #[tactic(auto, unfolding(crate::specs::CallLaws::admitted_by, crate::specs::CallLaws::admitted_limits))]
 fn admit(limits: Result<Limits, Refusal>, enough: bool) -> Result<(), Refusal>
     ensures { result ≡ admitted_by limits enough }
@@ -85,7 +72,7 @@ pub fn read_record(
     bytes: &[u8],
     store: &mut [u8],
     lengths: &mut [u32],
-) -> Reading
+) -> After<Option<Receipt>>
     ensures { read_after result store.new lengths.new ≡ read_record runner at channel bytes.now store.old lengths.old }
 {
     let limits = runner.limits;
@@ -93,7 +80,7 @@ pub fn read_record(
         & (need::length_need(limits) <= lengths.len());
     match accept(runner.limits(), enough, bytes, channel) {
         Ok(rec) => make(rec, runner, at, bytes, store, lengths),
-        Err(refusal) => Reading {
+        Err(refusal) => After {
             runner,
             answer: Err(refusal),
         },
@@ -123,37 +110,34 @@ fn make(
     bytes: &[u8],
     store: &mut [u8],
     lengths: &mut [u32],
-) -> Reading
+) -> After<Option<Receipt>>
     requires { start rec ≤ length bytes.now }
     ensures { read_after result store.new lengths.new ≡ made rec runner at bytes.now store.old lengths.old }
 {
     match rec {
-        Record::Adjust(units) => heard(runner.credit(runner.key, Pool::Output, units)),
-        Record::Data(_) => heard(runner.input(runner.key, store, lengths, &bytes[9..])),
-        Record::Extended(_) => Reading {
+        Record::Adjust(units) => read_as(runner.credit(runner.key, Pool::Output, units), Some),
+        Record::Data(_) => read_as(runner.input(runner.key, store, lengths, &bytes[9..]), Some),
+        Record::Extended(_) => After {
             runner,
             answer: Err(Refusal::NotInbound),
         },
-        Record::Eof => heard(runner.end_input(runner.key)),
-        Record::Close => noted(runner.disconnect(at)),
+        Record::Eof => read_as(runner.end_input(runner.key), Some),
+        Record::Close => read_as(runner.disconnect(at), |()| None),
     }
 }
 
-fn heard(hearing: Hearing) -> Reading
-    ensures { result ≡ heard hearing }
+// A record's answer is that of the call that it made: its receipt, if the call has one.
+fn read_as<T, F: FnOnce(T) -> Option<Receipt>>(
+    called: After<T>,
+    receipt: F,
+) -> After<Option<Receipt>>
+    requires { F.IsAlwaysCallable receipt }
+    ensures runner { result.runner ≡ called.runner }
+    ensures answer { MatchResult called.answer (λ x. IsOkAnd result.answer (F.post receipt x)) (λ e. result.answer ≡ Err e) }
 {
-    Reading {
-        runner: hearing.runner,
-        answer: hearing.received.map(Some),
-    }
-}
-
-fn noted(noting: Noting) -> Reading
-    ensures { result ≡ noted noting }
-{
-    Reading {
-        runner: noting.runner,
-        answer: noting.reply.map(|()| None),
+    After {
+        runner: called.runner,
+        answer: called.answer.map(receipt),
     }
 }
 
@@ -162,7 +146,12 @@ fn noted(noting: Noting) -> Reading
 // Takes the next message, and leaves its record for the channel at the buffer's start. A buffer below chunk + 13 bytes, or
 // below 43, is refused before a message is taken; so is a Terminal whose status no request tells, which next_message still gives.
 #[tactic(auto, unfolding(crate::specs::Calls::write_record, crate::specs::CallLaws::ready_write), using(crate::proofs::Steps::admitted_by_lem, crate::specs::CallLaws::write_by, crate::specs::CallLaws::ready_room))]
-pub fn write_record(runner: Runner, channel: u32, store: &[u8], buffer: &mut [u8]) -> Writing
+pub fn write_record(
+    runner: Runner,
+    channel: u32,
+    store: &[u8],
+    buffer: &mut [u8],
+) -> After<Option<(Message, usize)>>
     ensures { write_after result buffer.new ≡ write_record runner channel store.now buffer.old }
 {
     let limits = runner.limits;
@@ -170,9 +159,9 @@ pub fn write_record(runner: Runner, channel: u32, store: &[u8], buffer: &mut [u8
     let roomy = room(limits) <= buffer.len();
     match ready(runner.limits(), enough, roomy) {
         Ok(()) => send(runner, channel, store, buffer),
-        Err(refusal) => Writing {
+        Err(refusal) => After {
             runner,
-            wrote: Err(refusal),
+            answer: Err(refusal),
         },
     }
 }
@@ -198,22 +187,27 @@ fn room(limits: Limits) -> usize
 
 // The message is asked for in the buffer's part from byte 13, exactly chunk long, so that either header fits before it. Where
 // it is left, the runner is handed back as it was given.
-fn send(runner: Runner, channel: u32, store: &[u8], buffer: &mut [u8]) -> Writing
+fn send(
+    runner: Runner,
+    channel: u32,
+    store: &[u8],
+    buffer: &mut [u8],
+) -> After<Option<(Message, usize)>>
     requires { room runner.limits ≤ length buffer.old }
     ensures { write_after result buffer.new ≡ sent runner channel store.now buffer.old }
 {
     let ended = has_ended(runner);
     let end = 13 + runner.limits.chunk as usize;
     let saying = runner.next_message(store, &mut buffer[13..end]);
-    if is_left(saying.said) {
-        return Writing {
+    if is_left(saying.answer) {
+        return After {
             runner,
-            wrote: Err(Refusal::UntoldStatus),
+            answer: Err(Refusal::UntoldStatus),
         };
     }
-    Writing {
+    After {
         runner: saying.runner,
-        wrote: tell(saying.said, ended, channel, buffer),
+        answer: tell(saying.answer, ended, channel, buffer),
     }
 }
 
@@ -248,7 +242,7 @@ fn tell(
         return Ok(None);
     };
     let out = sent_as(ended, message);
-    let n = lay_out(out, channel, buffer);
+    let n = lay_out(out, channel, buffer)?;
     Ok(Some((message, n)))
 }
 
@@ -276,16 +270,15 @@ fn output_record(stream: Stream, n: u32) -> Record
     }
 }
 
-// Lays what is sent at the buffer's start, and returns how many bytes of it that has.
+// Lays what is sent at the buffer's start, and returns how many bytes of it that has. There is room, so that it is not refused.
 #[tactic(auto, unfolding(crate::specs::Calls::sent_buffer, crate::specs::CallLaws::Roomy, codec::specs::Codec::lay, exits::specs::Exit::close, exits::specs::Exit::closed))]
-fn lay_out(out: Sending, channel: u32, buffer: &mut [u8]) -> usize
+fn lay_out(out: Sending, channel: u32, buffer: &mut [u8]) -> Result<usize, Refusal>
     requires { Roomy out (length buffer.old) }
-    ensures { (result ≡ length_of channel out) × (buffer.new ≡ sent_buffer channel out buffer.old) }
+    ensures { (result ≡ Ok (length_of channel out)) × (buffer.new ≡ sent_buffer channel out buffer.old) }
 {
-    // There is room, so that neither is refused.
     match out {
-        Sending::Nothing => 0,
-        Sending::Record(rec) => codec::lay(channel, rec, buffer).unwrap_or(0),
-        Sending::Ending(status) => exits::close(channel, status, buffer).unwrap_or(0),
+        Sending::Nothing => Ok(0),
+        Sending::Record(rec) => codec::lay(channel, rec, buffer),
+        Sending::Ending(status) => exits::close(channel, status, buffer),
     }
 }

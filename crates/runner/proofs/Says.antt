@@ -23,13 +23,13 @@ module _ (r : Runner) (store buffer : List ℕ) (good : Bool) (c : Choice) (hc :
       by false h s = absurd (false≢true s)
 
   pub message_is : (r' : Runner) (s : Result (Option Message) Refusal) (buffer' : List ℕ) → stop r (bytes_do r.limits store) ≡ stop_if good r → s ≡ answer_of good c r
-      → say_after r' buffer' ≡ say c r store buffer → message_after (record { runner = r'; said = s }) buffer' ≡ next_message r store buffer
+      → say_after r' buffer' ≡ say c r store buffer → message_after (record { runner = r'; answer = s }) buffer' ≡ next_message r store buffer
   unfolding next_message say effect buffer_after stop_if
   message_is r' s buffer' g hs e =
       rw (ap (λ (a : SayAfter). a.runner) e, ap (λ (a : SayAfter). a.buffer) e, hs, hc, g) (by good)
     where
       by : (good : Bool)
-          → message_after (record { runner = effect (choice_of good r (length buffer)) r; said = answer_of good (choice_of good r (length buffer)) r })
+          → message_after (record { runner = effect (choice_of good r (length buffer)) r; answer = answer_of good (choice_of good r (length buffer)) r })
           (buffer_after (choice_of good r (length buffer)) r store buffer)
           ≡ message_by (stop_if good r) r store buffer
       by true = refl

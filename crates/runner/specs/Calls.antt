@@ -1,11 +1,13 @@
 -- The calls, each whole: refusals 12, 10 and 11 first, which change nothing, and then what the call does. One definition a
 -- call, named after it: its answer, the next state and every lent list that it writes.
-use Rattle.std.specs.Prelude.{ℕ, ◌≡◌, Bool, true, ◌&&◌, List, [], length, Option, Result, Some, None, Ok, Err}
+use Rattle.std.specs.Prelude.{ℕ, ◌≡◌, Bool, true, ◌&&◌, List, length, Option, Result, Some, None, Ok, Err}
 use Rattle.exec.specs.declared.Admission.{Admission}
 use Rattle.runner.specs.declared.answer.Request.{Request}
 use Rattle.exec.specs.declared.LaunchFailure.{LaunchFailure}
 use Rattle.exec.specs.declared.Status.{Status}
 use Rattle.exec.specs.declared.Receipt.{Receipt}
+use Rattle.exec.specs.declared.Admission.TheVariants.{Own, Stale}
+use Rattle.exec.specs.declared.Receipt.TheVariants.{Stale}
 use denote.Ref.{Bor}
 use Rattle.exec.specs.declared.Refusal.{Refusal}
 use Rattle.exec.specs.declared.Cause.{Cause}
@@ -17,15 +19,11 @@ use Rattle.exec.specs.declared.Stream.{Stream}
 use Rattle.exec.specs.declared.Timers.{Timers}
 use Rattle.exec.specs.Key.{admits}
 use Rattle.exec.specs.Limits.{output_pool, no_limits}
-use Rattle.exec.specs.Refusal.{number}
 use Rattle.inbox.specs.Need.{byte_need}
 use Rattle.lifecycle.specs.Life.{is_requested}
-use Rattle.runner.specs.declared.answer.Asking.{Asking}
-use Rattle.runner.specs.declared.answer.Hearing.{Hearing}
-use Rattle.runner.specs.declared.answer.Noting.{Noting}
+use Rattle.runner.specs.declared.answer.After.{After}
 use Rattle.choice.specs.declared.Choice.{Choice}
 use Rattle.runner.specs.declared.runner.Runner.{Runner}
-use Rattle.runner.specs.declared.streams.Accounting.{Accounting}
 use Rattle.runner.specs.Life.{close_runner_input, cancel_answer, cancel_next, launched_next, exited_next, settled_next, detach_next, ticked, deadline_of}
 use Rattle.runner.specs.Message.{choose, effect, buffer_after, said_for, MessageAfter, message_after, wish, wish_effect}
 use Rattle.runner.specs.Range.{bytes_do, lengths_do, stop, open_stop, fresh}
@@ -34,18 +32,29 @@ use Rattle.runner.specs.Streams.{OutputAfter, output_after, output_took, InputAf
 
 -- ---- answers: what a call gives that meets no stop, or the refusal, which leaves the runner as it was
 
-abbrev pub noting : Result (Unit {0}) Refusal → (next r : Runner) → Noting
-noting (Ok tt) next r = record { runner = next; reply = (Ok tt) }
-noting (Err x) next r = record { runner = r; reply = Err x }
+abbrev pub calling : {T : Type 0} → Result (Unit {0}) Refusal → Result T Refusal → (next r : Runner) → After T
+calling (Ok tt) answer next r = record { runner = next; answer = answer }
+calling (Err x) answer next r = record { runner = r; answer = Err x }
 
-abbrev pub hearing : Result (Unit {0}) Refusal → Result Receipt Refusal → (next r : Runner) → Hearing
-hearing (Ok tt) received next r = record { runner = next; received = received }
-hearing (Err x) received next r = record { runner = r; received = Err x }
+-- the same of a call with no result
+abbrev pub noting : Result (Unit {0}) Refusal → (next r : Runner) → After (Unit {0})
+noting met next r = calling met (Ok tt) next r
 
--- the same of what a call does, where Does says which runner it may leave
-abbrev pub Notes : (Does : Runner → Type 0) → Result (Unit {0}) Refusal → Runner → Noting → Type 0
-Notes Does (Ok tt) r n = Does n.runner × (n.reply ≡ Ok tt)
-Notes Does (Err x) r n = n ≡ record { runner = r; reply = Err x }
+-- the same, where Does says what a call may leave and answer
+abbrev pub Called : {T : Type 0} → (Does : After T → Type 0) → Result (Unit {0}) Refusal → Runner → After T → Type 0
+Called Does (Ok tt) r a = Does a
+Called Does (Err x) r a = a ≡ record { runner = r; answer = Err x }
+
+-- of a message of the peer's, where Does says it of the execution's own key: a stale one, or a wrong one, leaves the runner
+abbrev pub Hears : (Does : After Receipt → Type 0) → Result Admission Refusal → Runner → After Receipt → Type 0
+Hears Does (Ok Own) r a = Does a
+Hears Does (Ok Stale) r a = a ≡ record { runner = r; answer = Ok Stale }
+Hears Does (Err x) r a = a ≡ record { runner = r; answer = Err x }
+
+-- of a call with no result, where Does says which runner it may leave
+abbrev pub Notes : (Does : Runner → Type 0) → Result (Unit {0}) Refusal → Runner → After (Unit {0}) → Type 0
+Notes Does (Ok tt) r n = Does n.runner × (n.answer ≡ Ok tt)
+Notes Does (Err x) r n = n ≡ record { runner = r; answer = Err x }
 
 -- what a call that changes nothing answers: its value, unless it meets a refusal
 abbrev pub unless : {T : Type 0} → Result (Unit {0}) Refusal → T → Result T Refusal
@@ -55,11 +64,11 @@ unless (Err x) value = Err x
 -- ---- the calls, in the Rust's order
 
 -- a refused open hands back a runner without limits, so that every call on it is refused by 10
-abbrev pub open_by : Result (Unit {0}) Refusal → Key → Limits → Timers → ℕ → Noting
-open_by (Ok tt) k l t now = record { runner = fresh k l t now; reply = (Ok tt) }
-open_by (Err x) k l t now = record { runner = fresh k no_limits t now; reply = Err x }
+abbrev pub open_by : Result (Unit {0}) Refusal → Key → Limits → Timers → ℕ → After (Unit {0})
+open_by (Ok tt) k l t now = record { runner = fresh k l t now; answer = (Ok tt) }
+open_by (Err x) k l t now = record { runner = fresh k no_limits t now; answer = Err x }
 
-unfoldable pub «open» : Key → Limits → Timers → ℕ → (bytes lengths : List ℕ) → Noting
+unfoldable pub «open» : Key → Limits → Timers → ℕ → (bytes lengths : List ℕ) → After (Unit {0})
 «open» k l t now bytes lengths = open_by (open_stop l (bytes_do l bytes && lengths_do l lengths)) k l t now
 
 unfoldable pub key : Runner → Result Key Refusal
@@ -68,15 +77,11 @@ key r = unless (stop r true) r.key
 unfoldable pub limits : Runner → Result Limits Refusal
 limits r = unless (stop r true) r.limits
 
-unfoldable pub credit : Runner → Key → Pool → ℕ → Hearing
+unfoldable pub credit : Runner → Key → Pool → ℕ → After Receipt
 credit r k p units =
-    hearing (stop r true)
+    calling (stop r true)
     (credit_answer (admits r.key k) (output_pool r.limits.shared p) r units)
     (credit_next (admits r.key k) (output_pool r.limits.shared p) r units) r
-
--- what the code's inner functions hand back of it: the accounts, and the answer
-abbrev pub accounting_of : Hearing → Accounting
-accounting_of h = record { credits = h.runner.credits; received = h.received }
 
 -- the stores that input is lent do
 abbrev pub stores_do : Runner → (store lengths : List ℕ) → Bool
@@ -85,19 +90,19 @@ stores_do r store lengths = bytes_do r.limits store && lengths_do r.limits lengt
 abbrev pub input_by : Result (Unit {0}) Refusal → Result Admission Refusal → Runner → (bytes store lengths : List ℕ) → InputAfter
 input_by (Ok tt) a r bytes store lengths = received a r bytes store lengths
 input_by (Err x) a r bytes store lengths =
-    input_after (record { runner = r; received = Err x }) store lengths
+    input_after (record { runner = r; answer = Err x }) store lengths
 
 unfoldable pub input : Runner → Key → (bytes store lengths : List ℕ) → InputAfter
 input r k bytes store lengths = input_by (stop r (stores_do r store lengths)) (admits r.key k) r bytes store lengths
 
-unfoldable pub end_input : Runner → Key → Hearing
-end_input r k = hearing (stop r true) (end_answer (admits r.key k) r) (end_next (admits r.key k) r) r
+unfoldable pub end_input : Runner → Key → After Receipt
+end_input r k = calling (stop r true) (end_answer (admits r.key k) r) (end_next (admits r.key k) r) r
 
-unfoldable pub cancel : Runner → ℕ → Key → Cause → Hearing
+unfoldable pub cancel : Runner → ℕ → Key → Cause → After Receipt
 cancel r now k cause =
-    hearing (stop r true) (cancel_answer (admits r.key k) r now) (cancel_next (admits r.key k) r now cause) r
+    calling (stop r true) (cancel_answer (admits r.key k) r now) (cancel_next (admits r.key k) r now cause) r
 
-unfoldable pub launched : Runner → Result (Unit {0}) LaunchFailure → Noting
+unfoldable pub launched : Runner → Result (Unit {0}) LaunchFailure → After (Unit {0})
 launched r x = noting (stop r true) (launched_next r x) r
 
 unfoldable pub read_allowance : Runner → Stream → Result ℕ Refusal
@@ -105,21 +110,21 @@ read_allowance r x = unless (stop r true) (read_allowance_of r x)
 
 abbrev pub output_by : Result (Unit {0}) Refusal → Runner → Stream → (bytes store : List ℕ) → OutputAfter
 output_by (Ok tt) r x bytes store = output_took r x bytes store
-output_by (Err z) r x bytes store = output_after (record { runner = r; taken = Err z }) store
+output_by (Err z) r x bytes store = output_after (record { runner = r; answer = Err z }) store
 
 unfoldable pub output : Runner → Stream → (bytes store : List ℕ) → OutputAfter
 output r x bytes store = output_by (stop r (bytes_do r.limits store)) r x bytes store
 
-unfoldable pub discarded : Runner → Stream → ℕ → Noting
+unfoldable pub discarded : Runner → Stream → ℕ → After (Unit {0})
 discarded r x n = noting (stop r true) (discarded_next r x n) r
 
-unfoldable pub output_closed : Runner → Stream → Noting
+unfoldable pub output_closed : Runner → Stream → After (Unit {0})
 output_closed r x = noting (stop r true) (closed_next r x) r
 
-unfoldable pub output_failed : Runner → Stream → Noting
+unfoldable pub output_failed : Runner → Stream → After (Unit {0})
 output_failed r x = noting (stop r true) (failed_next r x) r
 
-unfoldable pub output_hung_up : Runner → Stream → Noting
+unfoldable pub output_hung_up : Runner → Stream → After (Unit {0})
 output_hung_up r x = noting (stop r true) (hung_up_next r x) r
 
 -- a part of the byte store that is lent on, as its bytes
@@ -132,39 +137,39 @@ pending_input r store = unless (stop r (bytes_do r.limits store)) (pending_of r 
 
 -- what input_written leaves: its answer with the state, and the length store
 pub record WrittenAfter : Type 0 where
-  pub noting : Noting
+  pub noting : After (Unit {0})
   pub lengths : List ℕ
 
-abbrev pub written_after : Noting → List ℕ → WrittenAfter
+abbrev pub written_after : After (Unit {0}) → List ℕ → WrittenAfter
 written_after n lengths = record { noting = n; lengths = lengths }
 
 abbrev pub written_by : Result (Unit {0}) Refusal → Runner → ℕ → List ℕ → WrittenAfter
 written_by (Ok tt) r count lengths =
-    written_after (record { runner = written_next r count lengths; reply = (Ok tt) }) (written_lengths r count lengths)
-written_by (Err x) r count lengths = written_after (record { runner = r; reply = Err x }) lengths
+    written_after (record { runner = written_next r count lengths; answer = (Ok tt) }) (written_lengths r count lengths)
+written_by (Err x) r count lengths = written_after (record { runner = r; answer = Err x }) lengths
 
 unfoldable pub input_written : Runner → ℕ → List ℕ → WrittenAfter
 input_written r count lengths = written_by (stop r (lengths_do r.limits lengths)) r count lengths
 
-unfoldable pub input_closed : Runner → Noting
+unfoldable pub input_closed : Runner → After (Unit {0})
 input_closed r = noting (stop r true) (close_runner_input r) r
 
-unfoldable pub exited : Runner → ℕ → Option Status → Noting
+unfoldable pub exited : Runner → ℕ → Option Status → After (Unit {0})
 exited r now status = noting (stop r true) (exited_next r now status) r
 
-unfoldable pub settled : Runner → Settlement → Noting
+unfoldable pub settled : Runner → Settlement → After (Unit {0})
 settled r s = noting (stop r true) (settled_next r s) r
 
-unfoldable pub dropped : Runner → ℕ → Noting
+unfoldable pub dropped : Runner → ℕ → After (Unit {0})
 dropped r now = noting (stop r true) (detach_next r now Cause.Dropped) r
 
-unfoldable pub reset : Runner → ℕ → Noting
+unfoldable pub reset : Runner → ℕ → After (Unit {0})
 reset r now = noting (stop r true) (detach_next r now Cause.Reset) r
 
-unfoldable pub disconnect : Runner → ℕ → Noting
+unfoldable pub disconnect : Runner → ℕ → After (Unit {0})
 disconnect r now = noting (stop r true) (detach_next r now Cause.Disconnected) r
 
-unfoldable pub tick : Runner → ℕ → Noting
+unfoldable pub tick : Runner → ℕ → After (Unit {0})
 tick r now = noting (stop r true) (ticked r now) r
 
 unfoldable pub deadline : Runner → Result (Option ℕ) Refusal
@@ -174,20 +179,20 @@ abbrev pub asked_for : Option Request → Result (Option Request) Refusal
 asked_for None = Ok None
 asked_for (Some q) = (Ok (Some q))
 
-abbrev pub request_by : Result (Unit {0}) Refusal → Runner → Asking
-request_by (Ok tt) r = record { runner = wish_effect (wish r) r; asked = asked_for (wish r) }
-request_by (Err x) r = record { runner = r; asked = Err x }
+abbrev pub request_by : Result (Unit {0}) Refusal → Runner → After (Option Request)
+request_by (Ok tt) r = record { runner = wish_effect (wish r) r; answer = asked_for (wish r) }
+request_by (Err x) r = record { runner = r; answer = Err x }
 
-unfoldable pub next_request : Runner → Asking
+unfoldable pub next_request : Runner → After (Option Request)
 next_request r = request_by (stop r true) r
 
 -- a choice, then its effect and its answer
 abbrev pub chosen_by : Choice → Runner → (store buffer : List ℕ) → MessageAfter
-chosen_by c r store buffer = message_after (record { runner = effect c r; said = said_for c r }) (buffer_after c r store buffer)
+chosen_by c r store buffer = message_after (record { runner = effect c r; answer = said_for c r }) (buffer_after c r store buffer)
 
 abbrev pub message_by : Result (Unit {0}) Refusal → Runner → (store buffer : List ℕ) → MessageAfter
 message_by (Ok tt) r store buffer = chosen_by (choose r (length buffer)) r store buffer
-message_by (Err x) r store buffer = message_after (record { runner = r; said = Err x }) buffer
+message_by (Err x) r store buffer = message_after (record { runner = r; answer = Err x }) buffer
 
 unfoldable pub next_message : Runner → (store buffer : List ℕ) → MessageAfter
 next_message r store buffer = message_by (stop r (bytes_do r.limits store)) r store buffer

@@ -22,7 +22,7 @@ use Rattle.lifecycle.specs.Setters.{set_timeout_at, set_grace_until, set_give_up
 use Rattle.input.specs.Input.{close_input, message_told}
 use Rattle.output.specs.Output.{grace_ended, given_up, abandoned}
 use Rattle.output.specs.Outputs.{each_output, all_closed, any_held, all_delivered}
-use Rattle.runner.specs.declared.answer.Hearing.{Hearing}
+use Rattle.runner.specs.declared.answer.After.{After}
 use Rattle.runner.specs.declared.runner.Runner.{Runner}
 use Rattle.runner.specs.State.{with, with_clocks, with_life, flags_of, out_of}
 
@@ -130,10 +130,10 @@ abbrev pub is_late : Runner → Bool
 is_late r = r.flags.finished || r.clocks.terminated
 
 -- on an execution that has ticked
-unfoldable pub cancelled : Runner → ℕ → Cause → Hearing
+unfoldable pub cancelled : Runner → ℕ → Cause → After Receipt
 cancelled r now cause = record {
   runner = cond (is_late r) r (terminate r now cause);
-  received = cond (is_late r) (Ok Late) (Ok Applied);
+  answer = cond (is_late r) (Ok Late) (Ok Applied);
 }
 
 unfoldable pub cancel_answer : Result Admission Refusal → Runner → ℕ → Result Receipt Refusal

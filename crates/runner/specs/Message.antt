@@ -15,7 +15,7 @@ use Rattle.output.specs.declared.Output.{Output}
 use Rattle.input.specs.Input.{can_grant, granted_in, message_told, close_asked}
 use Rattle.output.specs.Output.{is_done, ended_out, asked_out, sent_out}
 use Rattle.runner.specs.declared.answer.Request.{Request}
-use Rattle.runner.specs.declared.answer.Saying.{Saying}
+use Rattle.runner.specs.declared.answer.After.{After}
 use Rattle.choice.specs.declared.Choice.{Choice}
 use Rattle.runner.specs.declared.runner.Runner.{Runner}
 use Rattle.choice.specs.Order.{order}
@@ -128,10 +128,10 @@ answer_of good c r = cond good (said_for c r) (Err (stopped r))
 
 -- what next_message leaves: its answer with the state, and the buffer
 pub record MessageAfter : Type 0 where
-  pub saying : Saying
+  pub saying : After (Option Message)
   pub buffer : List ℕ
 
-abbrev pub message_after : Saying → List ℕ → MessageAfter
+abbrev pub message_after : After (Option Message) → List ℕ → MessageAfter
 message_after s buffer = record { saying = s; buffer = buffer }
 
 -- ---- requests: ending first, then discarding, closing the input, settling

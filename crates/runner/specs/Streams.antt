@@ -11,8 +11,7 @@ use Rattle.credit.specs.declared.sender.Credit.{Credit}
 use Rattle.credit.specs.Sender.{grantable, grant}
 use Rattle.input.specs.Input as Input
 use Rattle.output.specs.Output.{allowance, takes, keeps, intake, closed_out, failed_out, hung_up, lost_out}
-use Rattle.runner.specs.declared.answer.Hearing.{Hearing}
-use Rattle.runner.specs.declared.answer.Taking.{Taking}
+use Rattle.runner.specs.declared.answer.After.{After}
 use Rattle.runner.specs.declared.runner.Runner.{Runner}
 use Rattle.runner.specs.RangeLaws.{stopped}
 use Rattle.runner.specs.State.{with_input, with_flow, out_of, at, base, credit_at, put_credit, buffered}
@@ -51,16 +50,16 @@ output_store r x bytes store =
 
 -- what output leaves: its answer with the state, and the byte store
 pub record OutputAfter : Type 0 where
-  pub taking : Taking
+  pub taking : After ℕ
   pub bytes : List ℕ
 
-abbrev pub output_after : Taking → List ℕ → OutputAfter
+abbrev pub output_after : After ℕ → List ℕ → OutputAfter
 output_after t store = record { taking = t; bytes = store }
 
 unfoldable pub output_took : Runner → Stream → (bytes store : List ℕ) → OutputAfter
 output_took r x bytes store =
     output_after
-    (record { runner = output_next r x (length bytes); taken = Ok (output_taken r x (length bytes)) })
+    (record { runner = output_next r x (length bytes); answer = Ok (output_taken r x (length bytes)) })
     (output_store r x bytes store)
 
 unfoldable pub read_allowance_of : Runner → Stream → ℕ
@@ -150,17 +149,17 @@ input_lengths a r n lengths = cond (is_taken a r) (Input.receive_lengths r.limit
 
 -- what input leaves: its answer with the state, and both stores
 pub record InputAfter : Type 0 where
-  pub hearing : Hearing
+  pub hearing : After Receipt
   pub bytes : List ℕ
   pub lengths : List ℕ
 
-abbrev pub input_after : Hearing → (store lengths : List ℕ) → InputAfter
+abbrev pub input_after : After Receipt → (store lengths : List ℕ) → InputAfter
 input_after h store lengths = record { hearing = h; bytes = store; lengths = lengths }
 
 unfoldable pub received : Result Admission Refusal → Runner → (bytes store lengths : List ℕ) → InputAfter
 received a r bytes store lengths =
     input_after
-    (record { runner = input_next a r (length bytes); received = input_answer a r (length bytes) })
+    (record { runner = input_next a r (length bytes); answer = input_answer a r (length bytes) })
     (input_store a r bytes store) (input_lengths a r (length bytes) lengths)
 
 -- a grant's reply as the answer to its message

@@ -1,4 +1,4 @@
-// What the calls answer. Where a call changes the state, a struct has the next state beside its answer.
+// What the calls answer. Where a call changes the state, the next state stands beside its answer.
 use crate::runner::Runner;
 use exec::{Cause, Outcome, Receipt, Refusal, Stream};
 
@@ -32,34 +32,9 @@ pub enum Request {
     Settle,
 }
 
-// After a call with no result.
+// The runner after a call, and what it answers.
 #[derive(Clone, Copy)]
-pub struct Noting {
+pub struct After<T> {
     pub runner: Runner,
-    pub reply: Result<(), Refusal>,
-}
-
-// After a message of the peer's.
-#[derive(Clone, Copy)]
-pub struct Hearing {
-    pub runner: Runner,
-    pub received: Result<Receipt, Refusal>,
-}
-
-#[derive(Clone, Copy)]
-pub struct Taking {
-    pub runner: Runner,
-    pub taken: Result<usize, Refusal>,
-}
-
-#[derive(Clone, Copy)]
-pub struct Asking {
-    pub runner: Runner,
-    pub asked: Result<Option<Request>, Refusal>,
-}
-
-#[derive(Clone, Copy)]
-pub struct Saying {
-    pub runner: Runner,
-    pub said: Result<Option<Message>, Refusal>,
+    pub answer: Result<T, Refusal>,
 }

@@ -1,4 +1,5 @@
-// The runner in time: terminations, the timers and what they do, launch, exit and settlement.
+// The runner in time: terminations, the timers and what they do, launch, exit and settlement. A step that is taken only at times
+// tests that by an `if` of its own: it is the plainest form, and each step has a definition to stand beside.
 ghost use Rattle.std.specs.Prelude.{◌≡◌};
 ghost use Rattle.runner.specs.Life.{
   awaits_launch,
@@ -23,8 +24,6 @@ ghost use Rattle.runner.specs.Life.{
   ticked,
   deadline_of,
   cancelled,
-  cancel_answer,
-  cancel_next,
   note_started,
   note_launch,
   launched_next,
@@ -43,7 +42,7 @@ ghost use Rattle.runner.specs.Life.{
   outcome_of,
 };
 
-use crate::answer::Hearing;
+use crate::answer::After;
 use crate::runner::Runner;
 use exec::{
     Admission, Cause, LaunchFailure, Outcome, Receipt, Refusal, Settlement, Status, deadline,
@@ -81,7 +80,7 @@ impl Runner {
     fn end_grace(mut self) -> Runner
         ensures { result ≡ end_grace self }
     {
-        self.clocks = self.clocks.set_grace_until(None);
+        self.clocks.grace_until = None;
         let outputs = each(self.outputs, |output| output.end_grace());
         self.outputs = outputs;
         self
@@ -106,7 +105,7 @@ impl Runner {
     fn abandon_launch(mut self) -> Runner
         ensures { result ≡ abandon_launch self }
     {
-        self.life = self.life.set_settling(Settling::Fenced);
+        self.life.settling = Settling::Fenced;
         self.flags.launch_abandoned = true;
         self
     }
@@ -116,7 +115,7 @@ impl Runner {
     fn abandon_open_streams(mut self) -> Runner
         ensures { result ≡ abandon_open_streams self }
     {
-        self.clocks = self.clocks.set_abandon_at(None);
+        self.clocks.abandon_at = None;
         let outputs = each(self.outputs, |output| output.abandon());
         self.outputs = outputs;
         self
@@ -153,7 +152,7 @@ impl Runner {
         ensures { result ≡ pass_timeout self now }
     {
         if deadline::due(self.clocks.timeout_at, now) {
-            self.clocks = self.clocks.set_timeout_at(None);
+            self.clocks.timeout_at = None;
             return self.terminate(now, Cause::TimedOut);
         }
         self
@@ -192,7 +191,7 @@ impl Runner {
         ensures { result ≡ give_up_unless_clean self }
     {
         if self.is_cleaned_up() {
-            self.clocks = self.clocks.set_give_up_at(None);
+            self.clocks.give_up_at = None;
             return self;
         }
         self.give_up()
@@ -277,44 +276,21 @@ impl Runner {
         )
     }
 
-    // The peer's cancellation, by whose its key is.
-    #[tactic(auto, unfolding(crate::specs::Life::cancel_answer, crate::specs::Life::cancel_next, crate::specs::Life::cancelled))]
-    pub(crate) fn cancel_as(
-        self,
-        admission: Result<Admission, Refusal>,
-        now: u64,
-        cause: Cause,
-    ) -> Hearing
-        ensures { result ≡ record { runner = cancel_next admission self now cause; received = cancel_answer admission self now } }
-    {
-        match admission {
-            Ok(Admission::Own) => self.ticked(now).cancel_now(now, cause),
-            Ok(Admission::Stale) => Hearing {
-                runner: self,
-                received: Ok(Receipt::Stale),
-            },
-            Err(refusal) => Hearing {
-                runner: self,
-                received: Err(refusal),
-            },
-        }
-    }
-
-    // The peer's cancellation, of a runner that has ticked.
+    // The peer's cancellation. The tick comes first, also where the answer is Late.
     #[tactic(auto, unfolding(crate::specs::Life::cancelled))]
-    pub(crate) fn cancel_now(self, now: u64, cause: Cause) -> Hearing
-        ensures { result ≡ cancelled self now cause }
+    pub(crate) fn cancel_now(self, now: u64, cause: Cause) -> After<Receipt>
+        ensures { result ≡ cancelled (ticked self now) now cause }
     {
-        if self.flags.finished | self.clocks.terminated {
-            return Hearing {
-                runner: self,
-                received: Ok(Receipt::Late),
+        let runner = self.ticked(now);
+        if runner.flags.finished | runner.clocks.terminated {
+            return After {
+                runner,
+                answer: Ok(Receipt::Late),
             };
         }
-        let runner = self.terminate(now, cause);
-        Hearing {
-            runner,
-            received: Ok(Receipt::Applied),
+        After {
+            runner: runner.terminate(now, cause),
+            answer: Ok(Receipt::Applied),
         }
     }
 
@@ -336,7 +312,7 @@ impl Runner {
         match report {
             Ok(()) => self.note_started(),
             Err(failure) => {
-                self.life = self.life.set_launch(Launch::Failed(failure));
+                self.life.launch = Launch::Failed(failure);
                 self.close_input()
             }
         }
@@ -346,7 +322,7 @@ impl Runner {
     fn note_started(mut self) -> Runner
         ensures { result ≡ note_started self }
     {
-        self.life = self.life.set_launch(Launch::Started);
+        self.life.launch = Launch::Started;
         self.flags.started_message = !self.flags.detached;
         self
     }
@@ -383,9 +359,7 @@ impl Runner {
         ensures { result ≡ note_exit self now status }
     {
         let settlement = deadline::after(now, self.timers.settlement);
-        self.clocks = self
-            .clocks
-            .set_abandon_at(deadline::then(settlement, self.timers.grace));
+        self.clocks.abandon_at = deadline::then(settlement, self.timers.grace);
         self.life = self.life.end_with(status, settlement);
         self.flags.settle_request = true;
         self.close_input()
@@ -395,7 +369,7 @@ impl Runner {
     fn clear_timeout(mut self) -> Runner
         ensures { result ≡ timeout_cleared self }
     {
-        self.clocks = self.clocks.set_timeout_at(None);
+        self.clocks.timeout_at = None;
         self
     }
 
@@ -408,7 +382,7 @@ impl Runner {
         self
     }
 
-    // Detaches the runner from the peer.
+    // Detaches the runner from the peer. (`now` and `cause` are a call's own words.)
     #[tactic(auto, unfolding(crate::specs::Life::detach_next))]
     pub(crate) fn detach(self, now: u64, cause: Cause) -> Runner
         ensures { result ≡ detach_next self now cause }

@@ -37,8 +37,8 @@ impl Runner {
     {
         let output = output_in(stream, self.outputs);
         let credit = credit_at(self.limits.pool_of(stream), self.credits);
-        let queued = ring::smaller(output.queued as usize, self.limits.chunk as usize);
-        let wanted = ring::smaller(queued, buffer);
+        let queued = (output.queued as usize).min(self.limits.chunk as usize);
+        let wanted = queued.min(buffer);
         credit.sendable(self.limits.output.unit, wanted as u32)
     }
 
@@ -151,7 +151,7 @@ impl Runner {
                 let sent = self.sent(stream, n, store, buffer);
                 self.credits = paid;
                 self.outputs = sent;
-                self.turn = turn_after(stream);
+                self.turn = stream.following().index() as u8;
                 self.flags.credited = false;
             }
             Choice::Terminal => {
@@ -168,9 +168,9 @@ impl Runner {
         ensures { result ≡ (output_paid stream n self).credits }
     {
         let pool = self.limits.pool_of(stream);
-        let account = credit_at(pool, self.credits);
-        let spent = account.spend_in(self.limits.output.cost(n));
-        put_credit(pool, spent, self.credits)
+        let mut account = credit_at(pool, self.credits);
+        account.spend(self.limits.output.cost(n));
+        put_credit(pool, account, self.credits)
     }
 
     // The outputs once n bytes of a stream's queue are moved to the start of the buffer.
@@ -232,15 +232,5 @@ impl Runner {
                 self
             }
         }
-    }
-}
-
-// The position of the stream that has its turn after this one.
-fn turn_after(stream: Stream) -> u8
-    ensures { result ≡ index (following stream) }
-{
-    match stream {
-        Stream::Stdout => 1,
-        Stream::Stderr => 0,
     }
 }

@@ -3,7 +3,7 @@ ghost use Rattle.std.specs.Prelude.{◌≡◌, cond, [], ◌∷◌};
 ghost use Rattle.runner.specs.State.{base, credit_at, put_credit, credits_fit};
 
 use credit::sender::Credit;
-use exec::Stream;
+use exec::{Stream, pair};
 
 // Where a stream's ring begins in the byte store.
 pub(crate) fn ring_base(stream: Stream, chunk: u32) -> usize
@@ -15,15 +15,13 @@ pub(crate) fn ring_base(stream: Stream, chunk: u32) -> usize
 pub(crate) fn credit_at(index: usize, credits: [Credit; 2]) -> Credit
     ensures { result ≡ credit_at index credits }
 {
-    if index == 0 { credits[0] } else { credits[1] }
+    pair::at(index, credits)
 }
 
 pub(crate) fn put_credit(index: usize, credit: Credit, credits: [Credit; 2]) -> [Credit; 2]
     ensures { result ≡ put_credit index credit credits }
 {
-    let first = if index == 0 { credit } else { credits[0] };
-    let second = if index == 0 { credits[1] } else { credit };
-    [first, second]
+    pair::put(index, credit, credits)
 }
 
 // Whether no account has more than its window. It takes the accounts and not their array, which would be copied whole.

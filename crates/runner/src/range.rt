@@ -3,12 +3,13 @@ ghost use Rattle.std.specs.Prelude.{◌≡◌, leb, length, true};
 ghost use Rattle.inbox.specs.Need.{byte_need, length_need};
 ghost use Rattle.runner.specs.Range.{in_range, stop};
 ghost use Rattle.runner.specs.RangeLaws.{unopened, stopped, stop_if, stands, agrees};
-ghost use Rattle.runner.specs.Calls.{Notes};
+ghost use Rattle.exec.specs.Key.{admits};
+ghost use Rattle.runner.specs.Calls.{Called, Hears, Notes};
 
-use crate::answer::{Hearing, Noting};
+use crate::answer::After;
 use crate::pairs::credits_fit;
 use crate::runner::Runner;
-use exec::{Limits, Refusal};
+use exec::{Admission, Key, Limits, Receipt, Refusal};
 
 // Whether a byte store of so many bytes does.
 pub(crate) fn bytes_do(limits: Limits, bytes: usize) -> bool
@@ -97,7 +98,8 @@ impl Runner {
         Err(self.stopped())
     }
 
-    // The reply of a call with no result, given whether it meets none of the three.
+    // The same, given whether it meets none of the three: of a call that changes the runner in place. `answer` and `meets` test that
+    // themselves, as a `reply` with more callers is no part of each (a tick takes 160 instructions so, and 218 by `?`).
     #[tactic(auto, unfolding(crate::specs::RangeLaws::stop_if))]
     pub(crate) fn reply(self, good: bool) -> Result<(), Refusal>
         ensures { result ≡ stop_if good self }
@@ -108,20 +110,50 @@ impl Runner {
         Err(self.stopped())
     }
 
-    // A call with no result: what it does to the runner, unless it is refused.
-    pub(crate) fn note<F: FnOnce(Runner) -> Runner>(self, next: F) -> Noting
+    // A call: what it leaves and answers, unless it is refused.
+    pub(crate) fn call<T, F: FnOnce(Runner) -> After<T>>(self, next: F) -> After<T>
+        requires { F.IsAlwaysCallable next }
+        ensures { Called (F.post next self) (stop self true) self result }
+    {
+        match self.check(true) {
+            Ok(()) => next(self),
+            Err(refusal) => After {
+                runner: self,
+                answer: Err(refusal),
+            },
+        }
+    }
+
+    // A call with no result: what it does to the runner.
+    pub(crate) fn note<F: FnOnce(Runner) -> Runner>(self, next: F) -> After<()>
         requires { F.IsAlwaysCallable next }
         ensures { Notes (F.post next self) (stop self true) self result }
     {
-        match self.check(true) {
-            Ok(()) => Noting {
-                runner: next(self),
-                reply: Ok(()),
+        self.call(|runner| After {
+            runner: next(runner),
+            answer: Ok(()),
+        })
+    }
+
+    // A message of the peer's: what it does under the execution's own key.
+    pub(crate) fn hear<F: FnOnce(Runner) -> After<Receipt>>(
+        self,
+        key: Key,
+        next: F,
+    ) -> After<Receipt>
+        requires { F.IsAlwaysCallable next }
+        ensures { Called (Hears (F.post next self) (admits self.key key) self) (stop self true) self result }
+    {
+        self.call(|runner| match runner.key.admits(key) {
+            Ok(Admission::Own) => next(runner),
+            Ok(Admission::Stale) => After {
+                runner,
+                answer: Ok(Receipt::Stale),
             },
-            Err(refusal) => Noting {
-                runner: self,
-                reply: Err(refusal),
+            Err(refusal) => After {
+                runner,
+                answer: Err(refusal),
             },
-        }
+        })
     }
 }

@@ -39,11 +39,11 @@ ghost use Rattle.runner.specs.Calls.{
   high_water,
   asked_for,
 };
-ghost use Rattle.runner.specs.Message.{message_after, wish_effect};
+ghost use Rattle.runner.specs.Message.{message_after, wish, wish_effect};
 ghost use Rattle.runner.specs.Range.{fresh};
 ghost use Rattle.runner.specs.Streams.{input_after, output_after};
 
-use crate::answer::{Asking, Hearing, Noting, Request, Saying, Taking};
+use crate::answer::{After, Message, Request};
 use crate::pairs::ring_base;
 use crate::range::{bytes_do, lengths_do, unopened};
 use crate::streams::is_dropped;
@@ -75,7 +75,7 @@ pub struct Runner {
     pub outputs: [Output; 2],
     // The credit of the output pools: one a stream, or the first one shared.
     pub credits: [Credit; 2],
-    // The position of the stream whose output is sent first next.
+    // The position of the stream whose output is sent first next: one past the last stream is refusal 12, so it is a number.
     pub turn: u8,
     // The most bytes that were held at once.
     pub high_water: usize,
@@ -92,22 +92,22 @@ impl Runner {
         created: u64,
         store: &[u8],
         lengths: &[u32],
-    ) -> Noting
+    ) -> After<()>
         ensures { result ≡ «open» key limits timers created store.now lengths.now }
     {
         let enough = bytes_do(limits, store.len()) & lengths_do(limits, lengths.len());
         if limits.is_valid() & enough {
             let runner = Runner::fresh(key, limits, timers, created);
-            return Noting {
+            return After {
                 runner,
-                reply: Ok(()),
+                answer: Ok(()),
             };
         }
         let none = Limits::none();
         let runner = Runner::fresh(key, none, timers, created);
-        Noting {
+        After {
             runner,
-            reply: Err(unopened(limits)),
+            answer: Err(unopened(limits)),
         }
     }
 
@@ -154,7 +154,7 @@ impl Runner {
         }
     }
 
-    // The execution's key.
+    // The execution's key. (It and the nine like it below are one test and one question each, as short as a call of a combinator.)
     #[tactic(auto, unfolding(crate::specs::Calls::key))]
     pub fn key(self) -> Result<Key, Refusal>
         ensures { result ≡ key self }
@@ -174,27 +174,32 @@ impl Runner {
 
     // The peer's credit for an output pool, which the limits must have. A grant of no units, or of more than are in flight, is
     // refused.
-    pub fn credit(mut self, key: Key, pool: Pool, units: u32) -> Hearing
+    pub fn credit(mut self, key: Key, pool: Pool, units: u32) -> After<Receipt>
         ensures { result ≡ credit self key pool units }
     {
-        let accounting = self.account_for(key, pool, units);
-        let received = accounting.received;
-        let credits = accounting.credits;
+        let mut credits = self.credits;
+        let answer = self.grant(key, pool, units, &mut credits);
         self.credits = credits;
-        Hearing {
+        After {
             runner: self,
-            received,
+            answer,
         }
     }
 
     // Bytes of the workload's input from the peer. Once the input is closed they are dropped, and the charge stands.
     #[tactic(auto, unfolding(crate::specs::Calls::input, crate::specs::Streams::received, crate::specs::Streams::input_next, crate::specs::Streams::input_answer, crate::specs::Streams::input_store, crate::specs::Streams::input_lengths), using(crate::proofs::Guards::tested_stop))]
-    pub fn input(mut self, key: Key, store: &mut [u8], lengths: &mut [u32], bytes: &[u8]) -> Hearing
+    pub fn input(
+        mut self,
+        key: Key,
+        store: &mut [u8],
+        lengths: &mut [u32],
+        bytes: &[u8],
+    ) -> After<Receipt>
         ensures { input_after result store.new lengths.new ≡ input self key bytes.now store.old lengths.old }
     {
         let enough = bytes_do(self.limits, store.len()) & lengths_do(self.limits, lengths.len());
         let good = self.agrees(enough) & self.stands();
-        let received = if self.hears(good, key) {
+        let answer = if self.hears(good, key) {
             let receiving = self.input.receive(self.limits, store, lengths, bytes);
             self.input = receiving.input;
             self.high_water = self.mark(is_dropped(receiving.received));
@@ -202,44 +207,32 @@ impl Runner {
         } else {
             self.meets(good, key)
         };
-        Hearing {
+        After {
             runner: self,
-            received,
+            answer,
         }
     }
 
     // The end of the workload's input from the peer.
-    #[tactic(auto, unfolding(crate::specs::Calls::end_input))]
-    pub fn end_input(self, key: Key) -> Hearing
+    #[tactic(auto, unfolding(crate::specs::Calls::end_input, crate::specs::Streams::end_answer), using(crate::proofs::Ends::end_stale, crate::proofs::Ends::end_refused))]
+    pub fn end_input(self, key: Key) -> After<Receipt>
         ensures { result ≡ end_input self key }
     {
-        match self.check(true) {
-            Ok(()) => self.end_as(self.key.admits(key)),
-            Err(refusal) => Hearing {
-                runner: self,
-                received: Err(refusal),
-            },
-        }
+        self.hear(key, |runner| runner.end())
     }
 
     // The peer's cancellation: it ends the workload for `cause`, and begins the grace of its pending output. Late once a
     // termination began or the execution ended; nothing at all for a stale key.
-    #[tactic(auto, unfolding(crate::specs::Calls::cancel))]
-    pub fn cancel(self, now: u64, key: Key, cause: Cause) -> Hearing
+    #[tactic(auto, unfolding(crate::specs::Calls::cancel, crate::specs::Life::cancelled, crate::specs::Life::cancel_answer, crate::specs::Life::cancel_next))]
+    pub fn cancel(self, now: u64, key: Key, cause: Cause) -> After<Receipt>
         ensures { result ≡ cancel self now key cause }
     {
-        match self.check(true) {
-            Ok(()) => self.cancel_as(self.key.admits(key), now, cause),
-            Err(refusal) => Hearing {
-                runner: self,
-                received: Err(refusal),
-            },
-        }
+        self.hear(key, |runner| runner.cancel_now(now, cause))
     }
 
     // The workload's launch result. Only the first counts, and none once the runner gave up on it.
     #[tactic(auto, unfolding(crate::specs::Calls::launched))]
-    pub fn launched(self, report: Result<(), LaunchFailure>) -> Noting
+    pub fn launched(self, report: Result<(), LaunchFailure>) -> After<()>
         ensures { result ≡ launched self report }
     {
         self.note(|runner| runner.launch(report))
@@ -257,11 +250,11 @@ impl Runner {
     // Bytes that were read from a stream, in order, of which it takes as many as the allowance lets it. While the stream is
     // discarded it takes all, and drops them.
     #[tactic(auto, unfolding(crate::specs::Calls::output, crate::specs::Streams::output_took, crate::specs::Streams::output_next, crate::specs::Streams::output_taken, crate::specs::Streams::output_store, output::specs::Output::taken_in), using(crate::proofs::Guards::tested_stop))]
-    pub fn output(mut self, stream: Stream, store: &mut [u8], bytes: &[u8]) -> Taking
+    pub fn output(mut self, stream: Stream, store: &mut [u8], bytes: &[u8]) -> After<usize>
         ensures { output_after result store.new ≡ output self stream bytes.now store.old }
     {
         let enough = bytes_do(self.limits, store.len());
-        let taken = if self.agrees(enough) & self.stands() {
+        let answer = if self.agrees(enough) & self.stands() {
             let none = self.keeps_none(stream);
             let output = output_in(stream, self.outputs);
             let base = ring_base(stream, self.limits.chunk);
@@ -273,15 +266,15 @@ impl Runner {
         } else {
             Err(self.stopped())
         };
-        Taking {
+        After {
             runner: self,
-            taken,
+            answer,
         }
     }
 
     // So many bytes of a stream were read and dropped, which truncates it unless there were none.
     #[tactic(auto, unfolding(crate::specs::Calls::discarded, crate::specs::Streams::discarded_next))]
-    pub fn discarded(self, stream: Stream, bytes: usize) -> Noting
+    pub fn discarded(self, stream: Stream, bytes: usize) -> After<()>
         ensures { result ≡ discarded self stream bytes }
     {
         self.note(|runner| runner.at(stream, |output| output.discard(bytes)))
@@ -289,7 +282,7 @@ impl Runner {
 
     // Every writer of a stream closed it.
     #[tactic(auto, unfolding(crate::specs::Calls::output_closed, crate::specs::Streams::closed_next))]
-    pub fn output_closed(self, stream: Stream) -> Noting
+    pub fn output_closed(self, stream: Stream) -> After<()>
         ensures { result ≡ output_closed self stream }
     {
         self.note(|runner| runner.at(stream, |output| output.close()))
@@ -297,7 +290,7 @@ impl Runner {
 
     // Reading a stream failed, which ends and truncates it.
     #[tactic(auto, unfolding(crate::specs::Calls::output_failed, crate::specs::Streams::failed_next))]
-    pub fn output_failed(self, stream: Stream) -> Noting
+    pub fn output_failed(self, stream: Stream) -> After<()>
         ensures { result ≡ output_failed self stream }
     {
         self.note(|runner| runner.at(stream, |output| output.fail()))
@@ -305,7 +298,7 @@ impl Runner {
 
     // Every writer of a stream closed it, though it is not read to its end.
     #[tactic(auto, unfolding(crate::specs::Calls::output_hung_up, crate::specs::Streams::hung_up_next))]
-    pub fn output_hung_up(self, stream: Stream) -> Noting
+    pub fn output_hung_up(self, stream: Stream) -> After<()>
         ensures { result ≡ output_hung_up self stream }
     {
         self.note(|runner| runner.at(stream, |output| output.hang_up()))
@@ -323,24 +316,24 @@ impl Runner {
 
     // The workload took so many bytes of its input.
     #[tactic(auto, unfolding(crate::specs::Calls::input_written, crate::specs::Streams::written_next, crate::specs::Streams::written_lengths, crate::specs::RangeLaws::stop_if), using(crate::proofs::Guards::tested_stop))]
-    pub fn input_written(mut self, lengths: &mut [u32], bytes: usize) -> Noting
+    pub fn input_written(mut self, lengths: &mut [u32], bytes: usize) -> After<()>
         ensures { written_after result lengths.new ≡ input_written self bytes lengths.old }
     {
         let enough = lengths_do(self.limits, lengths.len());
         let good = self.agrees(enough) & self.stands();
-        let reply = self.reply(good);
+        let answer = self.reply(good);
         if good {
             self.input = self.input.written(self.limits, lengths, bytes);
         }
-        Noting {
+        After {
             runner: self,
-            reply,
+            answer,
         }
     }
 
     // The workload's input closed, other than by the runner's request.
     #[tactic(auto, unfolding(crate::specs::Calls::input_closed))]
-    pub fn input_closed(self) -> Noting
+    pub fn input_closed(self) -> After<()>
         ensures { result ≡ input_closed self }
     {
         self.note(|runner| runner.close_input())
@@ -348,7 +341,7 @@ impl Runner {
 
     // The workload's end, with its status unless that is lost. Only the first counts.
     #[tactic(auto, unfolding(crate::specs::Calls::exited))]
-    pub fn exited(self, now: u64, status: Option<Status>) -> Noting
+    pub fn exited(self, now: u64, status: Option<Status>) -> After<()>
         ensures { result ≡ exited self now status }
     {
         self.note(|runner| runner.exit(now, status))
@@ -356,7 +349,7 @@ impl Runner {
 
     // The result of the settlement that was requested.
     #[tactic(auto, unfolding(crate::specs::Calls::settled))]
-    pub fn settled(self, report: Settlement) -> Noting
+    pub fn settled(self, report: Settlement) -> After<()>
         ensures { result ≡ settled self report }
     {
         self.note(|runner| runner.settle(report))
@@ -364,7 +357,7 @@ impl Runner {
 
     // Ends the workload, as the adapter abandons the execution, and detaches the runner from the peer.
     #[tactic(auto, unfolding(crate::specs::Calls::dropped))]
-    pub fn dropped(self, now: u64) -> Noting
+    pub fn dropped(self, now: u64) -> After<()>
         ensures { result ≡ dropped self now }
     {
         self.note(|runner| runner.detach(now, Cause::Dropped))
@@ -372,7 +365,7 @@ impl Runner {
 
     // Ends the workload, as the session with the peer was reset, and detaches the runner from the peer.
     #[tactic(auto, unfolding(crate::specs::Calls::reset))]
-    pub fn reset(self, now: u64) -> Noting
+    pub fn reset(self, now: u64) -> After<()>
         ensures { result ≡ reset self now }
     {
         self.note(|runner| runner.detach(now, Cause::Reset))
@@ -380,7 +373,7 @@ impl Runner {
 
     // Ends the workload, as the transport to the peer was lost, and detaches the runner from the peer.
     #[tactic(auto, unfolding(crate::specs::Calls::disconnect))]
-    pub fn disconnect(self, now: u64) -> Noting
+    pub fn disconnect(self, now: u64) -> After<()>
         ensures { result ≡ disconnect self now }
     {
         self.note(|runner| runner.detach(now, Cause::Disconnected))
@@ -389,11 +382,11 @@ impl Runner {
     // Fires the timers whose instants `now` has reached. They are handed a copy, and what they do not move is left in its place, so
     // that a tick with nothing due copies nothing.
     #[tactic(auto, unfolding(crate::specs::Calls::tick, crate::specs::RangeLaws::stop_if), using(crate::proofs::Guards::tested_stop, crate::proofs::Quiet::ticked_is, crate::proofs::Quiet::in_fire))]
-    pub fn tick(mut self, now: u64) -> Noting
+    pub fn tick(mut self, now: u64) -> After<()>
         ensures { result ≡ tick self now }
     {
         let good = self.agrees(true) & self.stands();
-        let reply = self.reply(good);
+        let answer = self.reply(good);
         if good & self.any_due(now) {
             let before = self;
             let after = before.fire(now);
@@ -406,9 +399,9 @@ impl Runner {
             let outputs = after.outputs;
             self.outputs = outputs;
         }
-        Noting {
+        After {
             runner: self,
-            reply,
+            answer,
         }
     }
 
@@ -423,45 +416,38 @@ impl Runner {
 
     // The next request to apply to the workload, if one waits.
     #[tactic(auto, unfolding(crate::specs::Calls::next_request, crate::specs::Message::wish_effect))]
-    pub fn next_request(self) -> Asking
+    pub fn next_request(self) -> After<Option<Request>>
         ensures { result ≡ next_request self }
     {
-        match self.check(true) {
-            Ok(()) => self.ask(self.wish()),
-            Err(refusal) => Asking {
-                runner: self,
-                asked: Err(refusal),
-            },
-        }
+        self.call(|runner| runner.ask())
     }
 
     #[tactic(auto, unfolding(crate::specs::Message::wish_effect))]
-    fn ask(self, wish: Option<Request>) -> Asking
-        ensures { result ≡ record { runner = wish_effect wish self; asked = asked_for wish } }
+    fn ask(self) -> After<Option<Request>>
+        ensures { result ≡ record { runner = wish_effect (wish self) self; answer = asked_for (wish self) } }
     {
-        match wish {
-            None => Asking {
-                runner: self,
-                asked: Ok(None),
-            },
-            Some(request) => Asking {
-                runner: self.hand(request),
-                asked: Ok(Some(request)),
-            },
+        let wish = self.wish();
+        let runner = match wish {
+            Some(request) => self.hand(request),
+            None => self,
+        };
+        After {
+            runner,
+            answer: Ok(wish),
         }
     }
 
     // The next message to send the peer, if one waits. An output message stands at the start of `buffer`.
     #[tactic(auto, unfolding(crate::specs::Calls::next_message, crate::specs::Message::say), using(crate::proofs::Guards::tested_stop))]
-    pub fn next_message(self, store: &[u8], buffer: &mut [u8]) -> Saying
+    pub fn next_message(self, store: &[u8], buffer: &mut [u8]) -> After<Option<Message>>
         ensures { message_after result buffer.new ≡ next_message self store.now buffer.old }
     {
         let enough = bytes_do(self.limits, store.len());
         let good = self.agrees(enough) & self.stands();
         let choice = self.choice(good, buffer.len());
-        let said = self.answer(good, choice);
+        let answer = self.answer(good, choice);
         let runner = self.say(choice, store, buffer);
-        Saying { runner, said }
+        After { runner, answer }
     }
 
     // Whether the terminal outcome was returned.

@@ -4,7 +4,7 @@ ghost use Rattle.exec.specs.declared.Admission.TheVariants.{Own};
 ghost use Rattle.exec.specs.Key.{admits};
 ghost use Rattle.inbox.specs.Need.{byte_need};
 ghost use Rattle.input.specs.Input.{is_applied};
-ghost use Rattle.runner.specs.Calls.{credit, accounting_of};
+ghost use Rattle.runner.specs.Calls.{credit};
 ghost use Rattle.runner.specs.RangeLaws.{InRange};
 ghost use Rattle.runner.specs.State.{buffered, out_of, with_outputs};
 ghost use Rattle.output.specs.declared.Output.{Output};
@@ -15,28 +15,19 @@ ghost use Rattle.runner.specs.Streams.{
   credit_in,
   credit_answer,
   credit_next,
-  receipt_of,
   end_answer,
   end_next,
   is_taken,
   met,
 };
 
-use crate::answer::Hearing;
+use crate::answer::After;
 use crate::pairs::{credit_at, put_credit};
 use crate::runner::Runner;
 use credit::sender::Credit;
 use exec::{Admission, Key, Pool, Receipt, Refusal, Stream};
 use output::Output;
 use output::outputs::{output_in, put_output};
-
-// What credit moves of the runner, and its answer. Such parts are handed back, and not the runner, as the grant has several ways
-// to end: each would copy the runner, and the caller could not leave it where it is.
-#[derive(Clone, Copy)]
-pub struct Accounting {
-    pub credits: [Credit; 2],
-    pub received: Result<Receipt, Refusal>,
-}
 
 impl Runner {
     // The bytes held now.
@@ -55,8 +46,7 @@ impl Runner {
         if none {
             return self.high_water;
         }
-        let held = self.held();
-        larger(self.high_water, held)
+        self.high_water.max(self.held())
     }
 
     // Whether a message of the peer's does something, given whether it meets none of refusals 12, 10 and 11: its key is the
@@ -64,12 +54,7 @@ impl Runner {
     pub(crate) fn hears(self, good: bool, key: Key) -> bool
         ensures { result ≡ (good && is_taken (admits self.key key) self) }
     {
-        let admission = self.key.admits(key);
-        match admission {
-            Err(_) => false,
-            Ok(Admission::Stale) => false,
-            Ok(Admission::Own) => good & !self.flags.finished,
-        }
+        good & matches!(self.key.admits(key), Ok(Admission::Own)) & !self.flags.finished
     }
 
     // The answer to one that does nothing.
@@ -77,11 +62,9 @@ impl Runner {
         ensures { result ≡ met good (admits self.key key) self }
     {
         if good {
-            let admission = self.key.admits(key);
-            return match admission {
-                Err(refusal) => Err(refusal),
-                Ok(Admission::Stale) => Ok(Receipt::Stale),
-                Ok(Admission::Own) => Ok(Receipt::Late),
+            return match self.key.admits(key)? {
+                Admission::Stale => Ok(Receipt::Stale),
+                Admission::Own => Ok(Receipt::Late),
             };
         }
         Err(self.stopped())
@@ -115,146 +98,71 @@ impl Runner {
         self
     }
 
-    // The peer's credit: what becomes of the accounts.
-    #[tactic(auto, unfolding(crate::specs::Calls::credit), using(crate::proofs::Guards::tested_stop))]
-    pub(crate) fn account_for(self, key: Key, pool: Pool, units: u32) -> Accounting
-        ensures { result ≡ accounting_of (credit self key pool units) }
-    {
-        if self.agrees(true) & self.stands() {
-            return self.grant_as(self.key.admits(key), self.limits.output_pool(pool), units);
-        }
-        let credits = self.credits;
-        let refusal = self.stopped();
-        Accounting {
-            credits,
-            received: Err(refusal),
-        }
-    }
-
-    #[tactic(auto, unfolding(crate::specs::Streams::credit_answer, crate::specs::Streams::credit_next))]
-    fn grant_as(
+    // The peer's credit: its answer, and what becomes of the accounts. They are lent, and not the runner, as the grant has several ways
+    // to end: each would copy the runner, and the caller could not leave it where it is.
+    #[tactic(auto, unfolding(crate::specs::Calls::credit, crate::specs::Streams::credit_answer, crate::specs::Streams::credit_in, crate::specs::Streams::credit_next))]
+    pub(crate) fn grant(
         self,
-        admission: Result<Admission, Refusal>,
-        pool: Result<usize, Refusal>,
+        key: Key,
+        pool: Pool,
         units: u32,
-    ) -> Accounting
-        ensures { result ≡ record { credits = (credit_next admission pool self units).credits; received = credit_answer admission pool self units } }
+        credits: &mut [Credit; 2],
+    ) -> Result<Receipt, Refusal>
+        requires { credits.old ≡ self.credits }
+        ensures { (result ≡ (credit self key pool units).answer) × (credits.new ≡ (credit self key pool units).runner.credits) }
     {
-        let credits = self.credits;
-        match admission {
-            Err(refusal) => Accounting {
-                credits,
-                received: Err(refusal),
-            },
-            Ok(Admission::Stale) => Accounting {
-                credits,
-                received: Ok(Receipt::Stale),
-            },
-            Ok(Admission::Own) => self.grant_in(pool, units),
+        self.check(true)?;
+        match self.key.admits(key)? {
+            Admission::Stale => Ok(Receipt::Stale),
+            Admission::Own => self.grant_in(self.limits.output_pool(pool)?, units, credits),
         }
     }
 
+    // The grant to the account of a pool.
     #[tactic(auto, unfolding(crate::specs::Streams::credit_in, crate::specs::Streams::credit_next))]
-    fn grant_in(self, pool: Result<usize, Refusal>, units: u32) -> Accounting
-        ensures { result ≡ record { credits = (credit_next (Ok Own) pool self units).credits; received = credit_in pool self units } }
+    fn grant_in(
+        self,
+        index: usize,
+        units: u32,
+        credits: &mut [Credit; 2],
+    ) -> Result<Receipt, Refusal>
+        requires { credits.old ≡ self.credits }
+        ensures { (result ≡ credit_in (Ok index) self units) × (credits.new ≡ (credit_next (Ok Own) (Ok index) self units).credits) }
     {
-        let credits = self.credits;
-        match pool {
-            Err(refusal) => Accounting {
-                credits,
-                received: Err(refusal),
-            },
-            Ok(index) => self.grant_at(index, units),
-        }
-    }
-
-    #[tactic(auto, unfolding(crate::specs::Streams::credit_in, crate::specs::Streams::credit_next))]
-    fn grant_at(self, index: usize, units: u32) -> Accounting
-        ensures { result ≡ record { credits = (credit_next (Ok Own) (Ok index) self units).credits; received = credit_in (Ok index) self units } }
-    {
-        let credits = self.credits;
         if self.flags.finished {
-            return Accounting {
-                credits,
-                received: Ok(Receipt::Late),
-            };
+            return Ok(Receipt::Late);
         }
-        let account = credit_at(index, credits);
-        let granting = account.grant_in(units);
+        let mut account = credit_at(index, *credits);
+        let reply = account.grant(units);
         // An account that refused the grant is put back as it was: one way to end is quicker than two.
-        let next = put_credit(index, granting.credit, credits);
-        let received = receipt_of(granting.reply);
-        Accounting {
-            credits: next,
-            received,
-        }
+        *credits = put_credit(index, account, *credits);
+        reply.map(|()| Receipt::Applied)
     }
 
     // The peer's end of the input.
     #[tactic(auto, unfolding(crate::specs::Streams::end_answer, crate::specs::Streams::end_next))]
-    pub(crate) fn end_as(self, admission: Result<Admission, Refusal>) -> Hearing
-        ensures { result ≡ record { runner = end_next admission self; received = end_answer admission self } }
-    {
-        match admission {
-            Err(refusal) => Hearing {
-                runner: self,
-                received: Err(refusal),
-            },
-            Ok(Admission::Stale) => Hearing {
-                runner: self,
-                received: Ok(Receipt::Stale),
-            },
-            Ok(Admission::Own) => self.end(),
-        }
-    }
-
-    #[tactic(auto, unfolding(crate::specs::Streams::end_answer, crate::specs::Streams::end_next))]
-    fn end(mut self) -> Hearing
-        ensures { result ≡ record { runner = end_next (Ok Own) self; received = end_answer (Ok Own) self } }
+    pub(crate) fn end(mut self) -> After<Receipt>
+        ensures { result ≡ record { runner = end_next (Ok Own) self; answer = end_answer (Ok Own) self } }
     {
         if self.flags.finished {
-            return Hearing {
+            return After {
                 runner: self,
-                received: Ok(Receipt::Late),
+                answer: Ok(Receipt::Late),
             };
         }
         let receiving = self.input.end();
         self.input = receiving.input;
-        let received = receiving.received;
-        Hearing {
+        let answer = receiving.received;
+        After {
             runner: self,
-            received,
+            answer,
         }
     }
-}
-
-// The larger of two numbers.
-fn larger(a: usize, b: usize) -> usize
-    ensures { result ≡ max a b }
-{
-    if a < b { b } else { a }
 }
 
 // Whether a message's bytes are not kept, by its answer.
 pub(crate) fn is_dropped(received: Result<Receipt, Refusal>) -> bool
     ensures { result ≡ not (is_applied received) }
 {
-    match received {
-        Err(_) => true,
-        Ok(receipt) => match receipt {
-            Receipt::Applied => false,
-            Receipt::Stale => true,
-            Receipt::Late => true,
-        },
-    }
-}
-
-// A grant's reply as the answer to its message.
-fn receipt_of(reply: Result<(), Refusal>) -> Result<Receipt, Refusal>
-    ensures { result ≡ receipt_of reply }
-{
-    match reply {
-        Ok(()) => Ok(Receipt::Applied),
-        Err(refusal) => Err(refusal),
-    }
+    !matches!(received, Ok(Receipt::Applied))
 }

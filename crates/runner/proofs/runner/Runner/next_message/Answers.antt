@@ -19,4 +19,4 @@ pub returns : goal.returns
 returns c =
     let a = c.args in
     message_is a.self a.store.now a.buffer.now _ _ c.choice-choice.ensures _ _ _
-    (tested a.self c.bytes_do-enough.ensures c.stands.ensures c.agrees.ensures) c.answer-said.ensures c.say-runner.ensures
+    (tested a.self c.bytes_do-enough.ensures c.stands.ensures c.agrees.ensures) c.answer-answer.ensures c.say-runner.ensures
