@@ -37,42 +37,17 @@ use Rattle.account.proofs.Lists.{Sound, sound_next, sound_open, plain_of}
 use Rattle.account.proofs.Five
 use Rattle.account.proofs.Late
 use Rattle.account.proofs.InputRange.{HeldIn}
-use Rattle.account.proofs.Flags.{and_both}
+use Rattle.std.proofs.lemmas.Bool.{and_from}
 
 -- what a call is lent does
 enough_all : (c : Call) (s : State) → bytes_do s.runner.limits s.bytes ≡ true → lengths_do s.runner.limits s.lengths ≡ true → enough s c ≡ true
 unfolding enough
-enough_all (Call.input k b) s p q = and_both (bytes_do s.runner.limits s.bytes) (lengths_do s.runner.limits s.lengths) p q
+enough_all (Call.input k b) s p q = and_from (bytes_do s.runner.limits s.bytes) (lengths_do s.runner.limits s.lengths) p q
 enough_all (Call.output x b) s p q = p
 enough_all (Call.input_written n) s p q = q
 enough_all (Call.next_message n) s p q = p
 enough_all Call.pending_input s p q = p
-enough_all (Call.credit k y u) s p q = refl
-enough_all (Call.end_input k) s p q = refl
-enough_all (Call.cancel now k c) s p q = refl
-enough_all (Call.launched x) s p q = refl
-enough_all (Call.discarded x n) s p q = refl
-enough_all (Call.output_closed x) s p q = refl
-enough_all (Call.output_failed x) s p q = refl
-enough_all (Call.output_hung_up x) s p q = refl
-enough_all (Call.exited now x) s p q = refl
-enough_all (Call.settled x) s p q = refl
-enough_all (Call.dropped now) s p q = refl
-enough_all (Call.reset now) s p q = refl
-enough_all (Call.disconnect now) s p q = refl
-enough_all (Call.tick now) s p q = refl
-enough_all (Call.read_allowance x) s p q = refl
-enough_all Call.input_closed s p q = refl
-enough_all Call.next_request s p q = refl
-enough_all Call.deadline s p q = refl
-enough_all Call.is_finished s p q = refl
-enough_all Call.is_detached s p q = refl
-enough_all Call.awaits_settlement s p q = refl
-enough_all Call.buffered s p q = refl
-enough_all Call.high_water s p q = refl
-enough_all Call.memory_bound s p q = refl
-enough_all Call.key s p q = refl
-enough_all Call.limits s p q = refl
+enough_all _ s p q = refl
 
 -- in Frames the length store does
 slots_by : (u : units.Unit) (l : Limits) (lengths : List ℕ) (i : Input) → HeldIn u l lengths i → length_need_as u l.input.size ≤ length lengths
@@ -126,7 +101,7 @@ pub opens_by : (conf : Conf) (now : ℕ) (bytes lengths : List ℕ) → Opens co
 unfolding Calls.«open»
 opens_by conf now bytes lengths op = by (open_stop conf.limits (bytes_do conf.limits bytes && lengths_do conf.limits lengths)) op
   where
-    by : (x : Result (Unit {0}) Refusal) → (Calls.open_by x conf.key conf.limits conf.timers now).reply ≡ Ok tt → x ≡ Ok tt
+    by : (x : Result (Unit {0}) Refusal) → (Calls.open_by x conf.key conf.limits conf.timers now).answer ≡ Ok tt → x ≡ Ok tt
     by (Ok tt) e = refl
     by (Err y) e = e
 

@@ -1,6 +1,6 @@
 -- Each call, while the runner has not finished: it keeps the invariant between runner and account, and the length of the byte store.
-use Rattle.std.specs.Prelude.{Option, Result, Some, None, Ok, Err}
-use Rattle.exec.specs.declared.Admission.TheVariants.{Own, Stale}
+use Rattle.std.specs.Prelude.{Option, Result, Some, Ok, Err}
+use Rattle.exec.specs.declared.Admission.TheVariants.{Own}
 use Rattle.exec.specs.declared.Admission.{Admission}
 use Rattle.runner.specs.declared.answer.Request.{Request}
 use Rattle.exec.specs.declared.LaunchFailure.{LaunchFailure}
@@ -45,8 +45,7 @@ use Rattle.account.proofs.Stages.{launched_if}
 use Rattle.account.proofs.Rings.{ring}
 use Rattle.account.proofs.Sides.{on_out, on_one_lem, base_behind, bases_apart}
 use Rattle.account.proofs.Streams.{Fits, Good, closed_by, failed_by, discarded_by, taken_by_lem, sent_by_lem, moved, keeps_less}
-use Rattle.account.proofs.Choices.{Sent, choose_sent}
-use Rattle.account.proofs.Range.{RangedS}
+use Rattle.account.proofs.Range.{Queued, chosen_queued, RangedS}
 use Rattle.account.proofs.Finish.{framed, framed_conf}
 use Rattle.account.proofs.Lives.{rep, Inv, along, tick_inv, cancel_inv, detach_inv, exited_inv, reported_same}
 use Rattle.account.proofs.Flags.{either}
@@ -80,23 +79,16 @@ seen_inv st x f s a k c u h = (
   on_out (λ (y : Stream) (o : Output). Good st (base y s.limits.chunk) s.limits.chunk o (tally_of y a)) x (f (out_of x s)) s.outputs (k (out_of x s) (tally_of x a) (h.1 x)) (λ y e. h.1 y),
 )
 
-effect_inv : (st : List ℕ) (m : Choice) (s : Runner) (a : Account.Account) → Sent s m → Inv st s a → Inv st (effect m s) (cond (is_refused (said m s st)) a (hear (said m s st) a))
+effect_inv : (st : List ℕ) (m : Choice) (s : Runner) (a : Account.Account) → Queued s m → Inv st s a → Inv st (effect m s) (cond (is_refused (said m s st)) a (hear (said m s st) a))
 unfolding effect said
-effect_inv st Choice.None s a l h = h
-effect_inv st Choice.Credit s a l h = h
-effect_inv st Choice.Started s a l h = h
-effect_inv st Choice.InputClosed s a l h = h
 effect_inv st (Choice.End x) s a l h = seen_inv st x ended_out s a (λ o t g. g) refl refl h
-effect_inv st (Choice.Output x n) s a l h = sent_inv st x n s a l.sound h
-effect_inv st Choice.Terminal s a l h = h
+effect_inv st (Choice.Output x n) s a l h = sent_inv st x n s a (l x n refl) h
+effect_inv st _ s a l h = h
 
 handed_inv : (st : List ℕ) (w : Option Request) (s : Runner) (a : Account.Account) → Inv st s a → Inv st (wish_effect w s) a
 unfolding wish_effect
-handed_inv st None s a h = h
-handed_inv st (Some (Request.Terminate c)) s a h = h
 handed_inv st (Some (Request.Discard x)) s a h = seen_inv st x asked_out s a (λ o t g. g) refl refl h
-handed_inv st (Some Request.CloseInput) s a h = h
-handed_inv st (Some Request.Settle) s a h = h
+handed_inv st _ s a h = h
 
 launched_inv : (st : List ℕ) (b : Bool) (x : Result (Unit {0}) LaunchFailure) (s : Runner) (ts : Each Tally) → awaits_launch s ≡ b → Inv st s (mk (rep s) ts) → Inv st (launched_if b x s) (mk (launch_r (rep s)) ts)
 unfolding note_launch note_started close_runner_input
@@ -179,8 +171,7 @@ unrefused (Ok Own) now s a = go (is_late (ticked s now))
     go : (l : Bool) → b ≡ cond (is_refused (received_as (cond l (Ok Late) (Ok Applied)))) a b
     go true = refl
     go false = refl
-unrefused (Ok Stale) now s a = refl
-unrefused (Err x) now s a = refl
+unrefused _ now s a = refl
 
 -- what is kept has room
 pub kept_room : (b : List ℕ) (s : State) → RangedS s → is_kept s.runner.limits s.runner.input (length b) ≡ true
@@ -233,8 +224,6 @@ step_inv (Call.output_hung_up x) s a f r m h =
       ap (hang_r x) h.0 ∙ hung_rep x u,
       on_out (λ (y : Stream) (o : Output). Claim s.bytes c y o (tally_of y a)) x (hung_up (out_of x u)) u.outputs (h.1 x) (λ y e. h.1 y),
     )
-step_inv (Call.input_written n) s a f r m h = h
-step_inv Call.input_closed s a f r m h = h
 step_inv (Call.exited now x) s a f r m h = exited_inv s.bytes now x s.runner a f h
 step_inv (Call.settled y) s a f r m h =
     along s.bytes (λ (x : Account.Account). InvS (next s (Call.settled y)) (add x (Call.settled y) Call.Ok)) s.runner a h
@@ -244,18 +233,8 @@ step_inv (Call.reset now) s a f r m h = detach_inv s.bytes now Cause.Reset s.run
 step_inv (Call.disconnect now) s a f r m h = detach_inv s.bytes now Cause.Disconnected s.runner a f h
 step_inv (Call.tick now) s a f r m h = tick_inv s.bytes now s.runner a f h
 step_inv Call.next_request s a f r m h = unheard s a Call.next_request (handed_inv s.bytes (wish s.runner) s.runner a h)
-step_inv (Call.next_message b) s a f r m h = effect_inv s.bytes (choose s.runner (length b)) s.runner a (choose_sent s.runner (length b)) h
-step_inv (Call.read_allowance x) s a f r m h = h
-step_inv Call.pending_input s a f r m h = h
-step_inv Call.deadline s a f r m h = h
-step_inv Call.is_finished s a f r m h = h
-step_inv Call.is_detached s a f r m h = h
-step_inv Call.awaits_settlement s a f r m h = h
-step_inv Call.buffered s a f r m h = h
-step_inv Call.high_water s a f r m h = h
-step_inv Call.memory_bound s a f r m h = h
-step_inv Call.key s a f r m h = h
-step_inv Call.limits s a f r m h = h
+step_inv (Call.next_message b) s a f r m h = effect_inv s.bytes (choose s.runner (length b)) s.runner a (chosen_queued s.runner (length b)) h
+step_inv _ s a f r m h = h
 
 -- ---- no call changes the length of the byte store
 
@@ -288,35 +267,7 @@ bytes_length (Call.input k b) s r m =
     let u : Runner = s.runner in let x : (Result Admission Refusal) = admits u.key k in
     taken_length (is_taken x u) b s.bytes u m r.2.1 (kept_room b s r)
 bytes_length (Call.output x b) s r m = output_length x b s.bytes s.runner m (r.0 x)
-bytes_length (Call.credit k p u) s r m = refl
-bytes_length (Call.end_input k) s r m = refl
-bytes_length (Call.cancel now k c) s r m = refl
-bytes_length (Call.launched x) s r m = refl
-bytes_length (Call.discarded x n) s r m = refl
-bytes_length (Call.output_closed x) s r m = refl
-bytes_length (Call.output_failed x) s r m = refl
-bytes_length (Call.output_hung_up x) s r m = refl
-bytes_length (Call.input_written n) s r m = refl
-bytes_length (Call.exited now x) s r m = refl
-bytes_length (Call.settled x) s r m = refl
-bytes_length (Call.dropped now) s r m = refl
-bytes_length (Call.reset now) s r m = refl
-bytes_length (Call.disconnect now) s r m = refl
-bytes_length (Call.tick now) s r m = refl
-bytes_length (Call.next_message n) s r m = refl
-bytes_length (Call.read_allowance x) s r m = refl
-bytes_length Call.input_closed s r m = refl
-bytes_length Call.next_request s r m = refl
-bytes_length Call.pending_input s r m = refl
-bytes_length Call.deadline s r m = refl
-bytes_length Call.is_finished s r m = refl
-bytes_length Call.is_detached s r m = refl
-bytes_length Call.awaits_settlement s r m = refl
-bytes_length Call.buffered s r m = refl
-bytes_length Call.high_water s r m = refl
-bytes_length Call.memory_bound s r m = refl
-bytes_length Call.key s r m = refl
-bytes_length Call.limits s r m = refl
+bytes_length _ s r m = refl
 
 pub roomy_next : (c : Call) (s : State) → RangedS s → Roomy s → Roomy (next s c)
 roomy_next c s r m =

@@ -57,9 +57,7 @@ Does e (Some c) s after a = (after ≡ Step.next s c) × (a ≡ Step.answer s c)
 
 pub heard_as_lem : (x : Result Receipt Refusal) → read_as (heard_as x) ≡ received_as x
 heard_as_lem (Ok Receipt.Applied) = refl
-heard_as_lem (Ok Receipt.Stale) = refl
-heard_as_lem (Ok Receipt.Late) = refl
-heard_as_lem (Err x) = refl
+heard_as_lem _ = refl
 
 pub noted_as_lem : (x : Result (Unit {0}) Refusal) → read_as (noted_as x) ≡ replied x
 noted_as_lem (Ok tt) = refl
@@ -95,12 +93,12 @@ Among numbers x = among (number x) numbers ≡ true
 parsed_does : (p : Result Record Refusal) (s : State) (now channel : ℕ) (b : List ℕ) → RefusedBy (Among of_reads) p
     → Does (read_record now channel b) (call_of (conf_of s.runner) now b p) s (leaves (parsed_read p s.runner now b s.bytes s.lengths)) (read_as (parsed_read p s.runner now b s.bytes s.lengths).reading.answer)
 unfolding Does call_of parsed_read Channel.made Step.next Step.answer
-parsed_does (Ok (Record.Adjust units)) s now channel b h = (refl, heard_as_lem (Calls.credit s.runner s.runner.key Pool.Output units).received)
+parsed_does (Ok (Record.Adjust units)) s now channel b h = (refl, heard_as_lem (Calls.credit s.runner s.runner.key Pool.Output units).answer)
 parsed_does (Ok (Record.Data n)) s now channel b h =
-    (refl, heard_as_lem (Calls.input s.runner s.runner.key (drop 9 b) s.bytes s.lengths).hearing.received)
+    (refl, heard_as_lem (Calls.input s.runner s.runner.key (drop 9 b) s.bytes s.lengths).hearing.answer)
 parsed_does (Ok (Record.Extended n)) s now channel b h = record { kept = refl; refusal = 24; answered = refl; own = refl }
-parsed_does (Ok Record.Eof) s now channel b h = (refl, heard_as_lem (Calls.end_input s.runner s.runner.key).received)
-parsed_does (Ok Record.Close) s now channel b h = (refl, noted_as_lem (Calls.disconnect s.runner now).reply)
+parsed_does (Ok Record.Eof) s now channel b h = (refl, heard_as_lem (Calls.end_input s.runner s.runner.key).answer)
+parsed_does (Ok Record.Close) s now channel b h = (refl, noted_as_lem (Calls.disconnect s.runner now).answer)
 parsed_does (Err x) s now channel b h = record { kept = refl; refusal = number x; answered = refl; own = h }
 
 -- what is met before a record, for a runner in range with its stores
@@ -150,29 +148,19 @@ choice_told : (m : Choice) (r : Runner) (store part buffer : List ℕ) (channel 
     → wrote_as (wrote channel ended (said_for m r)) (wrote_buffer channel ended (said_for m r) (part_back k buffer (buffer_after m r store part)))
     ≡ says (said_for m r) (buffer_after m r store part)
 unfolding said_for buffer_after wrote wrote_buffer sent_as
-choice_told Choice.None r store part buffer channel k ended h l = refl
-choice_told Choice.Credit r store part buffer channel k ended h l = refl
-choice_told Choice.Started r store part buffer channel k ended h l = refl
-choice_told Choice.InputClosed r store part buffer channel k ended h l = refl
-choice_told (Choice.End x) r store part buffer channel k ended h l = refl
 choice_told (Choice.Output x n) r store part buffer channel k ended h l =
     output_told x channel n k ended buffer (payload r x n store ++ drop n part) h (simp length-append (omega (arith, l x n refl)))
-choice_told Choice.Terminal r store part buffer channel k ended h l = refl
+choice_told _ r store part buffer channel k ended h l = refl
 
 -- and is no refusal
 choice_as : (C : Answer → Type 0) → C Call.Nothing → ((x : Call.Message) → C (Call.Says x))
     → (m : Choice) (r : Runner) (channel : ℕ) (ended : Bool) (b : List ℕ) → C (wrote_as (wrote channel ended (said_for m r)) b)
 unfolding said_for wrote
 choice_as C n h Choice.None r channel ended b = n
-choice_as C n h Choice.Credit r channel ended b = h _
-choice_as C n h Choice.Started r channel ended b = h _
-choice_as C n h Choice.InputClosed r channel ended b = h _
-choice_as C n h (Choice.End x) r channel ended b = h _
-choice_as C n h (Choice.Output x k) r channel ended b = h _
-choice_as C n h Choice.Terminal r channel ended b = h _
+choice_as C n h _ r channel ended b = h _
 
 abbrev pub answers : WriteAfter → Answer
-answers w = wrote_as w.writing.wrote w.buffer
+answers w = wrote_as w.writing.answer w.buffer
 
 module _ (s : State) (channel : ℕ) (buffer : List ℕ) (g : stop s.runner (bytes_do s.runner.limits s.bytes) ≡ Ok tt) where
   abbrev pub part : List ℕ
@@ -204,7 +192,6 @@ module _ (s : State) (channel : ℕ) (buffer : List ℕ) (g : stop s.runner (byt
   pub left_chosen : (met : Bool) (w : WriteAfter) → Writes s.runner channel s.bytes buffer met w → is_untaken (answers w) ≡ true
       → (choose s.runner (length part) ≡ Choice.Terminal) × (is_untold (outcome_of s.runner).status ≡ true)
   unfolding asked Calls.next_message
-  left_chosen met w (elsewhere x) e = absurd (false≢true e)
-  left_chosen met w (short x y) e = absurd (false≢true e)
   left_chosen met w (left u) e = choice_left (choose s.runner (length part)) s.runner (rw g at u)
   left_chosen met w (taken u h) e = absurd (false≢true (sym told_taken ∙ e))
+  left_chosen met w _ e = absurd (false≢true e)

@@ -1,6 +1,5 @@
 -- Terminal finishes the runner, nothing else does, and a finished runner says no more.
-use Rattle.std.specs.Prelude.{Option, Result, Some, None, Ok, Err}
-use Rattle.exec.specs.declared.LaunchFailure.{LaunchFailure}
+use Rattle.std.specs.Prelude.{Option, Result, Some, None, Ok}
 use Rattle.exec.specs.declared.Receipt.{Receipt}
 use Rattle.exec.specs.declared.Refusal.{Refusal}
 use mathlib.Core.Bool.{Bool, true, false, true≢false, false≢true, ◌||◌, or-true, or_assoc}
@@ -17,33 +16,25 @@ use Rattle.choice.specs.Order.{if_else, order}
 use Rattle.exec.specs.Key.{admits}
 use Rattle.exec.specs.Limits.{output_pool}
 use Rattle.runner.specs.Calls.{asked_for}
-use Rattle.runner.specs.Life.{awaits_launch, close_runner_input, note_started, note_launch, launched_next, settled_next, cancel_answer, outcome_of}
+use Rattle.runner.specs.Life.{close_runner_input, launched_next, settled_next, cancel_answer, outcome_of}
 use Rattle.runner.specs.Streams.{output_next, discarded_next, closed_next, failed_next, hung_up_next, credit_answer, credit_next, input_answer, input_next, end_answer, end_next, written_next}
 use Rattle.runner.specs.Message.{choose, output_paid, output_sent, effect, wish, handed, wish_effect}
 use Rattle.calls.specs.Call as Call
 use Rattle.calls.specs.Call.{Call, Answer}
 use Rattle.account.specs.Step.{State, received_as, asks}
 use Rattle.account.proofs.Plain.{said, next, answer, run, after_all}
-use Rattle.account.proofs.Stages.{launched_if}
 use Rattle.account.specs.Claim.{is_message, is_terminal, Silent, any_terminal}
-use Rattle.account.proofs.Lives.{conf_of, Frame, frame, ticked_frame, cancel_frame, detach_frame, exited_frame}
+use Rattle.account.proofs.Timers.{detach_keeps, exited_keeps, launched_keeps}
+use Rattle.account.proofs.Lives.{conf_of, Frame, frame, timed, ticked_frame, cancel_frame}
 
 handed_frame : (w : Request) (s : Runner) → frame (handed w s) ≡ frame s
 handed_frame (Request.Terminate c) s = refl
-handed_frame (Request.Discard x) s = refl
-handed_frame Request.CloseInput s = refl
-handed_frame Request.Settle s = refl
+handed_frame _ s = refl
 
 wished_frame : (w : Option Request) (s : Runner) → frame (wish_effect w s) ≡ frame s
 unfolding wish_effect
 wished_frame None s = refl
 wished_frame (Some q) s = handed_frame q s
-
-launched_frame : (b : Bool) (x : Result (Unit {0}) LaunchFailure) (s : Runner) → frame (launched_if b x s) ≡ frame s
-unfolding note_launch note_started close_runner_input
-launched_frame false x s = refl
-launched_frame true (Ok tt) s = refl
-launched_frame true (Err f) s = refl
 
 -- what a call does to the frame: nothing, or it answers Terminal and finishes
 pub data Framed (s t : Runner) (r : Answer) : Type 0 where
@@ -56,47 +47,22 @@ sent_frame x n s = refl
 
 effect_framed : (m : Choice) (s : Runner) (bytes : List ℕ) → Framed s (effect m s) (said m s bytes)
 unfolding effect said
-effect_framed Choice.None s b = kept refl
-effect_framed Choice.Credit s b = kept refl
-effect_framed Choice.Started s b = kept refl
-effect_framed Choice.InputClosed s b = kept refl
-effect_framed (Choice.End x) s b = kept refl
 effect_framed (Choice.Output x n) s b = kept (sent_frame x n s)
 effect_framed Choice.Terminal s b = ended refl refl refl
+effect_framed _ s b = kept refl
 
 pub framed : (c : Call) (s : State) → Framed s.runner (next s c).runner (answer s c)
 unfolding next answer credit_next input_next end_next launched_next output_next discarded_next closed_next failed_next hung_up_next written_next close_runner_input settled_next
 framed (Call.cancel now k c) s = kept (cancel_frame (admits s.runner.key k) now c s.runner)
-framed (Call.launched x) s = kept (launched_frame (awaits_launch s.runner) x s.runner)
-framed (Call.exited now x) s = kept (exited_frame now x s.runner)
-framed (Call.dropped now) s = kept (detach_frame now Cause.Dropped s.runner)
-framed (Call.reset now) s = kept (detach_frame now Cause.Reset s.runner)
-framed (Call.disconnect now) s = kept (detach_frame now Cause.Disconnected s.runner)
+framed (Call.launched x) s = kept (launched_keeps _ (timed s.runner) x s.runner refl)
+framed (Call.exited now x) s = kept (exited_keeps _ (timed s.runner) now x s.runner refl)
+framed (Call.dropped now) s = kept (detach_keeps _ (timed s.runner) now Cause.Dropped s.runner refl)
+framed (Call.reset now) s = kept (detach_keeps _ (timed s.runner) now Cause.Reset s.runner refl)
+framed (Call.disconnect now) s = kept (detach_keeps _ (timed s.runner) now Cause.Disconnected s.runner refl)
 framed (Call.tick now) s = kept (ticked_frame now s.runner)
 framed Call.next_request s = kept (wished_frame (wish s.runner) s.runner)
 framed (Call.next_message buffer) s = effect_framed (choose s.runner (length buffer)) s.runner s.bytes
-framed (Call.credit k p u) s = kept refl
-framed (Call.input k b) s = kept refl
-framed (Call.end_input k) s = kept refl
-framed (Call.output x b) s = kept refl
-framed (Call.discarded x n) s = kept refl
-framed (Call.output_closed x) s = kept refl
-framed (Call.output_failed x) s = kept refl
-framed (Call.output_hung_up x) s = kept refl
-framed (Call.input_written n) s = kept refl
-framed (Call.settled x) s = kept refl
-framed (Call.read_allowance x) s = kept refl
-framed Call.input_closed s = kept refl
-framed Call.pending_input s = kept refl
-framed Call.deadline s = kept refl
-framed Call.is_finished s = kept refl
-framed Call.is_detached s = kept refl
-framed Call.awaits_settlement s = kept refl
-framed Call.buffered s = kept refl
-framed Call.high_water s = kept refl
-framed Call.memory_bound s = kept refl
-framed Call.key s = kept refl
-framed Call.limits s = kept refl
+framed _ s = kept refl
 
 pub framed_conf : {s t : Runner} {r : Answer} → Framed s t r → conf_of t ≡ conf_of s
 framed_conf (kept e) = ap (λ (x : Frame). x.conf) e
@@ -121,16 +87,11 @@ ends_by c s f g = go (framed c s)
 
 quiet_received : (x : Result Receipt Refusal) → is_message (received_as x) ≡ false
 quiet_received (Ok Receipt.Applied) = refl
-quiet_received (Ok Receipt.Stale) = refl
-quiet_received (Ok Receipt.Late) = refl
-quiet_received (Err y) = refl
+quiet_received _ = refl
 
 quiet_wish : (w : Option Request) → is_message (asks (asked_for w)) ≡ false
-quiet_wish None = refl
 quiet_wish (Some (Request.Terminate c)) = refl
-quiet_wish (Some (Request.Discard x)) = refl
-quiet_wish (Some Request.CloseInput) = refl
-quiet_wish (Some Request.Settle) = refl
+quiet_wish _ = refl
 
 pub data Kind (s : State) : Call → Type 0 where
   quiet : {c : Call} → is_message (answer s c) ≡ false → Kind s c
@@ -142,62 +103,20 @@ kind (Call.credit k p u) s = quiet (quiet_received (credit_answer (admits s.runn
 kind (Call.input k b) s = quiet (quiet_received (input_answer (admits s.runner.key k) s.runner (length b)))
 kind (Call.end_input k) s = quiet (quiet_received (end_answer (admits s.runner.key k) s.runner))
 kind (Call.cancel now k c) s = quiet (quiet_received (cancel_answer (admits s.runner.key k) s.runner now))
-kind (Call.launched r) s = quiet refl
-kind (Call.output x b) s = quiet refl
-kind (Call.discarded x n) s = quiet refl
-kind (Call.output_closed x) s = quiet refl
-kind (Call.output_failed x) s = quiet refl
-kind (Call.output_hung_up x) s = quiet refl
-kind (Call.input_written n) s = quiet refl
-kind Call.input_closed s = quiet refl
-kind (Call.exited now x) s = quiet refl
-kind (Call.settled ok) s = quiet refl
-kind (Call.dropped now) s = quiet refl
-kind (Call.reset now) s = quiet refl
-kind (Call.disconnect now) s = quiet refl
-kind (Call.tick now) s = quiet refl
 kind Call.next_request s = quiet (quiet_wish (wish s.runner))
 kind (Call.next_message n) s = speaks n
-kind (Call.read_allowance x) s = quiet refl
-kind Call.pending_input s = quiet refl
-kind Call.deadline s = quiet refl
-kind Call.is_finished s = quiet refl
-kind Call.is_detached s = quiet refl
-kind Call.awaits_settlement s = quiet refl
-kind Call.buffered s = quiet refl
-kind Call.high_water s = quiet refl
-kind Call.memory_bound s = quiet refl
-kind Call.key s = quiet refl
-kind Call.limits s = quiet refl
+kind _ s = quiet refl
 
 -- ---- Terminal
 
 terminal_message : (r : Answer) → is_terminal r ≡ true → is_message r ≡ true
-terminal_message Call.Ok e = e
-terminal_message Call.Applied e = e
-terminal_message Call.Stale e = e
-terminal_message Call.Late e = e
-terminal_message (Call.Refused n) e = e
-terminal_message (Call.Taken n) e = e
-terminal_message (Call.Pending b) e = e
-terminal_message (Call.Value n) e = e
-terminal_message (Call.Time d) e = e
-terminal_message (Call.Truth b) e = e
-terminal_message (Call.Asks r) e = e
 terminal_message (Call.Says m) e = refl
-terminal_message Call.Nothing e = e
-terminal_message (Call.IsKey k) e = e
-terminal_message (Call.AreLimits l) e = e
+terminal_message _ e = e
 
 said_terminal : (m : Choice) (s : Runner) (b : List ℕ) → is_terminal (said m s b) ≡ true → m ≡ Choice.Terminal
 unfolding said
-said_terminal Choice.None s b e = absurd (false≢true e)
-said_terminal Choice.Credit s b e = absurd (false≢true e)
-said_terminal Choice.Started s b e = absurd (false≢true e)
-said_terminal Choice.InputClosed s b e = absurd (false≢true e)
-said_terminal (Choice.End x) s b e = absurd (false≢true e)
-said_terminal (Choice.Output x n) s b e = absurd (false≢true e)
 said_terminal Choice.Terminal s b e = refl
+said_terminal _ s b e = absurd (false≢true e)
 
 -- what an answer Terminal shows: the call, the choice, and so the next state
 pub record Ends (s : State) (c : Call) : Type 0 where

@@ -21,7 +21,6 @@ use Rattle.exec.specs.declared.Unit as Units
 use Rattle.exec.specs.declared.Unit.TheVariants.{Bytes, Frames}
 use Rattle.choice.specs.declared.Choice.{Choice}
 use Rattle.input.specs.declared.Input.{Input}
-use Rattle.output.specs.declared.Output.{Output}
 use Rattle.runner.specs.declared.runner.Runner.{Runner}
 use Rattle.choice.specs.Order.{if_else, order}
 use Rattle.exec.specs.Time.{after, then, earliest, due, after_at}
@@ -30,7 +29,6 @@ use Rattle.exec.specs.Limits.{pool_of}
 use Rattle.exec.specs.Stream.{stream_at, following}
 use Rattle.credit.specs.Sender.{sendable}
 use Rattle.input.specs.Input.{close_input}
-use Rattle.output.specs.Output.{is_done}
 use Rattle.runner.specs.State.{out_of, credit_at}
 use Rattle.runner.specs.Life as Life
 use Rattle.runner.specs.Life.{is_cleaned_up, end_grace, give_up, begin_termination, pass_grace, terminate, ticked, is_ready, cancel_answer}
@@ -44,7 +42,7 @@ use Rattle.account.specs.Claim.{is_terminal, any_terminal, messages, counts_mess
 use Rattle.account.proofs.Lives.{tick_fin, ticked_frame, cancel_frame, Frame}
 use Rattle.account.proofs.Finish.{ends_by}
 use Rattle.account.proofs.Timing.{low_next, low_timeout, low_grace, low_settle, low_abandon}
-use Rattle.account.proofs.Flags.{or_false_l, or_false_r}
+use Rattle.std.proofs.lemmas.Bool.{or_parts}
 use Rattle.account.proofs.Phase.{Either, left, right, Dry, AllKnown, Phase, left_over, cleaned_known, known_given, dry_given, dry_grace, bit}
 
 -- ---- the two phases
@@ -159,7 +157,7 @@ abbrev lateness : Bool → Result Receipt Refusal
 lateness b = cond b (Ok Receipt.Late) (Ok Receipt.Applied)
 
 applied_if : (b : Bool) → received_as (lateness b) ≡ Call.Applied → b ≡ false
-applied_if true e = let z : true ≡ false = cc in z
+applied_if true e = cc
 applied_if false e = refl
 
 -- an Applied cancel is itself the first of the three events: nothing had begun, not even in its own tick
@@ -174,11 +172,11 @@ applying (Ok Own) now c s e =
     let n : late (ticked s now) ≡ false = applied_if (late (ticked s now)) e in
     record {
       own = refl;
-      live = sym (ap (λ (x : Frame). x.finished) (ticked_frame now s)) ∙ or_false_l (ticked s now).flags.finished (ticked s now).clocks.terminated n;
-      first = or_false_r (ticked s now).flags.finished (ticked s now).clocks.terminated n;
+      live = sym (ap (λ (x : Frame). x.finished) (ticked_frame now s)) ∙ (or_parts (ticked s now).flags.finished (ticked s now).clocks.terminated n).0;
+      first = (or_parts (ticked s now).flags.finished (ticked s now).clocks.terminated n).1;
     }
-applying (Ok Stale) now c s e = let z : true ≡ false = cc in absurd (true≢false z)
-applying (Err z) now c s e = let z : true ≡ false = cc in absurd (true≢false z)
+applying (Ok Stale) now c s e = cc
+applying (Err z) now c s e = cc
 
 before_own : (sum now : ℕ) (c : Cause) (s : Runner) → late (ticked s now) ≡ false → Before sum (terminate (ticked s now) now c) → Before sum (cancel_next (Ok Own) now c s)
 unfolding Life.cancel_next
@@ -210,9 +208,6 @@ no_send s n x d = go s.limits.output.unit (min (min (out_of x s).queued s.limits
         pick : (b : Bool) → ◌≡◌ {A = ℕ} (cond b 0 0) 0
         pick true = refl
         pick false = refl
-
-done_now : (o : Output) → o.closed ≡ true → ltb 0 o.queued ≡ false → is_done o ≡ true
-done_now o e q = rw (e, q) refl
 
 -- what is chosen, in terms of the five flags
 abbrev late_order : (det st cm e0 e1 : Bool) → Stream → Bool → Choice
@@ -281,37 +276,8 @@ data Step (s : State) (c : Call) (m : ℕ) : Type 0 where
   goes : After (next s c).runner → (next s c).runner.flags.finished ≡ false → suc (left_over (next s c).runner) ≤ m → Step s c m
 
 counted : (c : Call) (m : ℕ) → Either (counts_message c m ≡ m) ((b : List ℕ) × (c ≡ Call.next_message b))
-counted (Call.credit k p u) m = left refl
-counted (Call.input k b) m = left refl
-counted (Call.end_input k) m = left refl
-counted (Call.cancel now k x) m = left refl
-counted (Call.launched r) m = left refl
-counted (Call.output x b) m = left refl
-counted (Call.discarded x n) m = left refl
-counted (Call.output_closed x) m = left refl
-counted (Call.output_failed x) m = left refl
-counted (Call.output_hung_up x) m = left refl
-counted (Call.input_written n) m = left refl
-counted Call.input_closed m = left refl
-counted (Call.exited now x) m = left refl
-counted (Call.settled ok) m = left refl
-counted (Call.dropped now) m = left refl
-counted (Call.reset now) m = left refl
-counted (Call.disconnect now) m = left refl
-counted (Call.tick now) m = left refl
-counted Call.next_request m = left refl
-counted (Call.read_allowance x) m = left refl
-counted Call.pending_input m = left refl
-counted Call.deadline m = left refl
-counted Call.is_finished m = left refl
-counted Call.is_detached m = left refl
-counted Call.awaits_settlement m = left refl
-counted Call.buffered m = left refl
-counted Call.high_water m = left refl
-counted Call.memory_bound m = left refl
-counted Call.key m = left refl
-counted Call.limits m = left refl
 counted (Call.next_message b) m = right (b, refl)
+counted _ m = left refl
 
 step_other : (c : Call) (s : State) (m : ℕ) → counts_message c m ≡ m → After s.runner → s.runner.flags.finished ≡ false → suc (left_over s.runner) ≤ counts_message c m → (next s c).runner.flags.finished ≡ false → Step s c m
 step_other c s m q h f l e =

@@ -1,5 +1,5 @@
 -- A call that is not refused by 12, 10 or 11 leaves and answers what it does without these, and its answer is none of them.
-use Rattle.std.specs.Prelude.{Option, Result, Some, None, Ok, Err}
+use Rattle.std.specs.Prelude.{Option, Result, Some, Ok, Err}
 use Rattle.exec.specs.declared.Admission.TheVariants.{Own, Stale}
 use Rattle.exec.specs.declared.Admission.{Admission}
 use Rattle.runner.specs.declared.answer.Request.{Request}
@@ -43,36 +43,7 @@ use Rattle.account.proofs.Plain.{said}
 pub next_is : (s : State) (c : Call) → stop s.runner (Plain.enough s c) ≡ Ok tt → Step.next s c ≡ Plain.next s c
 unfolding Plain.enough Plain.next Step.next Streams.received Streams.output_took Calls.credit Calls.input Calls.end_input Calls.cancel Calls.launched Calls.output Calls.discarded Calls.output_closed Calls.output_failed Calls.output_hung_up Calls.input_written Calls.input_closed Calls.exited Calls.settled Calls.dropped Calls.reset Calls.disconnect Calls.tick Calls.next_request Calls.next_message
 next_is s Call.key g = refl
-next_is s Call.limits g = refl
-next_is s (Call.credit k p u) g = rw g refl
-next_is s (Call.input k b) g = rw g refl
-next_is s (Call.end_input k) g = rw g refl
-next_is s (Call.cancel now k c) g = rw g refl
-next_is s (Call.launched x) g = rw g refl
-next_is s (Call.read_allowance x) g = refl
-next_is s (Call.output x b) g = rw g refl
-next_is s (Call.discarded x n) g = rw g refl
-next_is s (Call.output_closed x) g = rw g refl
-next_is s (Call.output_failed x) g = rw g refl
-next_is s (Call.output_hung_up x) g = rw g refl
-next_is s Call.pending_input g = refl
-next_is s (Call.input_written n) g = rw g refl
-next_is s Call.input_closed g = rw g refl
-next_is s (Call.exited now x) g = rw g refl
-next_is s (Call.settled x) g = rw g refl
-next_is s (Call.dropped now) g = rw g refl
-next_is s (Call.reset now) g = rw g refl
-next_is s (Call.disconnect now) g = rw g refl
-next_is s (Call.tick now) g = rw g refl
-next_is s Call.deadline g = refl
-next_is s Call.next_request g = rw g refl
-next_is s (Call.next_message buffer) g = rw g refl
-next_is s Call.is_finished g = refl
-next_is s Call.is_detached g = refl
-next_is s Call.awaits_settlement g = refl
-next_is s Call.memory_bound g = refl
-next_is s Call.buffered g = refl
-next_is s Call.high_water g = refl
+next_is s _ g = first_of (rw g, cc)
 
 -- ---- what is answered
 
@@ -80,52 +51,18 @@ next_is s Call.high_water g = refl
 says_is : (m : Choice) (r : Runner) (store buffer : List ℕ) → ((x : Stream) (n : ℕ) → Choice.Output x n ≡ m → length (payload r x n store) ≡ n)
     → says (said_for m r) (buffer_after m r store buffer) ≡ said m r store
 unfolding said_for buffer_after said
-says_is Choice.None r store buffer h = refl
-says_is Choice.Credit r store buffer h = refl
-says_is Choice.Started r store buffer h = refl
-says_is Choice.InputClosed r store buffer h = refl
-says_is (Choice.End x) r store buffer h = refl
 says_is (Choice.Output x n) r store buffer h =
     ap (λ (b : List ℕ). Call.Says (Call.Output x b)) (take_at (payload r x n store) (drop n buffer) n (h x n refl))
-says_is Choice.Terminal r store buffer h = refl
+says_is _ r store buffer h = refl
 
 pub answer_is : (s : State) (c : Call) → stop s.runner (Plain.enough s c) ≡ Ok tt → Step.answer s c ≡ Plain.answer s c
 unfolding Plain.enough Plain.answer Step.answer Streams.received Streams.output_took Calls.key Calls.limits Calls.credit Calls.input Calls.end_input Calls.cancel Calls.launched Calls.read_allowance Calls.output Calls.discarded Calls.output_closed Calls.output_failed Calls.output_hung_up Calls.pending_input Calls.input_written Calls.input_closed Calls.exited Calls.settled Calls.dropped Calls.reset Calls.disconnect Calls.tick Calls.deadline Calls.next_request Calls.next_message Calls.is_finished Calls.is_detached Calls.awaits_settlement Calls.memory_bound Calls.buffered Calls.high_water
-answer_is s Call.key g = rw g refl
-answer_is s Call.limits g = rw g refl
-answer_is s (Call.credit k p u) g = rw g refl
-answer_is s (Call.input k b) g = rw g refl
-answer_is s (Call.end_input k) g = rw g refl
-answer_is s (Call.cancel now k c) g = rw g refl
-answer_is s (Call.launched x) g = rw g refl
-answer_is s (Call.read_allowance x) g = rw g refl
-answer_is s (Call.output x b) g = rw g refl
-answer_is s (Call.discarded x n) g = rw g refl
-answer_is s (Call.output_closed x) g = rw g refl
-answer_is s (Call.output_failed x) g = rw g refl
-answer_is s (Call.output_hung_up x) g = rw g refl
-answer_is s Call.pending_input g = rw g refl
-answer_is s (Call.input_written n) g = rw g refl
-answer_is s Call.input_closed g = rw g refl
-answer_is s (Call.exited now x) g = rw g refl
-answer_is s (Call.settled x) g = rw g refl
-answer_is s (Call.dropped now) g = rw g refl
-answer_is s (Call.reset now) g = rw g refl
-answer_is s (Call.disconnect now) g = rw g refl
-answer_is s (Call.tick now) g = rw g refl
-answer_is s Call.deadline g = rw g refl
-answer_is s Call.next_request g = rw g refl
 answer_is s (Call.next_message buffer) g =
     let e : stop s.runner (bytes_do s.runner.limits s.bytes) ≡ (Ok tt) = g in
     rw e (says_is (choose s.runner (length buffer)) s.runner s.bytes buffer (λ x n o. payload_length s.runner s.bytes buffer x n e o))
-answer_is s Call.is_finished g = rw g refl
-answer_is s Call.is_detached g = rw g refl
-answer_is s Call.awaits_settlement g = rw g refl
-answer_is s Call.memory_bound g = rw g refl
-answer_is s Call.buffered g = rw g refl
-answer_is s Call.high_water g = rw g refl
+answer_is s _ g = rw g refl
 
--- ---- which is none of the three
+-- ---- which is none of the three (by the answers alone, so that demand 3 does not stand on what a refusal leaves)
 
 abbrev Calm : Result Receipt Refusal → Type 0
 Calm x = is_stop (received_as x) ≡ false
@@ -135,9 +72,8 @@ either true x y p q = p
 either false x y p q = q
 
 abbrev CalmAdmission : Result Admission Refusal → Type 0
-CalmAdmission (Ok Own) = Unit
-CalmAdmission (Ok Stale) = Unit
 CalmAdmission (Err x) = is_stop (Call.Refused (number x)) ≡ false
+CalmAdmission _ = Unit
 
 admission_either : (b : Bool) (x y : Result Admission Refusal) → CalmAdmission x → CalmAdmission y → CalmAdmission (cond b x y)
 admission_either true x y p q = p
@@ -155,14 +91,12 @@ CalmPool (Ok i) = Unit
 CalmPool (Err x) = is_stop (Call.Refused (number x)) ≡ false
 
 pool_calm : (shared : Bool) (p : Pool) → CalmPool (output_pool shared p)
-pool_calm true Pool.Input = refl
-pool_calm true Pool.Stdout = refl
-pool_calm true Pool.Stderr = refl
 pool_calm true Pool.Output = tt
 pool_calm false Pool.Input = refl
 pool_calm false Pool.Stdout = tt
 pool_calm false Pool.Stderr = tt
 pool_calm false Pool.Output = refl
+pool_calm true _ = refl
 
 credit_in_lem : (p : Result ℕ Refusal) (r : Runner) (units : ℕ) → CalmPool p → Calm (Streams.credit_in p r units)
 unfolding Streams.credit_in
@@ -200,55 +134,23 @@ cancel_calm (Ok Stale) r now h = refl
 cancel_calm (Ok Own) r now h = either (is_late (ticked r now)) _ _ refl refl
 
 wish_calm : (w : Option Request) → is_stop (asks (asked_for w)) ≡ false
-wish_calm None = refl
 wish_calm (Some (Request.Terminate c)) = refl
-wish_calm (Some (Request.Discard x)) = refl
-wish_calm (Some Request.CloseInput) = refl
-wish_calm (Some Request.Settle) = refl
+wish_calm _ = refl
 
 said_calm : (m : Choice) (r : Runner) (bytes : List ℕ) → is_stop (said m r bytes) ≡ false
 unfolding said
-said_calm Choice.None r bytes = refl
-said_calm Choice.Credit r bytes = refl
-said_calm Choice.Started r bytes = refl
-said_calm Choice.InputClosed r bytes = refl
 said_calm (Choice.End x) r bytes = refl
-said_calm (Choice.Output x n) r bytes = refl
-said_calm Choice.Terminal r bytes = refl
+said_calm _ r bytes = refl
 
 calm : (s : State) (c : Call) → is_stop (Plain.answer s c) ≡ false
 unfolding Plain.answer
-calm s Call.key = refl
-calm s Call.limits = refl
 calm s (Call.credit k p u) = credit_calm (admits s.runner.key k) (output_pool s.runner.limits.shared p) s.runner u (admits_calm s.runner.key k) (pool_calm s.runner.limits.shared p)
 calm s (Call.input k b) = input_calm (admits s.runner.key k) s.runner (length b) (admits_calm s.runner.key k)
 calm s (Call.end_input k) = end_calm (admits s.runner.key k) s.runner (admits_calm s.runner.key k)
 calm s (Call.cancel now k c) = cancel_calm (admits s.runner.key k) s.runner now (admits_calm s.runner.key k)
-calm s (Call.launched x) = refl
-calm s (Call.read_allowance x) = refl
-calm s (Call.output x b) = refl
-calm s (Call.discarded x n) = refl
-calm s (Call.output_closed x) = refl
-calm s (Call.output_failed x) = refl
-calm s (Call.output_hung_up x) = refl
-calm s Call.pending_input = refl
-calm s (Call.input_written n) = refl
-calm s Call.input_closed = refl
-calm s (Call.exited now x) = refl
-calm s (Call.settled x) = refl
-calm s (Call.dropped now) = refl
-calm s (Call.reset now) = refl
-calm s (Call.disconnect now) = refl
-calm s (Call.tick now) = refl
-calm s Call.deadline = refl
 calm s Call.next_request = wish_calm (wish s.runner)
 calm s (Call.next_message buffer) = said_calm (choose s.runner (length buffer)) s.runner s.bytes
-calm s Call.is_finished = refl
-calm s Call.is_detached = refl
-calm s Call.awaits_settlement = refl
-calm s Call.memory_bound = refl
-calm s Call.buffered = refl
-calm s Call.high_water = refl
+calm s _ = refl
 
 pub not_stopped : (s : State) (c : Call) → stop s.runner (Plain.enough s c) ≡ Ok tt → is_stop (Step.answer s c) ≡ false
 not_stopped s c g = ap is_stop (answer_is s c g) ∙ calm s c

@@ -1,7 +1,7 @@
 -- The workload's input is a queue: what a call hands over comes off the front of the inbox, what it brings goes behind it, and an
 -- inbox that is cleared belongs to an input that is closed from then on.
-use Rattle.std.specs.Prelude.{Option, Result, Some, None, Ok, Err}
-use Rattle.exec.specs.declared.Admission.TheVariants.{Own, Stale}
+use Rattle.std.specs.Prelude.{Option, Result, Some, Ok}
+use Rattle.exec.specs.declared.Admission.TheVariants.{Own}
 use Rattle.exec.specs.declared.Admission.{Admission}
 use Rattle.runner.specs.declared.answer.Request.{Request}
 use Rattle.exec.specs.declared.Receipt.{Receipt}
@@ -54,7 +54,7 @@ use Rattle.account.proofs.EachCall.{kept_room}
 use Rattle.account.proofs.Demand.{Fine, fine_next, next_same, answer_same, fine_open, opens_by, open_same, same_after, same_answer}
 use Rattle.account.proofs.Records.{same_dones, good_open, to_calls}
 use Rattle.account.proofs.InputMoves.{Moves, same, shut, close, ticks, launches, exits, detaches, cancels}
-use Rattle.account.proofs.Flags.{and_l, and_r}
+use Rattle.ring.specs.Flags.{and_l, and_r}
 use lib.Seq.{take-length}
 
 -- ---- what flows through the inbox
@@ -96,10 +96,8 @@ within s h =
 -- ---- bytes from the peer
 
 applied_is : (x : Result Receipt Refusal) → is_applied (received_as x) ≡ In.is_applied x
-applied_is (Err x) = refl
 applied_is (Ok Receipt.Applied) = refl
-applied_is (Ok Receipt.Stale) = refl
-applied_is (Ok Receipt.Late) = refl
+applied_is _ = refl
 
 receive_flow : (l : Limits) (i : Input) (b st : List ℕ) (k : Bool) → is_kept l i (length b) ≡ k → Within l i st
     → (k ≡ true → i.inbox.length + length b ≤ inbox_size l)
@@ -115,12 +113,11 @@ input_flow : (a : Result Admission Refusal) (s : State) (b : List ℕ) (f : Bool
     → Flow s.runner.limits s.runner.input (input_next a s.runner (length b)).input s.bytes (input_store a s.runner b s.bytes) []
     (cond (is_applied (received_as (input_answer a s.runner (length b)))) b [])
 unfolding input_next input_store input_answer
-input_flow (Err x) s b f e h = still s.runner.limits s.runner.input s.bytes
-input_flow (Ok Stale) s b f e h = still s.runner.limits s.runner.input s.bytes
 input_flow (Ok Own) s b true e h = rw e (still s.runner.limits s.runner.input s.bytes)
 input_flow (Ok Own) s b false e h =
     let l = s.runner.limits in let i = s.runner.input in
     rw (e, applied_is (receive_answer l i (length b))) (receive_flow l i b s.bytes (is_kept l i (length b)) refl (within s h) (kept_room b s h.sound.ranged))
+input_flow _ s b f e h = still s.runner.limits s.runner.input s.bytes
 
 -- ---- bytes to the workload
 
@@ -146,10 +143,9 @@ ended_flow l i st = ended_if l i st i.peer_ended
 
 end_flow : (a : Result Admission Refusal) (r : Runner) (st : List ℕ) (f : Bool) → r.flags.finished ≡ f → Flow r.limits r.input (end_next a r).input st st [] []
 unfolding end_next
-end_flow (Err x) r st f e = still r.limits r.input st
-end_flow (Ok Stale) r st f e = still r.limits r.input st
 end_flow (Ok Own) r st true e = rw e (still r.limits r.input st)
 end_flow (Ok Own) r st false e = rw e (ended_flow r.limits r.input st)
+end_flow _ r st f e = still r.limits r.input st
 
 -- ---- the output's rings are apart from the inbox's
 
@@ -170,21 +166,13 @@ output_flow x b s h =
 
 said_flow : (c : Choice) (r : Runner) (st : List ℕ) → Flow r.limits r.input (effect c r).input st st [] []
 unfolding effect output_sent output_paid
-said_flow Choice.None r st = kept r.limits r.input _ st refl refl
-said_flow Choice.Credit r st = kept r.limits r.input _ st refl refl
-said_flow Choice.Started r st = kept r.limits r.input _ st refl refl
-said_flow Choice.InputClosed r st = kept r.limits r.input _ st refl refl
 said_flow (Choice.End x) r st = kept r.limits r.input _ st refl refl
-said_flow (Choice.Output x n) r st = kept r.limits r.input _ st refl refl
-said_flow Choice.Terminal r st = kept r.limits r.input _ st refl refl
+said_flow _ r st = kept r.limits r.input _ st refl refl
 
 asked_flow : (w : Option Request) (r : Runner) (st : List ℕ) → Flow r.limits r.input (wish_effect w r).input st st [] []
 unfolding wish_effect
-asked_flow None r st = kept r.limits r.input _ st refl refl
 asked_flow (Some (Request.Terminate c)) r st = kept r.limits r.input _ st refl refl
-asked_flow (Some (Request.Discard x)) r st = kept r.limits r.input _ st refl refl
-asked_flow (Some Request.CloseInput) r st = kept r.limits r.input _ st refl refl
-asked_flow (Some Request.Settle) r st = kept r.limits r.input _ st refl refl
+asked_flow _ r st = kept r.limits r.input _ st refl refl
 
 -- ---- a call, and a list of calls
 
@@ -194,37 +182,21 @@ moved s r' m = flow_moves s.runner.limits s.runner.input r'.input s.bytes m
 flow_step : (c : Call) (s : State) → Fine s
     → Flow s.runner.limits s.runner.input (next s c).runner.input s.bytes (next s c).bytes (handed_by s c) (brought_by c (answer s c))
 unfolding handed_by brought_by next answer credit_next output_next discarded_next closed_next failed_next hung_up_next settled_next written_next
-flow_step Call.key s h = still s.runner.limits s.runner.input s.bytes
-flow_step Call.limits s h = still s.runner.limits s.runner.input s.bytes
-flow_step (Call.credit k p u) s h = still s.runner.limits s.runner.input s.bytes
 flow_step (Call.input k b) s h = input_flow (admits s.runner.key k) s b s.runner.flags.finished refl h
 flow_step (Call.end_input k) s h = end_flow (admits s.runner.key k) s.runner s.bytes s.runner.flags.finished refl
 flow_step (Call.cancel now k c) s h = moved s (cancel_next (admits s.runner.key k) s.runner now c) (cancels (admits s.runner.key k) s.runner now c)
 flow_step (Call.launched x) s h = moved s (launched_next s.runner x) (launches s.runner x)
-flow_step (Call.read_allowance x) s h = still s.runner.limits s.runner.input s.bytes
 flow_step (Call.output x b) s h = output_flow x b s h
-flow_step (Call.discarded x n) s h = still s.runner.limits s.runner.input s.bytes
-flow_step (Call.output_closed x) s h = still s.runner.limits s.runner.input s.bytes
-flow_step (Call.output_failed x) s h = still s.runner.limits s.runner.input s.bytes
-flow_step (Call.output_hung_up x) s h = still s.runner.limits s.runner.input s.bytes
-flow_step Call.pending_input s h = still s.runner.limits s.runner.input s.bytes
 flow_step (Call.input_written n) s h = written_flow s.runner.limits s.runner.input s.bytes s.lengths n (within s h)
 flow_step Call.input_closed s h = moved s (close_runner_input s.runner) (close s.runner)
 flow_step (Call.exited now x) s h = moved s (exited_next s.runner now x) (exits s.runner now x)
-flow_step (Call.settled x) s h = still s.runner.limits s.runner.input s.bytes
 flow_step (Call.dropped now) s h = moved s (detach_next s.runner now Dropped) (detaches s.runner now Dropped)
 flow_step (Call.reset now) s h = moved s (detach_next s.runner now Reset) (detaches s.runner now Reset)
 flow_step (Call.disconnect now) s h = moved s (detach_next s.runner now Disconnected) (detaches s.runner now Disconnected)
 flow_step (Call.tick now) s h = moved s (ticked s.runner now) (ticks s.runner now)
-flow_step Call.deadline s h = still s.runner.limits s.runner.input s.bytes
 flow_step Call.next_request s h = asked_flow (wish s.runner) s.runner s.bytes
 flow_step (Call.next_message buffer) s h = said_flow (choose s.runner (length buffer)) s.runner s.bytes
-flow_step Call.is_finished s h = still s.runner.limits s.runner.input s.bytes
-flow_step Call.is_detached s h = still s.runner.limits s.runner.input s.bytes
-flow_step Call.awaits_settlement s h = still s.runner.limits s.runner.input s.bytes
-flow_step Call.memory_bound s h = still s.runner.limits s.runner.input s.bytes
-flow_step Call.buffered s h = still s.runner.limits s.runner.input s.bytes
-flow_step Call.high_water s h = still s.runner.limits s.runner.input s.bytes
+flow_step _ s h = still s.runner.limits s.runner.input s.bytes
 
 closed_on : {l : Limits} {i i' : Input} {st st' given got : List ℕ} → Flow l i i' st st' given got → i.closed ≡ true → (i'.closed ≡ true) × (given ≡ [])
 closed_on (on q f) e = f e
@@ -289,21 +261,8 @@ front_of : (a b c : List ℕ) → IsPrefix (a ++ b) c → IsPrefix a c
 front_of a b c p = (b ++ p.0, p.1 ∙ append_assoc a b p.0)
 
 abbrev bytes_of : Answer → List ℕ
-bytes_of Call.Ok = []
-bytes_of Call.Applied = []
-bytes_of Call.Stale = []
-bytes_of Call.Late = []
-bytes_of (Call.Refused n) = []
-bytes_of (Call.Taken n) = []
 bytes_of (Call.Pending b) = b
-bytes_of (Call.Value n) = []
-bytes_of (Call.Time d) = []
-bytes_of (Call.Truth b) = []
-bytes_of (Call.Asks r) = []
-bytes_of (Call.Says m) = []
-bytes_of (Call.IsKey k) = []
-bytes_of (Call.AreLimits l) = []
-bytes_of Call.Nothing = []
+bytes_of _ = []
 
 module _ (conf : Conf) (now : ℕ) (bytes lengths : List ℕ) (op : Opens conf now bytes lengths) where
   abbrev o : State

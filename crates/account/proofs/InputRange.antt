@@ -23,6 +23,7 @@ use Rattle.inbox.specs.Inbox.{frames_pushed, frames_popped, lengths_pushed, free
 use Rattle.input.specs.declared.Input.{Input}
 use Rattle.input.specs.Input.{close_input, receive_answer, is_receipt, is_applied, receive_input, receive_lengths, is_paid, passed, end_input, written_input, written_lengths, close_when_taken, peer_ends, pop_in}
 use Rattle.input.proofs.Receives.{chunk_fits}
+use Rattle.account.proofs.Flags.{either}
 
 -- ---- frames: the bytes they hold, and what a pop leaves
 
@@ -107,12 +108,8 @@ cleared_by Bytes l lengths i h = let z = h.0 in (omega arith, refl, refl)
 cleared_by Frames l lengths i h =
     let z = h.0 in let f = h.3 in (omega arith, rw (read_none 0 l.input.size 0 lengths) refl, rw (read_none 0 l.input.size 0 lengths) none, omega arith, h.4)
 
-input_either : (b : Bool) (l : Limits) (lengths : List ℕ) (i j : Input) → InRange l lengths i → InRange l lengths j → InRange l lengths (cond b i j)
-input_either true l lengths i j h k = h
-input_either false l lengths i j h k = k
-
 pub close_range : (l : Limits) (lengths : List ℕ) (i : Input) (d : Bool) → InRange l lengths i → InRange l lengths (close_input i d)
-close_range l lengths i d h = input_either i.closed l lengths i _ h (cleared_by l.input.unit l lengths i h.0, (let z = h.1 in omega arith))
+close_range l lengths i d h = either (InRange l lengths) i.closed i _ h (cleared_by l.input.unit l lengths i h.0, (let z = h.1 in omega arith))
 
 -- m bytes taken by the workload: the lengths after it
 pop_by : (u : units.Unit) (l : Limits) (lengths : List ℕ) (i : Input) (m : ℕ) → m ≤ i.inbox.length → HeldIn u l lengths i
@@ -205,8 +202,7 @@ received_if_lem : (x : Result Receipt Refusal) (l : Limits) (lengths : List ℕ)
     → InRange l (cond (is_applied x) (lengths_pushed l.input.unit l.input.size n i.inbox lengths) lengths) (received_if (is_receipt x) (is_applied x) l n i)
 received_if_lem (Err y) l lengths n i p h = h
 received_if_lem (Ok Receipt.Applied) l lengths n i p h = let q = p refl in (push_by l.input.unit l lengths n i q.small q.enough h.0, h.1)
-received_if_lem (Ok Receipt.Stale) l lengths n i p h = (pay_by l.input.unit l lengths n i h.0, h.1)
-received_if_lem (Ok Receipt.Late) l lengths n i p h = (pay_by l.input.unit l lengths n i h.0, h.1)
+received_if_lem _ l lengths n i p h = (pay_by l.input.unit l lengths n i h.0, h.1)
 
 pub input_if : (b : Bool) (l : Limits) (lengths : List ℕ) (n : ℕ) (i : Input) → InRange l lengths i
     → InRange l (cond b (receive_lengths l i n lengths) lengths) (cond b (receive_input l i n) i)
@@ -217,7 +213,7 @@ input_if false l lengths n i h = h
 pub end_if : (b : Bool) (l : Limits) (lengths : List ℕ) (i : Input) → InRange l lengths i → InRange l lengths (cond b (end_input i) i)
 unfolding end_input
 end_if false l lengths i h = h
-end_if true l lengths i h = input_either i.peer_ended l lengths i (close_when_taken (peer_ends i)) h h
+end_if true l lengths i h = either (InRange l lengths) i.peer_ended i (close_when_taken (peer_ends i)) h h
 
 pub granted_by : (u : units.Unit) (l : Limits) (lengths : List ℕ) (i : Input) → HeldIn u l lengths i
     → Held u l lengths (i.window.open + i.window.returnable) 0 i.inbox.length i.inbox.first i.inbox.frames

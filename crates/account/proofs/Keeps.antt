@@ -1,7 +1,7 @@
 -- A claim on each stream, of whether the account has it closed and of its tally: what it must stand for a call and its answer to
 -- keep it. The account changes a stream in six ways; all else that it does leaves the streams alone.
-use Rattle.std.specs.Prelude.{Result, Ok, Err}
-use Rattle.exec.specs.declared.Admission.TheVariants.{Own, Stale}
+use Rattle.std.specs.Prelude.{Result, Ok}
+use Rattle.exec.specs.declared.Admission.TheVariants.{Own}
 use Rattle.exec.specs.declared.Admission.{Admission}
 use Rattle.exec.specs.declared.Refusal.{Refusal}
 use mathlib.Core.Bool.{Bool, true, false, not, ◌||◌}
@@ -101,8 +101,7 @@ module _ (P : Stream → Bool → Tally → Type 0) (c : Call) (r : Answer) (h :
   cancel_keeps (Ok Own) now a p =
       let b : Account = Account.tick_a now a in
       same_closed (Account.begin now b.rep) b (begin_closed b.rep.begun now b.rep) (tick_keeps now a p)
-  cancel_keeps (Ok Stale) now a p = p
-  cancel_keeps (Err x) now a p = p
+  cancel_keeps _ now a p = p
 
   detach_keeps : (now : ℕ) (a : Account) → All P a → All P (Account.detach_a now a)
   unfolding Account.detach_a
@@ -118,30 +117,13 @@ module _ (P : Stream → Bool → Tally → Type 0) (c : Call) (r : Answer) (h :
       (tick_keeps now (mk (Account.no_timeout_r a.rep) a.tallies) p)
 
   heard_keeps : (m : Message) (a : Account) → r ≡ Call.Says m → All P a → All P (heard m a)
-  heard_keeps (Call.Credit n) a e p = p
-  heard_keeps Call.Started a e p = p
   heard_keeps (Call.Output x b) a e p =
       on_each (λ (y : Stream) (t : Tally). P y (one y a.rep.closed) t) x (sent_by b) a.tallies (h.sends x b _ _ e (p x)) (λ y d. p y)
-  heard_keeps (Call.End x) a e p = p
-  heard_keeps Call.InputClosed a e p = p
-  heard_keeps (Call.Terminal o) a e p = p
+  heard_keeps _ a e p = p
 
   hear_keeps : (q : Answer) (a : Account) → r ≡ q → All P a → All P (hear q a)
-  hear_keeps Call.Ok a e p = p
-  hear_keeps Call.Applied a e p = p
-  hear_keeps Call.Stale a e p = p
-  hear_keeps Call.Late a e p = p
-  hear_keeps (Call.Refused n) a e p = p
-  hear_keeps (Call.Taken n) a e p = p
-  hear_keeps (Call.Pending b) a e p = p
-  hear_keeps (Call.Value n) a e p = p
-  hear_keeps (Call.Time d) a e p = p
-  hear_keeps (Call.Truth b) a e p = p
-  hear_keeps (Call.Asks q) a e p = p
   hear_keeps (Call.Says m) a e p = heard_keeps m a e p
-  hear_keeps (Call.IsKey k) a e p = p
-  hear_keeps (Call.AreLimits l) a e p = p
-  hear_keeps Call.Nothing a e p = p
+  hear_keeps _ a e p = p
 
   adds_keeps : (d : Call) (a : Account) → c ≡ d → All P a → All P (adds a d r)
   unfolding adds
@@ -159,26 +141,8 @@ module _ (P : Stream → Bool → Tally → Type 0) (c : Call) (r : Answer) (h :
   adds_keeps (Call.disconnect now) a e p = detach_keeps now a p
   adds_keeps (Call.tick now) a e p = tick_keeps now a p
   adds_keeps (Call.next_message b) a e p = hear_keeps r a refl p
-  adds_keeps (Call.launched y) a e p = p
   adds_keeps (Call.output_hung_up x) a e p = p
-  adds_keeps (Call.settled ok) a e p = p
-  adds_keeps (Call.credit k y u) a e p = p
-  adds_keeps (Call.input k b) a e p = p
-  adds_keeps (Call.end_input k) a e p = p
-  adds_keeps (Call.input_written n) a e p = p
-  adds_keeps Call.input_closed a e p = p
-  adds_keeps Call.next_request a e p = p
-  adds_keeps (Call.read_allowance x) a e p = p
-  adds_keeps Call.pending_input a e p = p
-  adds_keeps Call.deadline a e p = p
-  adds_keeps Call.is_finished a e p = p
-  adds_keeps Call.is_detached a e p = p
-  adds_keeps Call.awaits_settlement a e p = p
-  adds_keeps Call.buffered a e p = p
-  adds_keeps Call.high_water a e p = p
-  adds_keeps Call.memory_bound a e p = p
-  adds_keeps Call.key a e p = p
-  adds_keeps Call.limits a e p = p
+  adds_keeps _ a e p = p
 
   pub add_keeps : (a : Account) → All P a → All P (add a c r)
   unfolding add

@@ -1,7 +1,7 @@
 -- The bound of demand 3 after every call that ticks: what the late tick leaves, the rest of the call keeps.
-use Rattle.std.specs.Prelude.{Option, Result, Some, None, Ok, Err}
+use Rattle.std.specs.Prelude.{Option, Result, Some, None, Ok}
 use Rattle.std.proofs.lemmas.Option.{none-some, same_Some}
-use Rattle.exec.specs.declared.Admission.TheVariants.{Own, Stale}
+use Rattle.exec.specs.declared.Admission.TheVariants.{Own}
 use Rattle.exec.specs.declared.Admission.{Admission}
 use Rattle.exec.specs.declared.Status.{Status}
 use Rattle.exec.specs.declared.Refusal.{Refusal}
@@ -57,42 +57,17 @@ unfolding Life.cancel_next
 after_cancel sum n now (Ok Own) c s f l h e =
     let t : Runner = ticked s now in
     (low_cancel_if Gone gone_lower (late t) now c t (late_ticked sum now s f (at_now sum n now l e) h)).hold
-after_cancel sum n now (Ok Stale) c s f l h e = absurd (none-some n e)
-after_cancel sum n now (Err x) c s f l h e = absurd (none-some n e)
+after_cancel sum n now _ c s f l h e = absurd (none-some n e)
 
 after_call : (sum n : ℕ) (call : Call) (s : State) → s.runner.flags.finished ≡ false → sum ≤ n → Before sum s.runner → tick_of (conf_of s.runner) call ≡ Some n → After (next s call).runner
 unfolding next
-after_call sum n Call.key s f l h e = absurd (none-some n e)
-after_call sum n Call.limits s f l h e = absurd (none-some n e)
-after_call sum n (Call.credit k p u) s f l h e = absurd (none-some n e)
-after_call sum n (Call.input k b) s f l h e = absurd (none-some n e)
-after_call sum n (Call.end_input k) s f l h e = absurd (none-some n e)
 after_call sum n (Call.cancel now k c) s f l h e = after_cancel sum n now (admits s.runner.key k) c s.runner f l h e
-after_call sum n (Call.launched x) s f l h e = absurd (none-some n e)
-after_call sum n (Call.read_allowance x) s f l h e = absurd (none-some n e)
-after_call sum n (Call.output x b) s f l h e = absurd (none-some n e)
-after_call sum n (Call.discarded x m) s f l h e = absurd (none-some n e)
-after_call sum n (Call.output_closed x) s f l h e = absurd (none-some n e)
-after_call sum n (Call.output_failed x) s f l h e = absurd (none-some n e)
-after_call sum n (Call.output_hung_up x) s f l h e = absurd (none-some n e)
-after_call sum n Call.pending_input s f l h e = absurd (none-some n e)
-after_call sum n (Call.input_written m) s f l h e = absurd (none-some n e)
-after_call sum n Call.input_closed s f l h e = absurd (none-some n e)
 after_call sum n (Call.exited now x) s f l h e = after_exited sum now x s.runner f (at_now sum n now l e) h
-after_call sum n (Call.settled x) s f l h e = absurd (none-some n e)
 after_call sum n (Call.dropped now) s f l h e = after_detach sum now Cause.Dropped s.runner f (at_now sum n now l e) h
 after_call sum n (Call.reset now) s f l h e = after_detach sum now Cause.Reset s.runner f (at_now sum n now l e) h
 after_call sum n (Call.disconnect now) s f l h e = after_detach sum now Cause.Disconnected s.runner f (at_now sum n now l e) h
 after_call sum n (Call.tick now) s f l h e = late_ticked sum now s.runner f (at_now sum n now l e) h
-after_call sum n Call.deadline s f l h e = absurd (none-some n e)
-after_call sum n Call.next_request s f l h e = absurd (none-some n e)
-after_call sum n (Call.next_message buffer) s f l h e = absurd (none-some n e)
-after_call sum n Call.is_finished s f l h e = absurd (none-some n e)
-after_call sum n Call.is_detached s f l h e = absurd (none-some n e)
-after_call sum n Call.awaits_settlement s f l h e = absurd (none-some n e)
-after_call sum n Call.memory_bound s f l h e = absurd (none-some n e)
-after_call sum n Call.buffered s f l h e = absurd (none-some n e)
-after_call sum n Call.high_water s f l h e = absurd (none-some n e)
+after_call sum n _ s f l h e = absurd (none-some n e)
 
 -- ---- the whole list
 

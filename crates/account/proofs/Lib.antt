@@ -6,9 +6,9 @@ pub mod Rings
 pub mod Streams
 pub mod Sides
 pub mod Keeps
+pub mod Timers
 pub mod Stages
 pub mod Lives
-pub mod Choices
 pub mod InputRange
 pub mod Range
 pub mod Phase
@@ -29,6 +29,7 @@ pub mod Records
 pub mod Tells
 pub mod Told
 pub mod Spared
+pub mod Outs
 pub mod Shut
 pub mod Turn
 pub mod Safe

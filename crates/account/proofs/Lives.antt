@@ -1,6 +1,6 @@
 -- The replay keeps step with the runner's life cycle, and each stream with its account, at every stage of a call.
-use Rattle.std.specs.Prelude.{Option, Result, None, Ok, Err}
-use Rattle.exec.specs.declared.Admission.TheVariants.{Own, Stale}
+use Rattle.std.specs.Prelude.{Option, Result, None, Ok}
+use Rattle.exec.specs.declared.Admission.TheVariants.{Own}
 use Rattle.exec.specs.declared.Admission.{Admission}
 use Rattle.exec.specs.declared.Status.{Status}
 use Rattle.exec.specs.declared.Refusal.{Refusal}
@@ -27,7 +27,9 @@ use Rattle.account.specs.Account
 use Rattle.account.specs.Account.{Account, Replay, Tally, tally_of, marked_unless, mk, begin_if, begin, timeout_r, no_timeout_r, overdue_r, settling_r, is_settled_r, is_fenced_r, cleaned_r, give_up_a, leave_r, abandon_streams_a, abandon_a, tick1, tick3, tick4, tick5, tick_a, cancel_a, detached_r, detach_r, detach_a, exit_r, exit_a, reported_r}
 use Rattle.account.proofs.Streams.{Good, end_grace_lem, given_up_lem, abandoned_by}
 use Rattle.account.proofs.Sides.{out_each, one_both, one_per}
-use Rattle.account.proofs.Stages.{grace_if, terminate_if, timeout_if, give_up_if, drop_launch_if, abandon_streams_if, abandon_if, stage1, stage2, stage3, stage4, stage5, tick_if, tick_is, cancel_if, late, detach_if, exited_if, cancel_next}
+use Rattle.account.proofs.Timers as Timers
+use Rattle.account.proofs.Timers.{Kept, tick_keeps}
+use Rattle.account.proofs.Stages.{grace_if, terminate_if, timeout_if, give_up_if, drop_launch_if, abandon_streams_if, abandon_if, stage1, stage2, stage3, stage4, stage5, tick_if, tick_is, cancel_if, detach_if, exited_if, cancel_next}
 
 abbrev pub as_replay : Settling → Account.Settling
 as_replay Settling.Idle = Account.Idle
@@ -36,33 +38,25 @@ as_replay Settling.Settled = Account.Settled
 as_replay Settling.Fenced = Account.Fenced
 
 overdue_same : (now : ℕ) (x : Settling) → overdue_r now (as_replay x) ≡ as_replay (expired x now)
-overdue_same now Settling.Idle = refl
 overdue_same now (Settling.Requested d) = go (due d now)
   where
     go : (b : Bool) → cond b Account.Fenced (Account.Requested d) ≡ as_replay (cond b Settling.Fenced (Settling.Requested d))
     go true = refl
     go false = refl
-overdue_same now Settling.Settled = refl
-overdue_same now Settling.Fenced = refl
+overdue_same now _ = refl
 
 settled_same : (x : Settling) → is_settled_r (as_replay x) ≡ is_settled x
-settled_same Settling.Idle = refl
 settled_same (Settling.Requested d) = refl
-settled_same Settling.Settled = refl
-settled_same Settling.Fenced = refl
+settled_same _ = refl
 
 fenced_same : (x : Settling) → is_fenced_r (as_replay x) ≡ is_fenced x
-fenced_same Settling.Idle = refl
 fenced_same (Settling.Requested d) = refl
-fenced_same Settling.Settled = refl
-fenced_same Settling.Fenced = refl
+fenced_same _ = refl
 
 pub reported_same : (x : Settling) (y : Settlement) → reported_r (as_replay x) y ≡ as_replay (settle_with x y)
-reported_same Settling.Idle y = refl
 reported_same (Settling.Requested d) Settlement.Settled = refl
 reported_same (Settling.Requested d) Settlement.Failed = refl
-reported_same Settling.Settled y = refl
-reported_same Settling.Fenced y = refl
+reported_same _ y = refl
 
 pub given_exit : (x : Exit) → exit_known (or_lost x) ≡ true
 given_exit Exit.Running = refl
@@ -119,86 +113,25 @@ pub record Frame : Type 0 where
 abbrev pub frame : Runner → Frame
 frame s = record { conf = conf_of s; finished = s.flags.finished }
 
-grace_frame : (b : Bool) (s : Runner) → frame (grace_if b s) ≡ frame s
-unfolding end_grace
-grace_frame false s = refl
-grace_frame true s = refl
-
-terminate_frame : (b : Bool) (now : ℕ) (c : Cause) (s : Runner) → frame (terminate_if b now c s) ≡ frame s
-unfolding begin_termination pass_grace
-terminate_frame true now c s = refl
-terminate_frame false now c s = grace_frame (due (after now s.timers.grace) now) (begin_termination s now c)
-
-timeout_frame : (b : Bool) (now : ℕ) (s : Runner) → frame (timeout_if b now s) ≡ frame s
-unfolding terminate
-timeout_frame false now s = refl
-timeout_frame true now s = terminate_frame s.clocks.terminated now Cause.TimedOut (with_clocks (set_timeout_at None s.clocks) s)
-
-give_up_frame : (b c : Bool) (s : Runner) → frame (give_up_if b c s) ≡ frame s
-unfolding give_up
-give_up_frame false c s = refl
-give_up_frame true true s = refl
-give_up_frame true false s = refl
-
-streams_frame : (b : Bool) (s : Runner) → frame (abandon_streams_if b s) ≡ frame s
-unfolding abandon_open_streams
-streams_frame false s = refl
-streams_frame true s = refl
-
-abandon_frame : (b : Bool) (s : Runner) → frame (abandon_if b s) ≡ frame s
-unfolding drop_launch abandon_launch
-abandon_frame false s = refl
-abandon_frame true s = streams_frame (is_fenced (drop_launch s).life.settling) (drop_launch s) ∙ go (awaits_launch s)
-  where
-    go : (b : Bool) → frame (drop_launch_if b s) ≡ frame s
-    go true = refl
-    go false = refl
-
-pub tick_frame : (f : Bool) (now : ℕ) (s : Runner) → frame (tick_if f now s) ≡ frame s
-tick_frame true now s = refl
-tick_frame false now s =
-    let s1 : Runner = stage1 now s in let s2 : Runner = stage2 now s1 in let s3 : Runner = stage3 now s2 in let s4 : Runner = stage4 now s3 in
-    abandon_frame (due s4.clocks.abandon_at now) s4 ∙ give_up_frame (due s3.clocks.give_up_at now) (is_cleaned_up s3) s3 ∙ grace_frame (due s1.clocks.grace_until now) s1
-    ∙ timeout_frame (due s.clocks.timeout_at now) now s
+pub timed : (s : Runner) → Kept (λ r. frame r ≡ frame s)
+unfolding close_runner_input
+timed s = record {
+  moves = λ r c l f e p. rw e p;
+  closes = λ r p. p;
+  tells = λ r p. p;
+  grace = λ r p. p;
+  gives = λ r p. p;
+  abandons = λ r p. p;
+}
 
 pub ticked_frame : (now : ℕ) (s : Runner) → frame (ticked s now) ≡ frame s
-ticked_frame now s = ap frame (tick_is s now) ∙ tick_frame s.flags.finished now s
+ticked_frame now s = tick_keeps _ (timed s) now s refl
 
 pub tick_fin : (now : ℕ) (s : Runner) → s.flags.finished ≡ false → (ticked s now).flags.finished ≡ false
 tick_fin now s f = ap (λ (x : Frame). x.finished) (ticked_frame now s) ∙ f
 
-cancel_if_frame : (b : Bool) (now : ℕ) (c : Cause) (s : Runner) → frame (cancel_if b now c s) ≡ frame s
-unfolding terminate
-cancel_if_frame true now c s = refl
-cancel_if_frame false now c s = terminate_frame s.clocks.terminated now c s
-
 pub cancel_frame : (k : Result Admission Refusal) (now : ℕ) (c : Cause) (s : Runner) → frame (cancel_next k now c s) ≡ frame s
-unfolding Life.cancel_next
-cancel_frame (Ok Own) now c s = cancel_if_frame (late (ticked s now)) now c (ticked s now) ∙ ticked_frame now s
-cancel_frame (Ok Stale) now c s = refl
-cancel_frame (Err z) now c s = refl
-
-detach_if_frame : (f d : Bool) (now : ℕ) (c : Cause) (s : Runner) → frame (detach_if f d now c s) ≡ frame s
-unfolding end_grace silenced give_up_soon terminate
-detach_if_frame true d now c s = refl
-detach_if_frame false true now c s = refl
-detach_if_frame false false now c s = terminate_frame s.clocks.terminated now c s
-
-pub detach_frame : (now : ℕ) (c : Cause) (s : Runner) → frame (detach_next s now c) ≡ frame s
-unfolding detach_next cut_off_once cut_off
-detach_frame now c s = detach_if_frame (ticked s now).flags.finished (ticked s now).flags.detached now c (ticked s now) ∙ ticked_frame now s
-
-exited_if_frame : (e g : Bool) (now : ℕ) (x : Option Status) (s : Runner) → frame (exited_if e g now x s) ≡ frame s
-unfolding note_exit close_runner_input
-exited_if_frame true g now x s = refl
-exited_if_frame false true now x s = refl
-exited_if_frame false false now x s = refl
-
-pub exited_frame : (now : ℕ) (x : Option Status) (s : Runner) → frame (exited_next s now x) ≡ frame s
-unfolding exited_next note_exit_once
-exited_frame now x s =
-    let s' : Runner = with_clocks (set_timeout_at None s.clocks) s in
-    exited_if_frame (exit_known (ticked s' now).life.exit) (ticked s' now).flags.gave_up now x (ticked s' now) ∙ ticked_frame now s'
+cancel_frame k now c s = Timers.cancel_keeps _ (timed s) k now c s refl
 
 module _ (st : List ℕ) where
   -- to show something of the account, show it where the replay is the state's own
@@ -310,8 +243,7 @@ module _ (st : List ℕ) where
   unfolding Life.cancel_next cancel_a
   cancel_inv (Ok Own) now c s a f h =
       cancel_if_inv (ticked s now).flags.finished (ticked s now).clocks.terminated now c (ticked s now) (tick_a now a) (tick_fin now s f) refl (tick_inv now s a f h)
-  cancel_inv (Ok Stale) now c s a f h = h
-  cancel_inv (Err z) now c s a f h = h
+  cancel_inv _ now c s a f h = h
 
   detach_if_inv : (f d : Bool) (now : ℕ) (c : Cause) (s : Runner) (a : Account) → f ≡ false → Inv st s a
       → Inv st (detach_if f d now c s) (mk (detach_r d now a.rep) a.tallies)

@@ -17,15 +17,16 @@ use Rattle.lifecycle.specs.Life.{launch_known, exit_known, is_settled, expired, 
 use Rattle.input.specs.Input as In
 use Rattle.input.specs.Input.{close_when_taken, peer_ends, end_input}
 use Rattle.output.specs.Output.{grace_ended, given_up, closed_out, failed_out, hung_up, lost_out, ended_out, asked_out, sent_out, keeps, intake}
-use Rattle.runner.specs.Life.{awaits_launch, is_cleaned_up, end_grace, give_up, drop_launch}
+use Rattle.runner.specs.Life.{awaits_launch, is_cleaned_up, end_grace, give_up}
 use Rattle.exec.specs.Stream.{every_stream_lem, sum_of_streams}
 use Rattle.output.specs.Outputs.{all_closed}
 use Rattle.runner.specs.State.{out_of}
 use Rattle.account.proofs.Streams.{blocked_by}
 use Rattle.account.proofs.Sides.{out_each}
-use Rattle.account.proofs.Stages.{drop_launch_if, over}
+use Rattle.account.proofs.Stages.{over}
 use Rattle.account.proofs.Lives.{given_exit}
-use Rattle.account.proofs.Flags.{or_right, four}
+use Rattle.std.proofs.lemmas.Bool.{or_right, and_parts}
+use Rattle.account.proofs.Flags.{either}
 
 pub data Either (A B : Type 0) : Type 0 where
   left : A → Either A B
@@ -79,24 +80,18 @@ abbrev pub left_over : Runner → ℕ
 left_over s = bit s.flags.started_message + bit s.input.closed_message + untold s
 
 pub over_overdue : (now : ℕ) (x : Settling) → over x ≡ true → over (expired x now) ≡ true
-over_overdue now Settling.Idle e = e
 over_overdue now (Settling.Requested d) e = absurd (false≢true e)
-over_overdue now Settling.Settled e = e
-over_overdue now Settling.Fenced e = e
+over_overdue now _ e = e
 
 settled_over : (x : Settling) → is_settled x ≡ true → over x ≡ true
-settled_over Settling.Idle e = e
-settled_over (Settling.Requested d) e = e
-settled_over Settling.Settled e = e
 settled_over Settling.Fenced e = refl
+settled_over _ e = e
 
 pub reported_over : (x : Settling) (y : Settlement) → over x ≡ true → over (settle_with x y) ≡ true
-reported_over Settling.Idle y e = e
 reported_over (Settling.Requested d) y e = absurd (false≢true e)
-reported_over Settling.Settled y e = e
-reported_over Settling.Fenced y e = e
+reported_over _ y e = e
 
-no_wait : (a b c : Bool) → a ≡ true → (not a && b && c) ≡ false
+pub no_wait : (a b c : Bool) → a ≡ true → (not a && b && c) ≡ false
 no_wait true b c e = refl
 no_wait false b c e = absurd (false≢true e)
 
@@ -107,12 +102,16 @@ and_none false b = refl
 pub cleaned_known : (s : Runner) → is_cleaned_up s ≡ true → AllKnown s
 cleaned_known s e =
     let l = launch_known s.life.launch in
-    let p = four l (exit_known s.life.exit) (all_closed s.outputs) (is_settled s.life.settling) e in
+    let x = exit_known s.life.exit in
+    let c = all_closed s.outputs in
+    let p = and_parts (l && x && c) (is_settled s.life.settling) e in
+    let q = and_parts (l && x) c p.0 in
+    let r = and_parts l x q.0 in
     record {
-      launch = no_wait l (not s.flags.gave_up) (not s.flags.launch_abandoned) p.0;
-      exit = p.1;
-      closed = every_stream_lem (λ (x : Stream). (out_of x s).closed) p.2;
-      settled = settled_over s.life.settling p.3;
+      launch = no_wait l (not s.flags.gave_up) (not s.flags.launch_abandoned) r.0;
+      exit = r.1;
+      closed = every_stream_lem (λ (x : Stream). (out_of x s).closed) q.1;
+      settled = settled_over s.life.settling p.1;
     }
 
 pub known_given : (s : Runner) → AllKnown (give_up s)
@@ -130,14 +129,6 @@ dry_grace s x = rw (out_each grace_ended s.outputs x) (record { none = refl; sto
 pub dry_given : (s : Runner) → Dry (give_up s)
 unfolding give_up
 dry_given s x = rw (out_each given_up s.outputs x) (record { none = refl; stop = refl })
-
-known_left_if : (b : Bool) (s : Runner) → awaits_launch s ≡ b → AllKnown s → AllKnown (drop_launch_if b s)
-known_left_if true s e d = absurd (true≢false (sym e ∙ d.launch))
-known_left_if false s e d = d
-
-known_left : (s : Runner) → AllKnown s → AllKnown (drop_launch s)
-unfolding drop_launch
-known_left s d = known_left_if (awaits_launch s) s refl d
 
 -- what a change of the input, and of an output, must keep
 abbrev pub InKept : Input → Input → Type 0
@@ -172,7 +163,7 @@ kept_fail o = record { drained = λ d. record { none = d.none; stop = refl }; cl
 pub kept_hang : (o : Output) → OutKept o (hung_up o)
 kept_hang o = record { drained = λ d. d; closed = λ e. e; msg = le_refl (bit (not o.ended)) }
 
-intake_none : (c g d : Bool) (room n : ℕ) → (c || d) ≡ true → keeps (c || g) d room n ≡ 0
+pub intake_none : (c g d : Bool) (room n : ℕ) → (c || d) ≡ true → keeps (c || g) d room n ≡ 0
 intake_none true g d room n e = refl
 intake_none false true d room n e = refl
 intake_none false false true room n e = refl
@@ -185,16 +176,12 @@ kept_intake g room n o = record {
   msg = le_refl (bit (not o.ended));
 }
 
-pub kept_if : (b : Bool) (i j k : Input) → InKept i j → InKept i k → InKept i (cond b j k)
-kept_if true i j k p q = p
-kept_if false i j k p q = q
-
 kept_taken : (i j : Input) → j.closed ≡ true → j.closed_message ≡ i.closed_message → InKept i (close_when_taken j)
 kept_taken i j e m = (or_right (In.is_used_up j) j.closed e, m)
 
 pub kept_ended : (i : Input) → i.closed ≡ true → InKept i (end_input i)
 unfolding end_input
-kept_ended i e = kept_if i.peer_ended i i (close_when_taken (peer_ends i)) (e, refl) (kept_taken i (peer_ends i) e refl)
+kept_ended i e = either (InKept i) i.peer_ended i (close_when_taken (peer_ends i)) (e, refl) (kept_taken i (peer_ends i) e refl)
 
 pub kept_written : (b : Bool) (i j : Input) → i.closed ≡ b → i.closed ≡ true → InKept i (cond b i j)
 kept_written true i j f e = (e, refl)

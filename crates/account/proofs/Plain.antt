@@ -63,17 +63,7 @@ next s (Call.disconnect now) = on_runner (detach_next s.runner now Cause.Disconn
 next s (Call.tick now) = on_runner (ticked s.runner now) s
 next s Call.next_request = on_runner (wish_effect (wish s.runner) s.runner) s
 next s (Call.next_message buffer) = on_runner (effect (choose s.runner (length buffer)) s.runner) s
-next s (Call.read_allowance x) = s
-next s Call.pending_input = s
-next s Call.deadline = s
-next s Call.is_finished = s
-next s Call.is_detached = s
-next s Call.awaits_settlement = s
-next s Call.buffered = s
-next s Call.high_water = s
-next s Call.memory_bound = s
-next s Call.key = s
-next s Call.limits = s
+next s _ = s
 
 unfoldable pub answer : State → Call → Answer
 answer s (Call.credit k p u) =
@@ -111,37 +101,12 @@ answer s Call.limits = Call.AreLimits s.runner.limits
 
 -- the stores that a call is lent do
 unfoldable pub enough : State → Call → Bool
-enough s (Call.credit k p u) = true
 enough s (Call.input k b) = bytes_do s.runner.limits s.bytes && lengths_do s.runner.limits s.lengths
-enough s (Call.end_input k) = true
-enough s (Call.cancel now k c) = true
-enough s (Call.launched x) = true
 enough s (Call.output x b) = bytes_do s.runner.limits s.bytes
-enough s (Call.discarded x n) = true
-enough s (Call.output_closed x) = true
-enough s (Call.output_failed x) = true
-enough s (Call.output_hung_up x) = true
 enough s (Call.input_written n) = lengths_do s.runner.limits s.lengths
-enough s Call.input_closed = true
-enough s (Call.exited now x) = true
-enough s (Call.settled x) = true
-enough s (Call.dropped now) = true
-enough s (Call.reset now) = true
-enough s (Call.disconnect now) = true
-enough s (Call.tick now) = true
-enough s Call.next_request = true
 enough s (Call.next_message buffer) = bytes_do s.runner.limits s.bytes
-enough s (Call.read_allowance x) = true
 enough s Call.pending_input = bytes_do s.runner.limits s.bytes
-enough s Call.deadline = true
-enough s Call.is_finished = true
-enough s Call.is_detached = true
-enough s Call.awaits_settlement = true
-enough s Call.buffered = true
-enough s Call.high_water = true
-enough s Call.memory_bound = true
-enough s Call.key = true
-enough s Call.limits = true
+enough s _ = true
 
 -- ---- open, and a list of calls
 

@@ -111,15 +111,13 @@ untold_left s f part o e u channel buffer m =
     let t = ends (Call.next_message part) s (ap is_terminal a) in
     let same : outcome_of s.runner ≡ o = says_outcome _ _ (sym (ends_answer s (Call.next_message part) t) ∙ a) in
     let next = length (take s.runner.limits.chunk (drop 13 buffer)) in
-    let l : is_left (asked s.runner s.bytes buffer).saying.said ≡ true = rw (g, still s.runner _ next t.chosen, same) u in
+    let l : is_left (asked s.runner s.bytes buffer).saying.answer ≡ true = rw (g, still s.runner _ next t.chosen, same) u in
     ap answers (write_left s.runner channel s.bytes buffer _ _ (writes s.runner channel s.bytes buffer g) m l)
 
 -- so where no Terminal is next, an entry makes what it makes where it is not refused by 40
 pub made_so : (conf : Conf) (e : Entry) (c : Call) (s : State) → Good conf s → made conf e Call.Ok ≡ Some c → is_terminal (Step.answer s c) ≡ false
     → made conf e (answer_entry s e) ≡ Some c
 unfolding made
-made_so conf (call x) c s g k h = k
-made_so conf (read_record now channel b) c s g k h = k
 made_so conf (write_record channel buffer) c s g k h = at (is_channel conf.limits && roomy conf buffer) (is_untaken (answer_entry s (write_record channel buffer))) refl k
   where
     part : List ℕ
@@ -132,6 +130,7 @@ made_so conf (write_record channel buffer) c s g k h = at (is_channel conf.limit
     at true true e k =
         let q : Call.next_message part ≡ c = cc in
         absurd (false≢true (sym h ∙ ap (λ (x : Call). is_terminal (Step.answer s x)) (sym q) ∙ ap is_terminal (left_untold s channel buffer g.fine e part).1))
+made_so conf _ c s g k h = k
 
 -- ---- a list of entries is the list of its calls
 

@@ -1,12 +1,7 @@
--- Refusals change nothing: by 12, 10 and 11 the guard gives back what it was given, and behind it only credit, input, end_input
--- and cancel refuse, and only these answer Stale; of the records' own refusals `Records` tells. Then those of open, and of what
--- writes and reads the bytes of a record.
+-- Refusals change nothing: by 12, 10 and 11 the guard gives back what it was given; of what is refused behind it `Safe` tells, and of
+-- the records' own refusals `Records`. Then those of open, and of what writes and reads the bytes of a record.
 use Rattle.std.specs.Prelude.{Option, Result, Some, None, Ok, Err}
-use Rattle.exec.specs.declared.Admission.TheVariants.{Own}
-use Rattle.exec.specs.declared.Admission.{Admission}
-use Rattle.runner.specs.declared.answer.Request.{Request}
 use Rattle.exec.specs.declared.Status.{Status}
-use Rattle.exec.specs.declared.Receipt.{Receipt}
 use mathlib.Core.Bool.{Bool, true, false, cond, not, ◌&&◌, ◌||◌, false≢true}
 use mathlib.Core.Path.{◌≡◌, refl, sym, ap, ◌∙◌, subst}
 use mathlib.Core.List.{List, [], ◌∷◌}
@@ -14,25 +9,16 @@ use Prim.Native.Nat.{ℕ, ◌+◌}
 use native.Mathlib.Omega.{arith}
 use lib.Dec.{leb, eqb}
 use lib.ListN.{length, get_or}
-use Rattle.exec.specs.declared.Cause.{Cause}
 use Rattle.exec.specs.declared.Key.{Key}
-use Rattle.exec.specs.declared.Limits.{Limits}
 use Rattle.exec.specs.declared.Refusal.{Refusal}
 use Rattle.exec.specs.declared.Timers.{Timers}
-use Rattle.exec.specs.Key.{admits}
 use Rattle.exec.specs.Limits.{bytes_with, is_valid, no_limits}
 use Rattle.exec.specs.Refusal.{number}
-use Rattle.input.specs.declared.Input.{Input}
-use Rattle.input.specs.Input as Input
-use Rattle.choice.specs.declared.Choice.{Choice}
 use Rattle.runner.specs.declared.runner.Runner.{Runner}
 use Rattle.runner.specs.Calls as Calls
 use Rattle.runner.specs.Calls.{asked_for, stores_do, open_by}
-use Rattle.runner.specs.Life.{is_late, ticked, cancel_answer, cancel_next}
 use Rattle.runner.specs.Message.{choose, wish}
 use Rattle.runner.specs.Range.{in_range, bytes_do, lengths_do, stop, open_stop, fresh}
-use Rattle.runner.specs.State.{with_flow, with_input}
-use Rattle.runner.specs.Streams as Streams
 use Rattle.output.specs.Output.{output_fits}
 use Rattle.codec.specs.declared.Record.{Record}
 use Rattle.codec.specs.Codec as Codec
@@ -50,13 +36,14 @@ use Rattle.account.specs.Records.{Entry, call, read_record, write_record, next_e
 use Rattle.account.specs.Refused.{of_calls, Unwritten, Refusals}
 use Rattle.account.proofs.Plain as Plain
 use Rattle.account.proofs.Plain.{said}
-use Rattle.account.proofs.Flags.{either, or_right}
+use Rattle.std.proofs.lemmas.Bool.{or_right}
+use Rattle.account.proofs.Flags.{either}
 use Rattle.account.proofs.Guarded.{next_is, answer_is}
-use Rattle.channel.specs.Ended.{Writes, elsewhere, short, left, taken, tells}
+use Rattle.channel.specs.Ended.{Writes, taken, tells}
 use Rattle.channel.proofs.Ended.{writes}
 use Rattle.account.proofs.EachRecord.{RefusedBy, reads_by, Among, Does, told_as, answers}
 use Rattle.account.proofs.Records.{read_does, write_does}
-use Rattle.account.proofs.Safe.{IfRefused, Kept, Safe, admits_by, credit_safe, late_safe}
+use Rattle.account.proofs.Safe.{IfRefused, Safe, safe_among, Kept, of_plain, credit_safe, input_safe, end_safe, cancel_safe, wish_safe, said_safe}
 
 -- ---- refused by 12, 10 or 11
 
@@ -75,190 +62,42 @@ stop_known r stores x e =
 stopped : (s : State) (c : Call) (x : Refusal) → stop s.runner (Plain.enough s c) ≡ Err x
     → (Step.next s c ≡ s) × (Step.answer s c ≡ Call.Refused (number x))
 unfolding Plain.enough Step.next Step.answer Calls.key Calls.limits Calls.credit Calls.input Calls.end_input Calls.cancel Calls.launched Calls.read_allowance Calls.output Calls.discarded Calls.output_closed Calls.output_failed Calls.output_hung_up Calls.pending_input Calls.input_written Calls.input_closed Calls.exited Calls.settled Calls.dropped Calls.reset Calls.disconnect Calls.tick Calls.deadline Calls.next_request Calls.next_message Calls.is_finished Calls.is_detached Calls.awaits_settlement Calls.memory_bound Calls.buffered Calls.high_water
-stopped s Call.key x g = rw g (refl, refl)
-stopped s Call.limits x g = rw g (refl, refl)
 stopped s (Call.credit k p u) x g = rw g (refl, refl)
-stopped s (Call.input k b) x g = rw g (refl, refl)
-stopped s (Call.end_input k) x g = rw g (refl, refl)
-stopped s (Call.cancel now k c) x g = rw g (refl, refl)
-stopped s (Call.launched y) x g = rw g (refl, refl)
-stopped s (Call.read_allowance y) x g = rw g (refl, refl)
-stopped s (Call.output y b) x g = rw g (refl, refl)
-stopped s (Call.discarded y n) x g = rw g (refl, refl)
-stopped s (Call.output_closed y) x g = rw g (refl, refl)
-stopped s (Call.output_failed y) x g = rw g (refl, refl)
-stopped s (Call.output_hung_up y) x g = rw g (refl, refl)
-stopped s Call.pending_input x g = rw g (refl, refl)
-stopped s (Call.input_written n) x g = rw g (refl, refl)
-stopped s Call.input_closed x g = rw g (refl, refl)
-stopped s (Call.exited now y) x g = rw g (refl, refl)
-stopped s (Call.settled y) x g = rw g (refl, refl)
-stopped s (Call.dropped now) x g = rw g (refl, refl)
-stopped s (Call.reset now) x g = rw g (refl, refl)
-stopped s (Call.disconnect now) x g = rw g (refl, refl)
-stopped s (Call.tick now) x g = rw g (refl, refl)
-stopped s Call.deadline x g = rw g (refl, refl)
-stopped s Call.next_request x g = rw g (refl, refl)
-stopped s (Call.next_message buffer) x g = rw g (refl, refl)
-stopped s Call.is_finished x g = rw g (refl, refl)
-stopped s Call.is_detached x g = rw g (refl, refl)
-stopped s Call.awaits_settlement x g = rw g (refl, refl)
-stopped s Call.memory_bound x g = rw g (refl, refl)
-stopped s Call.buffered x g = rw g (refl, refl)
-stopped s Call.high_water x g = rw g (refl, refl)
-
--- ---- input
-
-abbrev received : State → List ℕ → Result Admission Refusal → State
-received s b a = record {
-  runner = Streams.input_next a s.runner (length b);
-  bytes = Streams.input_store a s.runner b s.bytes;
-  lengths = Streams.input_lengths a s.runner (length b) s.lengths;
-}
-
--- one that is not charged is not kept either: state and stores are what they were
-unpaid_by : (taken kept : Bool) (s : State) (i : Input) (bytes lengths : List ℕ) (high : ℕ) → i ≡ s.runner.input → bytes ≡ s.bytes → lengths ≡ s.lengths → kept ≡ false
-    → ◌≡◌ {A = State} (record {
-      runner =
-          with_flow s.runner.credits s.runner.turn s.runner.flags (cond (taken && kept) high s.runner.high_water)
-          (with_input (cond taken i s.runner.input) s.runner);
-      bytes = cond taken bytes s.bytes;
-      lengths = cond taken lengths s.lengths;
-    }) s
-unpaid_by false kept s i bytes lengths high ei eb el k = refl
-unpaid_by true false s i bytes lengths high ei eb el k = rw (ei, eb, el) refl
-unpaid_by true true s i bytes lengths high ei eb el k = absurd (false≢true (sym k))
-
-module _ (l : Limits) (i : Input) (b : List ℕ) (x : Refusal) (h : Input.receive_answer l i (length b) ≡ Err x) where
-  unpaid_input : Input.receive_input l i (length b) ≡ i
-  unfolding Input.receive_input
-  unpaid_input = rw h refl
-
-  unpaid_bytes : (store : List ℕ) → Input.receive_bytes l i b store ≡ store
-  unfolding Input.receive_bytes
-  unpaid_bytes store = rw h refl
-
-  unpaid_lengths : (lengths : List ℕ) → Input.receive_lengths l i (length b) lengths ≡ lengths
-  unfolding Input.receive_lengths
-  unpaid_lengths lengths = rw h refl
-
-unpaid : (s : State) (b : List ℕ) (x : Refusal) → Input.receive_answer s.runner.limits s.runner.input (length b) ≡ Err x → received s b (Ok Own) ≡ s
-unfolding Streams.input_next Streams.input_store Streams.input_lengths
-unpaid s b x h =
-    let l : Limits = s.runner.limits in
-    let i : Input = s.runner.input in
-    unpaid_by (not s.runner.flags.finished) (Input.is_kept l i (length b)) s _ _ _ _ (unpaid_input l i b x h) (unpaid_bytes l i b x h s.bytes)
-    (unpaid_lengths l i b x h s.lengths) (rw h refl)
-
-abbrev InputSafe : State → List ℕ → Result Admission Refusal → Type 0
-InputSafe s b a = Safe s (received s b a) (received_as (Streams.input_answer a s.runner (length b)))
-
--- an input is refused by 4, 5 or 6 behind its key
-input_own : (s : State) (b : List ℕ) → InputSafe s b (Ok Own)
-unfolding Streams.input_answer
-input_own s b =
-    let l : Limits = s.runner.limits in
-    let i : Input = s.runner.input in
-    either (λ x. Safe s (received s b (Ok Own)) (received_as x)) s.runner.flags.finished _ _ tt
-    (Input.answered l i (length b) (λ x. Input.receive_answer l i (length b) ≡ x → Safe s (received s b (Ok Own)) (received_as x))
-    (λ e. record { same = unpaid s b Refusal.Ended e; known = refl })
-    (λ e. record { same = unpaid s b Refusal.Chunk e; known = refl })
-    (λ e. record { same = unpaid s b Refusal.Window e; known = refl }) (λ p e. tt) (λ p e. tt) refl)
-
-input_safe : (s : State) (k : Key) (b : List ℕ) → InputSafe s b (admits s.runner.key k)
-unfolding Streams.input_answer Streams.input_next Streams.input_store Streams.input_lengths
-input_safe s k b =
-    admits_by (InputSafe s b) (input_own s b) refl (record { same = refl; known = refl }) s.runner.key k
-
--- end_input by 6: the input is kept
-ended : (over finished : Bool) (s : State) (i : Input)
-    → Safe s (on_runner (with_input (cond (not finished) (cond over s.runner.input i) s.runner.input) s.runner) s)
-    (received_as (cond finished (Ok Receipt.Late) (cond over (Err Refusal.Ended) (cond s.runner.input.closed (Ok Receipt.Late) (Ok Receipt.Applied)))))
-ended over true s i = tt
-ended true false s i = record { same = refl; known = refl }
-ended false false s i = late_safe s _ s.runner.input.closed
-
-end_safe : (s : State) (k : Key)
-    → Safe s (on_runner (Streams.end_next (admits s.runner.key k) s.runner) s) (received_as (Streams.end_answer (admits s.runner.key k) s.runner))
-unfolding Streams.end_next Streams.end_answer Input.end_input Input.end_answer
-end_safe s k =
-    admits_by (λ a. Safe s (on_runner (Streams.end_next a s.runner) s) (received_as (Streams.end_answer a s.runner)))
-    (ended s.runner.input.peer_ended s.runner.flags.finished s _) refl (record { same = refl; known = refl }) s.runner.key k
-
--- cancel is refused by its key alone
-cancel_safe : (s : State) (now : ℕ) (k : Key) (c : Cause)
-    → Safe s (on_runner (cancel_next (admits s.runner.key k) s.runner now c) s) (received_as (cancel_answer (admits s.runner.key k) s.runner now))
-unfolding cancel_next cancel_answer
-cancel_safe s now k c =
-    admits_by (λ a. Safe s (on_runner (cancel_next a s.runner now c) s) (received_as (cancel_answer a s.runner now)))
-    (late_safe s _ (is_late (ticked s.runner now))) refl (record { same = refl; known = refl }) s.runner.key k
+stopped s _ x g = rw g (refl, refl)
 
 -- ---- every call
 
-wish_safe : (s t : State) (w : Option Request) → Safe s t (asks (asked_for w))
-wish_safe s t None = tt
-wish_safe s t (Some (Request.Terminate c)) = tt
-wish_safe s t (Some (Request.Discard x)) = tt
-wish_safe s t (Some Request.CloseInput) = tt
-wish_safe s t (Some Request.Settle) = tt
-
-said_safe : (Q : Type 0) (P : ℕ → Type 0) (m : Choice) (r : Runner) (bytes : List ℕ) → IfRefused Q P (said m r bytes)
-unfolding said
-said_safe Q P Choice.None r bytes = tt
-said_safe Q P Choice.Credit r bytes = tt
-said_safe Q P Choice.Started r bytes = tt
-said_safe Q P Choice.InputClosed r bytes = tt
-said_safe Q P (Choice.End x) r bytes = tt
-said_safe Q P (Choice.Output x n) r bytes = tt
-said_safe Q P Choice.Terminal r bytes = tt
-
 plain_safe : (s : State) (c : Call) → Safe s (Plain.next s c) (Plain.answer s c)
 unfolding Plain.next Plain.answer
-plain_safe s Call.key = tt
-plain_safe s Call.limits = tt
 plain_safe s (Call.credit k p u) = credit_safe s k p u
 plain_safe s (Call.input k b) = input_safe s k b
 plain_safe s (Call.end_input k) = end_safe s k
 plain_safe s (Call.cancel now k c) = cancel_safe s now k c
-plain_safe s (Call.launched x) = tt
-plain_safe s (Call.read_allowance x) = tt
-plain_safe s (Call.output x b) = tt
-plain_safe s (Call.discarded x n) = tt
-plain_safe s (Call.output_closed x) = tt
-plain_safe s (Call.output_failed x) = tt
-plain_safe s (Call.output_hung_up x) = tt
-plain_safe s Call.pending_input = tt
-plain_safe s (Call.input_written n) = tt
-plain_safe s Call.input_closed = tt
-plain_safe s (Call.exited now x) = tt
-plain_safe s (Call.settled x) = tt
-plain_safe s (Call.dropped now) = tt
-plain_safe s (Call.reset now) = tt
-plain_safe s (Call.disconnect now) = tt
-plain_safe s (Call.tick now) = tt
-plain_safe s Call.deadline = tt
 plain_safe s Call.next_request = wish_safe s _ (wish s.runner)
 plain_safe s (Call.next_message buffer) = said_safe _ _ (choose s.runner (length buffer)) s.runner s.bytes
-plain_safe s Call.is_finished = tt
-plain_safe s Call.is_detached = tt
-plain_safe s Call.awaits_settlement = tt
-plain_safe s Call.memory_bound = tt
-plain_safe s Call.buffered = tt
-plain_safe s Call.high_water = tt
+plain_safe s _ = tt
 
-safe_by : (met : Result (Unit {0}) Refusal) (s : State) (c : Call) → stop s.runner (Plain.enough s c) ≡ met → Safe s (Step.next s c) (Step.answer s c)
-safe_by (Ok tt) s c g = rw (next_is s c g, answer_is s c g) (plain_safe s c)
+-- the calls' numbers are among these
+of_call : (n : ℕ) → among n of_plain ≡ true → among n of_calls ≡ true
+of_call n h = grind (arith, h)
+
+abbrev SafeCall : State → Call → Answer → Type 0
+SafeCall s c = IfRefused (Step.next s c ≡ s) (Kept of_calls s (Step.next s c))
+
+safe_by : (met : Result (Unit {0}) Refusal) (s : State) (c : Call) → stop s.runner (Plain.enough s c) ≡ met → SafeCall s c (Step.answer s c)
+safe_by (Ok tt) s c g =
+    rw (next_is s c g, answer_is s c g) (safe_among of_calls of_call s (Plain.next s c) (Plain.answer s c) (plain_safe s c))
 safe_by (Err x) s c g =
     let p = stopped s c x g in rw p.1 (record { same = p.0; known = stop_known s.runner (Plain.enough s c) x g })
 
-safe : (s : State) (c : Call) → Safe s (Step.next s c) (Step.answer s c)
+safe : (s : State) (c : Call) → SafeCall s c (Step.answer s c)
 safe s c = safe_by (stop s.runner (Plain.enough s c)) s c refl
 
-refused : (s : State) (c : Call) (n : ℕ) → Step.answer s c ≡ Call.Refused n → Kept s (Step.next s c) n
-refused s c n e = subst (Safe s (Step.next s c)) e (safe s c)
+refused : (s : State) (c : Call) (n : ℕ) → Step.answer s c ≡ Call.Refused n → Kept of_calls s (Step.next s c) n
+refused s c n e = subst (SafeCall s c) e (safe s c)
 
 stale : (s : State) (c : Call) → Step.answer s c ≡ Call.Stale → Step.next s c ≡ s
-stale s c e = subst (Safe s (Step.next s c)) e (safe s c)
+stale s c e = subst (SafeCall s c) e (safe s c)
 
 -- ---- a record
 
@@ -334,10 +173,8 @@ BufferSafe w buffer = IfRefused Unit (λ n. w.buffer ≡ buffer) (answers w)
 
 write_buffer : (s : State) (channel : ℕ) (buffer : List ℕ) → stop s.runner (bytes_do s.runner.limits s.bytes) ≡ Ok tt
     → (met : Bool) (w : WriteAfter) → Writes s.runner channel s.bytes buffer met w → BufferSafe w buffer
-write_buffer s channel buffer g met w (elsewhere x) = refl
-write_buffer s channel buffer g met w (short x y) = refl
-write_buffer s channel buffer g met w (left u) = refl
 write_buffer s channel buffer g met w (taken u h) = told_as s channel buffer g (IfRefused Unit (λ n. (tells s.runner channel s.bytes buffer).buffer ≡ buffer)) tt (λ x. tt)
+write_buffer s channel buffer g met w _ = refl
 
 record_buffer : (met : Result (Unit {0}) Refusal) (s : State) (channel : ℕ) (buffer : List ℕ) → stop s.runner (bytes_do s.runner.limits s.bytes) ≡ met
     → BufferSafe (Channel.write_record s.runner channel s.bytes buffer) buffer
@@ -348,14 +185,14 @@ record_buffer (Err x) s channel buffer g = rw (admitted_not s.runner (bytes_do s
 -- ---- open
 
 module _ (conf : Conf) (now : ℕ) where
-  open_by_lem : (valid stores : Bool) → replied (open_by (cond (not valid) (Err Refusal.NoLimits) (cond (not stores) (Err Refusal.StoreShort) (Ok tt))) conf.key conf.limits conf.timers now).reply
+  open_by_lem : (valid stores : Bool) → replied (open_by (cond (not valid) (Err Refusal.NoLimits) (cond (not stores) (Err Refusal.StoreShort) (Ok tt))) conf.key conf.limits conf.timers now).answer
       ≡ cond valid (cond stores Call.Ok (Call.Refused 11)) (Call.Refused 10)
   open_by_lem true true = refl
   open_by_lem true false = refl
   open_by_lem false stores = refl
 
   -- one that is refused gives a runner without limits
-  open_none : (met : Result (Unit {0}) Refusal) (n : ℕ) → replied (open_by met conf.key conf.limits conf.timers now).reply ≡ Call.Refused n
+  open_none : (met : Result (Unit {0}) Refusal) (n : ℕ) → replied (open_by met conf.key conf.limits conf.timers now).answer ≡ Call.Refused n
       → (open_by met conf.key conf.limits conf.timers now).runner ≡ fresh conf.key no_limits conf.timers now
   open_none (Ok tt) n e = absurd (false≢true (ap is_refused e))
   open_none (Err x) n e = refl
@@ -384,7 +221,7 @@ same_refusal x y e = cc
 
 module _ (numbers : List ℕ) (buffer : List ℕ) where
   wrote_bytes : (n : ℕ) (b : List ℕ) → Unwritten numbers (written_after (Ok n) b) buffer
-  wrote_bytes n b x e = let z : ◌≡◌ {A = ℕ} 0 1 = cc in absurd (omega arith)
+  wrote_bytes n b x e = cc
 
   wrote_none : (y : Refusal) → Among numbers y → Unwritten numbers (written_after (Err y) buffer) buffer
   wrote_none y h x e = (subst (Among numbers) (same_refusal y x e) h, refl)

@@ -96,11 +96,8 @@ computed a0 a1 a2 a3 rest lengths = refl
 
 -- what holds of every store whose first four bytes are named holds of every one that open takes
 pub named_four : (P : List ℕ → Type 0) → ((a0 a1 a2 a3 : ℕ) (rest : List ℕ) → P (a0 ∷ a1 ∷ a2 ∷ a3 ∷ rest)) → (bytes : List ℕ) → 16 ≤ length bytes → P bytes
-named_four P p [] h = absurd (omega arith)
-named_four P p (a0 ∷ []) h = absurd (omega arith)
-named_four P p (a0 ∷ a1 ∷ []) h = absurd (omega arith)
-named_four P p (a0 ∷ a1 ∷ a2 ∷ []) h = absurd (omega arith)
 named_four P p (a0 ∷ a1 ∷ a2 ∷ a3 ∷ rest) h = p a0 a1 a2 a3 rest
+named_four P p _ h = absurd (omega arith)
 
 plain : (bytes lengths : List ℕ) → 16 ≤ length bytes → answers_of (run (begun conf 0 bytes lengths) calls) ≡ answers
 plain bytes lengths h =

@@ -12,7 +12,7 @@ use Rattle.exec.specs.Stream.{same_stream, every_stream, any_stream, sum_of_stre
 use Rattle.output.specs.declared.Output.{Output}
 use Rattle.output.specs.Outputs.{each_output, output_in, put_output}
 use Rattle.runner.specs.State.{base}
-use Rattle.account.proofs.Flags.{or_false_l, or_false_r}
+use Rattle.std.proofs.lemmas.Bool.{or_parts}
 
 pub same_self : (x : Stream) → same_stream x x ≡ true
 same_self Stdout = refl
@@ -68,8 +68,8 @@ pub of_none : (p : Stream → Bool) → ((x : Stream) → p x ≡ false) → any
 of_none p h = rw (h Stdout, h Stderr) refl
 
 pub none_of : (p : Stream → Bool) → any_stream p ≡ false → (x : Stream) → p x ≡ false
-none_of p h Stdout = or_false_l (p Stdout) (p Stderr) h
-none_of p h Stderr = or_false_r (p Stdout) (p Stderr) h
+none_of p h Stdout = (or_parts (p Stdout) (p Stderr) h).0
+none_of p h Stderr = (or_parts (p Stdout) (p Stderr) h).1
 
 -- each changed alike by two that agree on it
 pub each_same : (f g : Output → Output) (os : List Output) → ((x : Stream) → f (output_in x os) ≡ g (output_in x os)) → each_output f os ≡ each_output g os

@@ -23,7 +23,7 @@ use Rattle.account.specs.Records.{Entry, call, next_entry, answer_entry, made, c
 use Rattle.account.specs.TurnClaim.{Has, answer_after}
 use Rattle.account.proofs.Plain.{answer}
 use Rattle.account.proofs.Demand.{Fine, answer_same}
-use Rattle.account.proofs.Flags.{or_left, or_right}
+use Rattle.std.proofs.lemmas.Bool.{or_left, or_right}
 use Rattle.account.proofs.Keeps.{All, Stands, add_keeps}
 use Rattle.account.proofs.Records.{Good, good_entry, good_open, whole}
 use Rattle.account.proofs.Sides.{same_self, on_each}

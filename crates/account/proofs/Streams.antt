@@ -14,7 +14,8 @@ use Rattle.output.specs.Output.{grace_ended, given_up, abandoned, closed_out, fa
 use Rattle.account.specs.Account.{Tally, marked, taken_by, sent_by, cut}
 use Rattle.account.proofs.Rings.{some?, ring, ring_some, ring_split}
 use lib.Seq.{take-length}
-use Rattle.account.proofs.Flags.{or_false_r, or_swap}
+use Rattle.std.proofs.lemmas.Bool.{or_parts}
+use Rattle.account.proofs.Flags.{or_swap}
 
 -- taken is sent, then queued, then lost; once bytes are lost nothing is queued any more
 pub record Kept (q : List ℕ) (closed discarding truncated : Bool) (t : Tally) : Type 0 where
@@ -116,7 +117,7 @@ some_length [] = refl
 some_length (x ∷ b) = sym (lt-ltb 0 (length (x ∷ b)) (omega arith))
 
 none_behind : (p q : List ℕ) → some? (p ++ q) ≡ false → some? q ≡ false
-none_behind p q e = or_false_r (some? p) (some? q) (sym (some_append p q) ∙ e)
+none_behind p q e = (or_parts (some? p) (some? q) (sym (some_append p q) ∙ e)).1
 
 sent_kept : (p q : List ℕ) (c d tr : Bool) (t : Tally) → Kept (p ++ q) c d tr t → Kept q c d tr (sent_by p t)
 sent_kept p q c d tr t g = record {

@@ -3,7 +3,7 @@
 use mathlib.Core.Bool.{Bool, false, true≢false}
 use mathlib.Core.Path.{◌≡◌, refl, sym, ap, ◌∙◌}
 use mathlib.Core.List.{List, [], ◌++◌, append-nil}
-use Prim.Native.Nat.{ℕ, zero, suc}
+use Prim.Native.Nat.{ℕ}
 use lib.ListN.{take}
 use Rattle.exec.specs.declared.Stream.{Stream}
 use Rattle.choice.specs.declared.Choice.{Choice}
@@ -17,15 +17,12 @@ use Rattle.account.specs.TurnClaim.{offered, carried}
 use Rattle.account.proofs.Plain.{said}
 use Rattle.account.proofs.Sides.{same_self, on_each}
 use Rattle.account.proofs.Keeps.{All, add_keeps}
+use Rattle.std.proofs.Math.Seq.{take-nil}
 
 -- ---- a call that takes nothing and says no Output
 
 pub take_zero : (n : ℕ) (b : List ℕ) → n ≡ 0 → take n b ≡ []
 take_zero n b e = rw e refl
-
-take_nil : (n : ℕ) → take {A = ℕ} n [] ≡ []
-take_nil zero = refl
-take_nil (suc n) = refl
 
 -- what was taken and sent by the account z is as it was
 module _ (z : Account) where
@@ -60,58 +57,16 @@ pub data Offers : Call → Type 0 where
 
 pub offers : (c : Call) → Offers c
 offers (Call.output x b) = gives x b
-offers (Call.next_message b) = silent (λ x. refl)
-offers Call.key = silent (λ x. refl)
-offers Call.limits = silent (λ x. refl)
-offers (Call.credit k p u) = silent (λ x. refl)
-offers (Call.input k b) = silent (λ x. refl)
-offers (Call.end_input k) = silent (λ x. refl)
-offers (Call.cancel now k y) = silent (λ x. refl)
-offers (Call.launched y) = silent (λ x. refl)
-offers (Call.read_allowance y) = silent (λ x. refl)
-offers (Call.discarded y n) = silent (λ x. refl)
-offers (Call.output_closed y) = silent (λ x. refl)
-offers (Call.output_failed y) = silent (λ x. refl)
-offers (Call.output_hung_up y) = silent (λ x. refl)
-offers Call.pending_input = silent (λ x. refl)
-offers (Call.input_written n) = silent (λ x. refl)
-offers Call.input_closed = silent (λ x. refl)
-offers (Call.exited now y) = silent (λ x. refl)
-offers (Call.settled y) = silent (λ x. refl)
-offers (Call.dropped now) = silent (λ x. refl)
-offers (Call.reset now) = silent (λ x. refl)
-offers (Call.disconnect now) = silent (λ x. refl)
-offers (Call.tick now) = silent (λ x. refl)
-offers Call.deadline = silent (λ x. refl)
-offers Call.next_request = silent (λ x. refl)
-offers Call.is_finished = silent (λ x. refl)
-offers Call.is_detached = silent (λ x. refl)
-offers Call.awaits_settlement = silent (λ x. refl)
-offers Call.memory_bound = silent (λ x. refl)
-offers Call.buffered = silent (λ x. refl)
-offers Call.high_water = silent (λ x. refl)
+offers _ = silent (λ x. refl)
 
 no_bytes : (c : Call) (r : Answer) → ((x : Stream) → offered x c ≡ []) → (x : Stream) (b : List ℕ) → c ≡ Call.output x b → take (count r) b ≡ []
 no_bytes c r h x b e =
     let o : offered x (Call.output x b) ≡ b = rw (same_self x) refl in
-    ap (take (count r)) (sym o ∙ ap (offered x) (sym e) ∙ h x) ∙ take_nil (count r)
+    ap (take (count r)) (sym o ∙ ap (offered x) (sym e) ∙ h x) ∙ take-nil (count r)
 
 pub quiet_carries : (r : Answer) (x : Stream) → is_message r ≡ false → carried x r ≡ []
-quiet_carries Call.Ok x e = refl
-quiet_carries Call.Applied x e = refl
-quiet_carries Call.Stale x e = refl
-quiet_carries Call.Late x e = refl
-quiet_carries (Call.Refused n) x e = refl
-quiet_carries (Call.Taken n) x e = refl
-quiet_carries (Call.Pending b) x e = refl
-quiet_carries (Call.Value n) x e = refl
-quiet_carries (Call.Time d) x e = refl
-quiet_carries (Call.Truth b) x e = refl
-quiet_carries (Call.Asks q) x e = refl
 quiet_carries (Call.Says m) x e = absurd (true≢false e)
-quiet_carries (Call.IsKey k) x e = refl
-quiet_carries (Call.AreLimits l) x e = refl
-quiet_carries Call.Nothing x e = refl
+quiet_carries _ x e = refl
 
 -- the same, and nothing added
 none_added : (t s l : List ℕ) → t ≡ s → l ≡ [] → t ≡ s ++ l
@@ -120,24 +75,19 @@ none_added t s l e n = e ∙ sym (append-nil s) ∙ ap (λ (q : List ℕ). s ++ 
 pub quiet_told : (c : Call) (r : Answer) (z : Account) → ((x : Stream) → offered x c ≡ []) → is_message r ≡ false → Tells z c r
 quiet_told c r z o q x =
     let h = quiet_same z c r z (no_bytes c r o) (λ y b e. true≢false (sym (ap is_message e) ∙ q)) (λ y. (refl, refl)) x in
-    (none_added _ _ _ h.0 (ap (take (count r)) (o x) ∙ take_nil (count r)), none_added _ _ _ h.1 (quiet_carries r x q))
+    (none_added _ _ _ h.0 (ap (take (count r)) (o x) ∙ take-nil (count r)), none_added _ _ _ h.1 (quiet_carries r x q))
 
 pub output_told : (y : Stream) (b : List ℕ) (n : ℕ) (z : Account) → Tells z (Call.output y b) (Call.Taken n)
 unfolding add adds
 output_told y b n z =
     on_each (Told z (Call.output y b) (Call.Taken n)) y (taken_by (take n b)) z.tallies
     (rw (same_self y) (refl, sym (append-nil _)))
-    (λ x d. rw d (none_added _ _ _ refl (take_nil n), sym (append-nil _)))
+    (λ x d. rw d (none_added _ _ _ refl (take-nil n), sym (append-nil _)))
 
 pub said_told : (m : Choice) (b : List ℕ) (s : Runner) (store : List ℕ) (z : Account) → Tells z (Call.next_message b) (said m s store)
 unfolding said add adds
-said_told Choice.None b s store z x = (sym (append-nil _), sym (append-nil _))
-said_told Choice.Credit b s store z x = (sym (append-nil _), sym (append-nil _))
-said_told Choice.Started b s store z x = (sym (append-nil _), sym (append-nil _))
-said_told Choice.InputClosed b s store z x = (sym (append-nil _), sym (append-nil _))
-said_told (Choice.End y) b s store z x = (sym (append-nil _), sym (append-nil _))
 said_told (Choice.Output y n) b s store z x =
     on_each (Told z (Call.next_message b) (Call.Says (Call.Output y (payload s y n store)))) y (sent_by (payload s y n store)) z.tallies
     (rw (same_self y) (sym (append-nil _), refl))
     (λ x d. rw d (sym (append-nil _), sym (append-nil _))) x
-said_told Choice.Terminal b s store z x = (sym (append-nil _), sym (append-nil _))
+said_told _ b s store z x = (sym (append-nil _), sym (append-nil _))

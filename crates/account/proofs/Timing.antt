@@ -1,6 +1,6 @@
 -- Every call keeps the phase that an Applied cancel begins, and after give-up lets the messages left be no more.
 use Rattle.std.specs.Prelude.{Option, Result, Some, None, Ok, Err}
-use Rattle.exec.specs.declared.Admission.TheVariants.{Own, Stale}
+use Rattle.exec.specs.declared.Admission.TheVariants.{Own}
 use Rattle.exec.specs.declared.Admission.{Admission}
 use Rattle.exec.specs.declared.LaunchFailure.{LaunchFailure}
 use Rattle.exec.specs.declared.Status.{Status}
@@ -35,11 +35,12 @@ use Rattle.runner.specs.Message.{choose, plain, output_paid, output_sent, effect
 use Rattle.calls.specs.Call.{Call}
 use Rattle.account.specs.Step.{State}
 use Rattle.account.proofs.Plain.{next}
+use Rattle.account.proofs.Flags.{either}
 use Rattle.account.proofs.Stages.{grace_if, terminate_if, timeout_if, give_up_if, drop_launch_if, abandon_streams_if, abandon_if, stage1, stage2, stage3, stage4, stage5, tick_if, tick_is, cancel_if, late, detached_now, detach_if, exited_if, launched_if, cancel_next}
 use Rattle.account.proofs.Streams.{wider}
 use Rattle.account.proofs.Sides.{out_each, on_out}
-use Rattle.account.proofs.Flags.{or_left}
-use Rattle.account.proofs.Phase.{Either, left, right, Empty, bit, AllKnown, Phase, left_over, over_overdue, reported_over, cleaned_known, known_given, dry_given, dry_grace, known_grace, InKept, OutKept, kept_asked, kept_end, kept_send, kept_discard, kept_close, kept_fail, kept_hang, kept_intake, kept_if, kept_ended, kept_written, on_right, not_right}
+use Rattle.std.proofs.lemmas.Bool.{or_left}
+use Rattle.account.proofs.Phase.{Either, left, right, Empty, bit, AllKnown, Phase, left_over, over_overdue, reported_over, cleaned_known, known_given, dry_given, dry_grace, known_grace, InKept, OutKept, kept_asked, kept_end, kept_send, kept_discard, kept_close, kept_fail, kept_hang, kept_intake, kept_ended, kept_written, on_right, not_right}
 
 module _ (P : Option ℕ → Type 0) (lower : (d e : Option ℕ) → P d → P (earliest d e)) where
   pub record Low (s t : Runner) : Type 0 where
@@ -129,8 +130,7 @@ module _ (P : Option ℕ → Type 0) (lower : (d e : Option ℕ) → P d → P (
   unfolding Life.cancel_next
   low_cancel (Ok Own) now c s h =
       then {s = s} {t = ticked s now} {u = cancel_if (late (ticked s now)) now c (ticked s now)} (low_ticked now s h) (low_cancel_if (late (ticked s now)) now c (ticked s now))
-  low_cancel (Ok Stale) now c s h = same h
-  low_cancel (Err z) now c s h = same h
+  low_cancel _ now c s h = same h
 
   pub low_detached_now : (now : ℕ) (s : Runner) → Phase P s → Low s (detached_now now s)
   unfolding end_grace silenced give_up_soon
@@ -211,10 +211,8 @@ module _ (P : Option ℕ → Type 0) (lower : (d e : Option ℕ) → P d → P (
   low_at x f s k h = low_out x s (f (out_of x s)) (k (out_of x s)) h
 
   low_handed : (q : Request) (s : Runner) → Phase P s → Low s (handed q s)
-  low_handed (Request.Terminate c) s h = record { hold = h; less = λ n. le_refl (left_over s) }
   low_handed (Request.Discard x) s h = low_at x asked_out s kept_asked h
-  low_handed Request.CloseInput s h = record { hold = h; less = λ n. le_refl (left_over s) }
-  low_handed Request.Settle s h = record { hold = h; less = λ n. le_refl (left_over s) }
+  low_handed _ s h = record { hold = h; less = λ n. le_refl (left_over s) }
 
   low_wished : (w : Option Request) (s : Runner) → Phase P s → Low s (wish_effect w s)
   unfolding wish_effect
@@ -241,12 +239,11 @@ module _ (P : Option ℕ → Type 0) (lower : (d e : Option ℕ) → P d → P (
   low_effect : (m : Choice) (s : Runner) → Phase P s → Low s (effect m s)
   unfolding effect
   low_effect Choice.None s h = same h
-  low_effect Choice.Credit s h = record { hold = h; less = λ n. le_refl (left_over s) }
   low_effect Choice.Started s h = record { hold = h; less = λ n. omega arith }
   low_effect Choice.InputClosed s h = record { hold = h; less = λ n. omega arith }
   low_effect (Choice.End x) s h = low_plain s (at x ended_out s) (low_at x ended_out s kept_end h)
   low_effect (Choice.Output x n) s h = low_sent x n s h
-  low_effect Choice.Terminal s h = record { hold = h; less = λ n. le_refl (left_over s) }
+  low_effect _ s h = record { hold = h; less = λ n. le_refl (left_over s) }
 
   -- every call keeps the phase, and after give-up lets the messages left be no more
   pub low_next : (c : Call) (s : State) → Phase P s.runner → Low s.runner (next s c).runner
@@ -256,11 +253,11 @@ module _ (P : Option ℕ → Type 0) (lower : (d e : Option ℕ) → P d → P (
       let r : Runner = s.runner in let a : (Result Admission Refusal) = admits r.key k in
       low_high r (input_received a r (length b)) _
       (low_input r (cond (is_taken a r) (receive_input r.limits r.input (length b)) r.input)
-      (kept_if (is_taken a r) r.input (receive_input r.limits r.input (length b)) r.input (h.0, refl) (h.0, refl)) h)
+      (either (InKept r.input) (is_taken a r) (receive_input r.limits r.input (length b)) r.input (h.0, refl) (h.0, refl)) h)
   low_next (Call.end_input k) s h =
       let r : Runner = s.runner in
       low_input r (cond (is_taken (admits r.key k) r) (end_input r.input) r.input)
-      (kept_if (is_taken (admits r.key k) r) r.input (end_input r.input) r.input (kept_ended r.input h.0) (h.0, refl)) h
+      (either (InKept r.input) (is_taken (admits r.key k) r) (end_input r.input) r.input (kept_ended r.input h.0) (h.0, refl)) h
   low_next (Call.cancel now k c) s h = low_cancel (admits s.runner.key k) now c s.runner h
   low_next (Call.launched x) s h = low_launched_if (awaits_launch s.runner) x s.runner refl h
   low_next (Call.output x b) s h =
@@ -285,14 +282,4 @@ module _ (P : Option ℕ → Type 0) (lower : (d e : Option ℕ) → P d → P (
   low_next (Call.tick now) s h = low_ticked now s.runner h
   low_next Call.next_request s h = low_wished (wish s.runner) s.runner h
   low_next (Call.next_message buffer) s h = low_effect (choose s.runner (length buffer)) s.runner h
-  low_next (Call.read_allowance x) s h = same h
-  low_next Call.pending_input s h = same h
-  low_next Call.deadline s h = same h
-  low_next Call.is_finished s h = same h
-  low_next Call.is_detached s h = same h
-  low_next Call.awaits_settlement s h = same h
-  low_next Call.buffered s h = same h
-  low_next Call.high_water s h = same h
-  low_next Call.memory_bound s h = same h
-  low_next Call.key s h = same h
-  low_next Call.limits s h = same h
+  low_next _ s h = same h

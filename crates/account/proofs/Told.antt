@@ -51,12 +51,9 @@ Mute (Some c) = (x : Stream) → offered x c ≡ []
 
 read_mute : (conf : Conf) (now : ℕ) (b : List ℕ) (p : Result Record Refusal) → Mute (call_of conf now b p)
 unfolding call_of
-read_mute conf now b (Ok (Record.Adjust units)) = λ x. refl
-read_mute conf now b (Ok (Record.Data n)) = λ x. refl
 read_mute conf now b (Ok (Record.Extended n)) = tt
-read_mute conf now b (Ok Record.Eof) = λ x. refl
-read_mute conf now b (Ok Record.Close) = λ x. refl
 read_mute conf now b (Err y) = tt
+read_mute conf now b _ = λ x. refl
 
 -- what an entry offers is what the call offers that it makes
 abbrev Offering : Entry → Option Call → Type 0

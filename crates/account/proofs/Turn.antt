@@ -1,5 +1,5 @@
 -- The turn: a stream that Terminal reports untruncated was sent whole and closed by the program, and no byte is added to it any more.
-use Rattle.std.specs.Prelude.{Option, Result, Some, None, Ok, Err}
+use Rattle.std.specs.Prelude.{Option, Result, Some, None, Ok}
 use Rattle.codec.specs.declared.Record.{Record}
 use Rattle.exec.specs.declared.Refusal.{Refusal}
 use mathlib.Core.Bool.{Bool, true, false, not, ◌&&◌, ◌||◌, true≢false, false≢true}
@@ -42,7 +42,9 @@ use Rattle.account.proofs.Records.{same_dones, calls_append, good_open, calls, s
 use Rattle.account.proofs.Tells.{take_zero, Same, quiet_same}
 use Rattle.account.proofs.Told.{tallied, taken_told, sent_told}
 use Rattle.account.proofs.Spared.{dropped_marks, failed_marks, spared}
-use Rattle.account.proofs.Flags.{and_l, either, or_false_l, or_false_r}
+use Rattle.std.proofs.lemmas.Bool.{or_parts}
+use Rattle.ring.specs.Flags.{and_l}
+use Rattle.account.proofs.Flags.{either}
 use Rattle.account.proofs.Shut.{closing_call, list_own, start_own, Shut, shut_next}
 
 -- ---- rows: a prefix that is not shorter is the whole
@@ -59,11 +61,11 @@ all_of s t p e =
 
 uncut_sent : (t : Tally) → IsPrefix t.sent t.taken → cut t ≡ false → t.sent ≡ t.taken
 unfolding cut
-uncut_sent t p e = all_of t.sent t.taken p (or_false_l (ltb (length t.sent) (length t.taken)) t.mark e)
+uncut_sent t p e = all_of t.sent t.taken p (or_parts (ltb (length t.sent) (length t.taken)) t.mark e).0
 
 unmarked : (t : Tally) → cut t ≡ false → t.mark ≡ false
 unfolding cut
-unmarked t e = or_false_r (ltb (length t.sent) (length t.taken)) t.mark e
+unmarked t e = (or_parts (ltb (length t.sent) (length t.taken)) t.mark e).1
 
 -- ---- final: a runner that has finished has its streams closed, and takes and says no more
 
@@ -107,17 +109,10 @@ unclosed None r x ds n h = h
 unclosed (Some c) r x ds n (inl e) = absurd (n (ap (λ (d : Done). Some d.call) (sym e)))
 unclosed (Some c) r x ds n (inr h) = h
 
-none_unclosed : (x : Stream) → Unclosing x None
-none_unclosed x e = let z : false ≡ true = cc in false≢true z
-
 read_unclosed : (conf : Conf) (now : ℕ) (b : List ℕ) (x : Stream) (p : Result Record Refusal) → Unclosing x (call_of conf now b p)
 unfolding call_of
-read_unclosed conf now b x (Ok (Record.Adjust units)) e = let z : false ≡ true = cc in false≢true z
-read_unclosed conf now b x (Ok (Record.Data n)) e = let z : false ≡ true = cc in false≢true z
-read_unclosed conf now b x (Ok (Record.Extended n)) e = none_unclosed x e
-read_unclosed conf now b x (Ok Record.Eof) e = let z : false ≡ true = cc in false≢true z
-read_unclosed conf now b x (Ok Record.Close) e = let z : false ≡ true = cc in false≢true z
-read_unclosed conf now b x (Err y) e = none_unclosed x e
+read_unclosed conf now b x (Ok (Record.Extended n)) e = cc
+read_unclosed conf now b x _ e = cc
 
 closing_at : (conf : Conf) (x : Stream) (e : Entry) (r : Answer) (ds : List Done) (es : List EntryDone) → (Has (closing_call x) ds → Has (closing x) es)
     → Has (closing_call x) (cons_done (made conf e r) r ds) → Has (closing x) (record { entry = e; answer = r } ∷ es)
@@ -125,10 +120,10 @@ unfolding made
 closing_at conf x (call c) r ds es g (inl e) = inl (ap (λ (d : Done). record { entry = call d.call; answer = d.answer }) e)
 closing_at conf x (call c) r ds es g (inr h) = inr (g h)
 closing_at conf x (read_record now channel b) r ds es g h =
-    inr (g (unclosed _ r x ds (either (Unclosing x) (is_channel conf.limits) (call_of conf now b (read channel b)) None (read_unclosed conf now b x (read channel b)) (none_unclosed x)) h))
+    inr (g (unclosed _ r x ds (either (Unclosing x) (is_channel conf.limits) (call_of conf now b (read channel b)) None (read_unclosed conf now b x (read channel b)) (λ e. cc)) h))
 closing_at conf x (write_record channel buffer) r ds es g h =
     inr (g (unclosed _ r x ds (either (Unclosing x) (is_channel conf.limits && roomy conf buffer) _ None
-    (either (Unclosing x) (is_untaken r) None _ (none_unclosed x) (λ e. let z : false ≡ true = cc in false≢true z)) (none_unclosed x)) h))
+    (either (Unclosing x) (is_untaken r) None _ (λ e. cc) (λ e. cc)) (λ e. cc)) h))
 
 closing_in : (conf : Conf) (x : Stream) (ds : List EntryDone) → Has (closing_call x) (dones_of conf ds) → Has (closing x) ds
 closing_in conf x [] h = h

@@ -44,14 +44,14 @@ use Rattle.account.specs.Records.{Entry, EntryDone, call, read_record, write_rec
 use Rattle.account.specs.Step as Step
 use Rattle.account.specs.Step.{State}
 use Rattle.account.specs.TurnClaim.{Has, closing, answer_after, carried, taken_in, sent_in}
-use Rattle.account.proofs.Flags.{or_false_l, or_false_r}
+use Rattle.std.proofs.lemmas.Bool.{or_parts}
 use Rattle.runner.specs.TerminalLaws.{still}
 use Rattle.account.proofs.Plain as Plain
 use Rattle.account.proofs.Plain.{said, next, answer, begun, after_all, run}
 use Rattle.account.proofs.Finish.{Ends, ends, ends_answer}
 use Rattle.account.proofs.Lists.{plain_of}
 use Rattle.account.proofs.Demand.{goes, answer_same, same_run, same_answer, same_account as plain_account}
-use Rattle.channel.specs.Ended.{Writes, elsewhere, short, left, taken}
+use Rattle.channel.specs.Ended.{Writes, left, taken}
 use Rattle.channel.proofs.Ended.{writes}
 use Rattle.account.proofs.EachRecord.{Does, answers}
 use Rattle.account.proofs.Records.{Good, does, made_so, good_open, good_entry, good_at, same_account}
@@ -260,15 +260,8 @@ channel_computed status a0 a1 a2 a3 a4 a5 a6 a7 rest lengths = (refl, refl, refl
 
 named_eight : (P : List ℕ → Type 0) → ((a0 a1 a2 a3 a4 a5 a6 a7 : ℕ) (rest : List ℕ) → P (a0 ∷ a1 ∷ a2 ∷ a3 ∷ a4 ∷ a5 ∷ a6 ∷ a7 ∷ rest))
     → (bytes : List ℕ) → 16 ≤ length bytes → P bytes
-named_eight P p [] h = absurd (omega arith)
-named_eight P p (a0 ∷ []) h = absurd (omega arith)
-named_eight P p (a0 ∷ a1 ∷ []) h = absurd (omega arith)
-named_eight P p (a0 ∷ a1 ∷ a2 ∷ []) h = absurd (omega arith)
-named_eight P p (a0 ∷ a1 ∷ a2 ∷ a3 ∷ []) h = absurd (omega arith)
-named_eight P p (a0 ∷ a1 ∷ a2 ∷ a3 ∷ a4 ∷ []) h = absurd (omega arith)
-named_eight P p (a0 ∷ a1 ∷ a2 ∷ a3 ∷ a4 ∷ a5 ∷ []) h = absurd (omega arith)
-named_eight P p (a0 ∷ a1 ∷ a2 ∷ a3 ∷ a4 ∷ a5 ∷ a6 ∷ []) h = absurd (omega arith)
 named_eight P p (a0 ∷ a1 ∷ a2 ∷ a3 ∷ a4 ∷ a5 ∷ a6 ∷ a7 ∷ rest) h = p a0 a1 a2 a3 a4 a5 a6 a7 rest
+named_eight P p _ h = absurd (omega arith)
 
 channel_plain : (status : Option Status) (bytes lengths : List ℕ) → 16 ≤ length bytes → ChannelComes status bytes lengths
 channel_plain status bytes lengths h =
@@ -294,11 +287,10 @@ all_made conf [] [] s g k h = (refl, refl)
 all_made conf [] (c ∷ cs) s g k h = absurd k
 all_made conf (e ∷ es) [] s g k h = absurd k
 all_made conf (e ∷ es) (c ∷ cs) s g k h =
-    let first = or_false_l (is_terminal (Step.answer s c)) (any_terminal (Step.run (Step.next s c) cs)) h in
-    let rest = or_false_r (is_terminal (Step.answer s c)) (any_terminal (Step.run (Step.next s c) cs)) h in
-    let m = made_so conf e c s g k.0 first in
+    let not_yet = or_parts (is_terminal (Step.answer s c)) (any_terminal (Step.run (Step.next s c) cs)) h in
+    let m = made_so conf e c s g k.0 not_yet.0 in
     let d : Does e (Some c) s (next_entry s e) (answer_entry s e) = rw m at (does conf e s g) in
-    let p = all_made conf es cs (next_entry s e) (good_entry conf e s g) k.1 (rw d.0 rest) in (
+    let p = all_made conf es cs (next_entry s e) (good_entry conf e s g) k.1 (rw d.0 not_yet.1) in (
       rw (d.1, p.0, d.0) refl,
       p.1 ∙ ap (λ (t : State). Step.after t cs) d.0,
     )
@@ -307,21 +299,20 @@ all_made conf (e ∷ es) (c ∷ cs) s g k h =
 abbrev pub Closes : (untold : Bool) → Option Status → WriteAfter → Type 0
 Closes true status w = answers w ≡ Call.Refused 40
 Closes false status w =
-    (w.writing.wrote ≡ (Ok (Some ((Message.Terminal (whole_with status)), (length (ending 1 status))))))
+    (w.writing.answer ≡ (Ok (Some ((Message.Terminal (whole_with status)), (length (ending 1 status))))))
     × (w.buffer ≡ ending 1 status ++ drop (length (ending 1 status)) (zeros 43))
 
 closes_by : (s : State) (status : Option Status) (b met : Bool) (w : WriteAfter) → Writes s.runner 1 s.bytes (zeros 43) met w → met ≡ true → is_untold status ≡ b
     → stop s.runner (bytes_do s.runner.limits s.bytes) ≡ Ok tt → ((n : ℕ) → choose s.runner n ≡ Choice.Terminal)
     → outcome_of s.runner ≡ whole_with status → s.runner.limits.chunk ≡ 4 → Closes b status w
 unfolding asked told wrote wrote_buffer sent_as sent_buffer is_left Calls.next_message said_for buffer_after
-closes_by s status b met w (elsewhere x) m u g c o k = absurd (false≢true m)
-closes_by s status b met w (short x y) m u g c o k = absurd (false≢true m)
 closes_by s status true met w (left v) m u g c o k = refl
 closes_by s status false met w (left v) m u g c o k =
     let z : is_untold status ≡ true = rw (g, c (length (take s.runner.limits.chunk (zeros 30))), o) at v in absurd (false≢true (sym u ∙ z))
 closes_by s status true met w (taken v h) m u g c o k =
     let z : is_untold status ≡ false = rw (g, c (length (take s.runner.limits.chunk (zeros 30))), o) at v in absurd (false≢true (sym z ∙ u))
 closes_by s status false met w (taken v h) m u g c o k = rw (g, c (length (take s.runner.limits.chunk (zeros 30))), o, k) (refl, refl)
+closes_by s status b met w _ m u g c o k = absurd (false≢true m)
 
 module _ (status : Option Status) (bytes lengths : List ℕ) (h : 16 ≤ length bytes) where
   pub channel_opens : Opens channel 0 bytes lengths

@@ -1,6 +1,6 @@
 -- The units of the input's window are never made up and never vanish.
-use Rattle.std.specs.Prelude.{Option, Result, Some, None, Ok, Err}
-use Rattle.exec.specs.declared.Admission.TheVariants.{Own, Stale}
+use Rattle.std.specs.Prelude.{Option, Result, Some, Ok, Err}
+use Rattle.exec.specs.declared.Admission.TheVariants.{Own}
 use Rattle.exec.specs.declared.Admission.{Admission}
 use Rattle.runner.specs.declared.answer.Request.{Request}
 use Rattle.exec.specs.declared.Receipt.{Receipt}
@@ -80,11 +80,10 @@ module _ (l : Limits) (i : Input) (n : ℕ) where
 received_units : (a : Result Admission Refusal) (r : Runner) (n : ℕ) (f : Bool) → r.flags.finished ≡ f
     → units_in r.limits (input_next a r n).input + late_cost f r.limits n (received_as (input_answer a r n)) ≡ units_in r.limits r.input
 unfolding input_next input_answer
-received_units (Err x) r n f e = omega arith
-received_units (Ok Stale) r n f e = omega arith
 received_units (Ok Own) r n true e = rw e (omega arith)
 received_units (Ok Own) r n false e =
     rw (e, and-true (is_late (received_as (receive_answer r.limits r.input n)))) (receive_by r.limits r.input n)
+received_units _ r n f e = omega arith
 
 -- ---- bytes to the workload
 
@@ -116,30 +115,21 @@ ended_by l i false e = rw e refl
 
 end_units : (a : Result Admission Refusal) (r : Runner) (f : Bool) → r.flags.finished ≡ f → units_in r.limits (end_next a r).input ≡ units_in r.limits r.input
 unfolding end_next
-end_units (Err x) r f e = refl
-end_units (Ok Stale) r f e = refl
 end_units (Ok Own) r true e = rw e refl
 end_units (Ok Own) r false e = rw e (ended_by r.limits r.input r.input.peer_ended refl)
+end_units _ r f e = refl
 
 -- ---- messages and requests
 
 said_units : (c : Choice) (r : Runner) → units_in r.limits (effect c r).input ≡ units_in r.limits r.input
 unfolding effect output_sent output_paid
-said_units Choice.None r = refl
 said_units Choice.Credit r = omega arith
-said_units Choice.Started r = refl
-said_units Choice.InputClosed r = refl
-said_units (Choice.End x) r = refl
-said_units (Choice.Output x n) r = refl
-said_units Choice.Terminal r = refl
+said_units _ r = refl
 
 asked_units : (w : Option Request) (r : Runner) → units_in r.limits (wish_effect w r).input ≡ units_in r.limits r.input
 unfolding wish_effect
-asked_units None r = refl
 asked_units (Some (Request.Terminate c)) r = refl
-asked_units (Some (Request.Discard x)) r = refl
-asked_units (Some Request.CloseInput) r = refl
-asked_units (Some Request.Settle) r = refl
+asked_units _ r = refl
 
 -- ---- a call, and a list of calls
 
@@ -151,39 +141,22 @@ moved r r' m = moved_units r.limits r.input r'.input m
 
 units_step : (c : Call) (s : State) (over : Bool) → s.runner.flags.finished ≡ over → Fine s → units_in s.runner.limits (next s c).runner.input + lost_by over s c ≡ units_of s
 unfolding lost_by next answer credit_next output_next discarded_next closed_next failed_next hung_up_next settled_next written_next
-units_step Call.key s over e h = omega arith
-units_step Call.limits s over e h = omega arith
-units_step (Call.credit k p u) s over e h = omega arith
 units_step (Call.input k b) s over e h =
     rw (answer_same s (Call.input k b) h) (received_units (admits s.runner.key k) s.runner (length b) over e)
 units_step (Call.end_input k) s over e h = omega (arith, end_units (admits s.runner.key k) s.runner s.runner.flags.finished refl)
 units_step (Call.cancel now k c) s over e h = rw (next_same s (Call.cancel now k c) h) (moved s.runner (cancel_next (admits s.runner.key k) s.runner now c) (cancels (admits s.runner.key k) s.runner now c))
 units_step (Call.launched x) s over e h = rw (next_same s (Call.launched x) h) (moved s.runner (launched_next s.runner x) (launches s.runner x))
-units_step (Call.read_allowance x) s over e h = omega arith
-units_step (Call.output x b) s over e h = omega arith
-units_step (Call.discarded x n) s over e h = omega arith
-units_step (Call.output_closed x) s over e h = omega arith
-units_step (Call.output_failed x) s over e h = omega arith
-units_step (Call.output_hung_up x) s over e h = omega arith
-units_step Call.pending_input s over e h = omega arith
 units_step (Call.input_written n) s over e h =
     omega (arith, written_by s.runner.limits s.lengths s.runner.input n s.runner.input.closed refl h.sound.ranged.2.0)
 units_step Call.input_closed s over e h = rw (next_same s Call.input_closed h) (moved s.runner (close_runner_input s.runner) (close s.runner))
 units_step (Call.exited now x) s over e h = rw (next_same s (Call.exited now x) h) (moved s.runner (exited_next s.runner now x) (exits s.runner now x))
-units_step (Call.settled x) s over e h = omega arith
 units_step (Call.dropped now) s over e h = rw (next_same s (Call.dropped now) h) (moved s.runner (detach_next s.runner now Dropped) (detaches s.runner now Dropped))
 units_step (Call.reset now) s over e h = rw (next_same s (Call.reset now) h) (moved s.runner (detach_next s.runner now Reset) (detaches s.runner now Reset))
 units_step (Call.disconnect now) s over e h = rw (next_same s (Call.disconnect now) h) (moved s.runner (detach_next s.runner now Disconnected) (detaches s.runner now Disconnected))
 units_step (Call.tick now) s over e h = rw (next_same s (Call.tick now) h) (moved s.runner (ticked s.runner now) (ticks s.runner now))
-units_step Call.deadline s over e h = omega arith
 units_step Call.next_request s over e h = omega (arith, asked_units (wish s.runner) s.runner)
 units_step (Call.next_message buffer) s over e h = omega (arith, said_units (choose s.runner (length buffer)) s.runner)
-units_step Call.is_finished s over e h = omega arith
-units_step Call.is_detached s over e h = omega arith
-units_step Call.awaits_settlement s over e h = omega arith
-units_step Call.memory_bound s over e h = omega arith
-units_step Call.buffered s over e h = omega arith
-units_step Call.high_water s over e h = omega arith
+units_step _ s over e h = omega arith
 
 add_up : (a b c m u : ℕ) → a + c ≡ m → m + b ≡ u → a + (b + c) ≡ u
 add_up a b c m u e f = omega arith

@@ -125,7 +125,7 @@ is_stop Nothing = false
 
 -- open is answered ok
 abbrev pub Opens : Conf → ℕ → (bytes lengths : List ℕ) → Type 0
-Opens conf now bytes lengths = (Calls.«open» conf.key conf.limits conf.timers now bytes lengths).reply ≡ Result.Ok tt
+Opens conf now bytes lengths = (Calls.«open» conf.key conf.limits conf.timers now bytes lengths).answer ≡ Result.Ok tt
 
 -- DEMAND 3, for a runner that open answered ok, stores of any content, and every list of calls
 pub record Demand3 (conf : Conf) (now : ℕ) (bytes lengths : List ℕ) : Type 0 where

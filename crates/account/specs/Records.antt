@@ -73,7 +73,7 @@ answer_entry s (call c) = answer s c
 answer_entry s (read_record now channel b) =
     read_as (Channel.read_record s.runner now channel b s.bytes s.lengths).reading.answer
 answer_entry s (write_record channel buffer) =
-    wrote_as (Channel.write_record s.runner channel s.bytes buffer).writing.wrote (Channel.write_record s.runner channel s.bytes buffer).buffer
+    wrote_as (Channel.write_record s.runner channel s.bytes buffer).writing.answer (Channel.write_record s.runner channel s.bytes buffer).buffer
 
 abbrev pub after_entries : State → List Entry → State
 after_entries s [] = s

@@ -23,7 +23,7 @@ abbrev pub of_calls : List ℕ
 of_calls = 1 ∷ 2 ∷ 3 ∷ 4 ∷ 5 ∷ 6 ∷ 10 ∷ 11 ∷ 12 ∷ []
 
 abbrev pub open_answer : Conf → ℕ → (bytes lengths : List ℕ) → Answer
-open_answer conf now bytes lengths = replied (Calls.«open» conf.key conf.limits conf.timers now bytes lengths).reply
+open_answer conf now bytes lengths = replied (Calls.«open» conf.key conf.limits conf.timers now bytes lengths).answer
 
 -- a writer that refuses does so by one of the numbers, and leaves the buffer as it was
 abbrev pub Unwritten : List ℕ → WrittenAfter → (buffer : List ℕ) → Type 0

@@ -46,8 +46,8 @@ calls_in (l ∷ ls) = cond (is_short l) (line_call l) None ∷ calls_in ls
 
 as_calls : (ls : List (List ℕ)) (cs : List Call) (s : State) → calls_in ls ≡ map Some cs → answers_from (Running s) ls ≡ Session.answers_of (Step.run s cs)
 as_calls [] [] s e = refl
-as_calls [] (c ∷ cs) s e = let z : ◌≡◌ {A = ℕ} 0 1 = cc in absurd (omega arith)
-as_calls (l ∷ ls) [] s e = let z : ◌≡◌ {A = ℕ} 0 1 = cc in absurd (omega arith)
+as_calls [] (c ∷ cs) s e = cc
+as_calls (l ∷ ls) [] s e = cc
 as_calls (l ∷ ls) (c ∷ cs) s e =
     let h : cond (is_short l) (line_call l) None ≡ Some c = cc in
     let t : calls_in ls ≡ map Some cs = cc in rw (later_line s l, h) (ap (λ (rest : List Answer). Step.answer s c ∷ rest) (as_calls ls cs (Step.next s c) t))

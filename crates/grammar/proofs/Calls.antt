@@ -1,6 +1,6 @@
 -- From any session: the runner and its stores after bytes are those after the calls that the bytes make, and what is printed are their answers.
 use Rattle.std.specs.Prelude.{Bool, true, false, cond, ◌≡◌, refl, List, [], ◌∷◌, ◌++◌, ℕ, eqb, length, Option, Some, None}
-use Rattle.std.proofs.Common.{sym, ap, ◌∙◌, append_assoc, append-nil, arith}
+use Rattle.std.proofs.Common.{sym, ap, ◌∙◌, append_assoc, append-nil}
 use Rattle.calls.specs.Call.{Call, Done}
 use Rattle.account.specs.Step.{State, next, answer, after, run}
 use Rattle.syntax.specs.Lines.{line_call}
@@ -59,13 +59,10 @@ lines_printed x (b ∷ bs) = ap (λ (t : List ℕ). (eat x b).printed ++ t) (lin
     by true h = rw h refl
     by false h = rw h refl
 
-some_call : (c : Call) → c ∷ [] ≡ [] → ⊥
-some_call c e = let z : ◌≡◌ {A = ℕ} 0 1 = cc in omega arith
-
 later_answers : (c : Option Call) (s : State) → Answers s (record { calls = made_of c; answer = (later c s).answer })
 unfolding later
 later_answers None s = record { called = refl; uncalled = λ e. (30, refl, refl) }
-later_answers (Some c) s = record { called = refl; uncalled = λ e. absurd (some_call c e) }
+later_answers (Some c) s = record { called = refl; uncalled = λ e. cc }
 
 line_answers : (s : State) (line : List ℕ) → Answers s (line_of (Running s) line)
 unfolding answer_of answered too_long

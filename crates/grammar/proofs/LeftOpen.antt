@@ -1,7 +1,7 @@
 -- 02's A3, of every card; and as whole cards, their bytes in and their answers out, computed from the definitions on each side of every number.
 use Rattle.std.specs.Prelude.{Option, Some, None, option_map}
 use Rattle.std.proofs.lemmas.Option.{same_Some}
-use mathlib.Core.Bool.{Bool, true, false, cond}
+use mathlib.Core.Bool.{true, false}
 use mathlib.Core.Path.{◌≡◌, refl, sym, ap, ◌∙◌}
 use mathlib.Core.List.{List, [], ◌∷◌}
 use Prim.Native.Nat.{ℕ, ◌≤◌}
@@ -22,6 +22,7 @@ use Rattle.calls.specs.Call.{Conf, Answer, is_refused}
 use Rattle.account.specs.Claim.{Opens}
 use Rattle.account.specs.Step as Step
 use Rattle.account.specs.Step.{State}
+use Rattle.account.proofs.Flags.{either}
 use Rattle.account.proofs.Plain as Plain
 use Rattle.account.proofs.Plain.{begun}
 use Rattle.account.proofs.Demand.{open_same, same_answer}
@@ -76,11 +77,7 @@ texts = (refl, refl)
 -- a first line that is no line of the card
 unopened : (line : List ℕ) → line_open line ≡ None → answer_of First line ≡ bad Over
 unfolding answer_of answered first too_long
-unopened line e = rw e (by (is_short line))
-  where
-    by : (b : Bool) → ◌≡◌ {A = Answered} (cond b (bad Over) (bad Over)) (bad Over)
-    by true = refl
-    by false = refl
+unopened line e = rw e (either (λ (x : Answered). x ≡ bad Over) (is_short line) _ _ refl refl)
 
 -- EVERY CARD
 pub every_card : EveryCard

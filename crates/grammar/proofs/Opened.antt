@@ -1,7 +1,7 @@
 -- A first line that is answered ok leaves the runner that open gives.
 use Rattle.std.specs.Prelude.{Option, Result, Some, None, Ok, Err}
 use Rattle.exec.specs.declared.Refusal.{Refusal}
-use mathlib.Core.Bool.{Bool, true, false, cond, true≢false}
+use mathlib.Core.Bool.{Bool, true, false, cond}
 use mathlib.Core.Path.{◌≡◌, refl, ap}
 use mathlib.Core.List.{List}
 use mathlib.Core.Logic.{◌⊎◌, inl, inr}
@@ -23,21 +23,18 @@ pub record Opened (line : List ℕ) : Type 0 where
   pub reads : line_open line ≡ Some given
   pub opens : Opens given.conf given.now (zeros 65536) (zeros 1024)
 
-not_refused : (n : ℕ) → Call.Refused n ≡ Call.Ok → ⊥
-not_refused n e = true≢false (ap is_refused e)
-
 accepted : (r : Result (Unit {0}) Refusal) (o : Opening) → (opened_by r o).answer ≡ Call.Ok → r ≡ Ok tt
 accepted (Ok tt) o e = refl
-accepted (Err x) o e = absurd (not_refused (number x) e)
+accepted (Err x) o e = cc
 
 pub opened_so : (line : List ℕ) → (answer_of First line).answer ≡ Call.Ok → Opened line
 unfolding answer_of answered first too_long
 opened_so line = by (is_short line) refl (line_open line) refl
   where
     by : (b : Bool) → is_short line ≡ b → (x : Option Opening) → line_open line ≡ x → (cond {A = Answered} b (first x) (too_long First)).answer ≡ Call.Ok → Opened line
-    by true h None r e = absurd (not_refused 30 e)
+    by true h None r e = cc
     by true h (Some o) r e = record { given = o; short = h; reads = r; opens = accepted _ o e }
-    by false h x r e = absurd (not_refused 30 e)
+    by false h x r e = cc
 
 -- leaves the runner that open gives
 pub first_line : (line : List ℕ) (x : Opened line)

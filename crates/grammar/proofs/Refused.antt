@@ -1,8 +1,8 @@
 -- A refused line changes nothing: the card's refusals give back the stage, and a call that is refused leaves its state.
 use Rattle.std.specs.Prelude.{Option, Result, Some, None, Ok, Err}
 use Rattle.exec.specs.declared.Refusal.{Refusal}
-use mathlib.Core.Bool.{true, ◌&&◌, false≢true}
-use mathlib.Core.Path.{◌≡◌, refl, ap, subst, subst⁻¹}
+use mathlib.Core.Bool.{true, ◌&&◌}
+use mathlib.Core.Path.{◌≡◌, refl, subst, subst⁻¹}
 use mathlib.Core.List.{List, [], ◌∷◌}
 use Prim.Native.Nat.{ℕ}
 use Rattle.exec.specs.Limits.{is_valid}
@@ -44,14 +44,11 @@ First a = (n : ℕ) → a ≡ Call.Refused n → IsFirst n
 refused_first : (m : ℕ) → IsFirst m → First (Call.Refused m)
 refused_first m h n e = let k : m ≡ n = cc in subst IsFirst k h
 
-ok_first : First Call.Ok
-ok_first n e = absurd (false≢true (ap is_refused e))
-
 open_first : (o : Opening) → First (open_answer o.conf o.now (zeros 65536) (zeros 1024))
 open_first o =
     let l = o.conf.limits in
     subst⁻¹ First (refusals.open_number o.conf o.now (zeros 65536) (zeros 1024))
-    (either First (is_valid l) _ _ (either First (bytes_do l (zeros 65536) && lengths_do l (zeros 1024)) _ _ ok_first (refused_first 11 refl)) (refused_first 10 refl))
+    (either First (is_valid l) _ _ (either First (bytes_do l (zeros 65536) && lengths_do l (zeros 1024)) _ _ (λ n e. cc) (refused_first 11 refl)) (refused_first 10 refl))
 
 abbrev Unopened : Answered → Type 0
 Unopened x = (n : ℕ) → x.answer ≡ Call.Refused n → (x.stage ≡ Over) × IsFirst n
@@ -60,14 +57,14 @@ bad_first : Unopened (bad Over)
 bad_first n e = (refl, refused_first 30 refl n e)
 
 opened_by_lem : (met : Result (Unit {0}) Refusal) (o : Opening) → First (replied met) → Unopened (opened_by met o)
-opened_by_lem (Ok tt) o h n e = absurd (false≢true (ap is_refused e))
+opened_by_lem (Ok tt) o h n e = cc
 opened_by_lem (Err x) o h n e = (refl, h n e)
 
 first_safe : (o : Option Opening) → Unopened (first o)
 unfolding first
 first_safe None = bad_first
 first_safe (Some o) =
-    opened_by_lem (Calls.«open» o.conf.key o.conf.limits o.conf.timers o.now (zeros 65536) (zeros 1024)).reply o (open_first o)
+    opened_by_lem (Calls.«open» o.conf.key o.conf.limits o.conf.timers o.now (zeros 65536) (zeros 1024)).answer o (open_first o)
 
 -- DEMAND 1, OF A CARD'S LINES
 pub refused_lines : RefusedLines

@@ -1,7 +1,7 @@
 -- The timeout ends a program that hangs: up to its tick it waits, or a termination has begun, whose give-up is not later than the timeout's;
 -- the rest is demand 3's.
 use Rattle.std.specs.Prelude.{Option, Result, Some, None, Ok, Err}
-use Rattle.exec.specs.declared.Admission.TheVariants.{Own, Stale}
+use Rattle.exec.specs.declared.Admission.TheVariants.{Own}
 use Rattle.exec.specs.declared.Admission.{Admission}
 use Rattle.runner.specs.declared.answer.Request.{Request}
 use Rattle.exec.specs.declared.LaunchFailure.{LaunchFailure}
@@ -84,21 +84,13 @@ module _ (d : ℕ) where
 
   waits_wished : (w : Option Request) (s : Runner) → Waits d s → Waits d (wish_effect w s)
   unfolding wish_effect
-  waits_wished None s h = h
   waits_wished (Some (Request.Terminate c)) s h = h
-  waits_wished (Some (Request.Discard x)) s h = h
-  waits_wished (Some Request.CloseInput) s h = h
-  waits_wished (Some Request.Settle) s h = h
+  waits_wished _ s h = h
 
   waits_effect : (m : Choice) (s : Runner) → Waits d s → Waits d (effect m s)
   unfolding effect output_sent output_paid
-  waits_effect Choice.None s h = h
-  waits_effect Choice.Credit s h = h
-  waits_effect Choice.Started s h = h
-  waits_effect Choice.InputClosed s h = h
   waits_effect (Choice.End x) s h = h
-  waits_effect (Choice.Output x n) s h = h
-  waits_effect Choice.Terminal s h = h
+  waits_effect _ s h = h
 
 -- the stages of a tick behind the timeout's
 abbrev rest : ℕ → Runner → Runner
@@ -161,8 +153,7 @@ module _ (conf : Conf) (d t : ℕ) (below : t + conf.timers.grace + conf.timers.
   unfolding Life.cancel_next
   held_cancel (Ok Own) now c s e l h =
       let u : Runner = ticked s now in held_cancel_if (late u) now c u (ticked_timers now s e) l (held_ticked now s e l h)
-  held_cancel (Ok Stale) now c s e l h = h
-  held_cancel (Err x) now c s e l h = h
+  held_cancel _ now c s e l h = h
 
   held_detach_if : (f b : Bool) (now : ℕ) (c : Cause) (s : Runner) → s.timers ≡ conf.timers → now ≤ t → Held s → Held (detach_if f b now c s)
   held_detach_if true b now c s e l h = h
@@ -186,28 +177,7 @@ module _ (conf : Conf) (d t : ℕ) (below : t + conf.timers.grace + conf.timers.
   waits_next (Call.launched y) s e q h = left (waits_launched d (awaits_launch s.runner) y s.runner h)
   waits_next Call.next_request s e q h = left (waits_wished d (wish s.runner) s.runner h)
   waits_next (Call.next_message b) s e q h = left (waits_effect d (choose s.runner (length b)) s.runner h)
-  waits_next (Call.credit k p u) s e q h = left h
-  waits_next (Call.input k b) s e q h = left h
-  waits_next (Call.end_input k) s e q h = left h
-  waits_next (Call.output y b) s e q h = left h
-  waits_next (Call.discarded y n) s e q h = left h
-  waits_next (Call.output_closed y) s e q h = left h
-  waits_next (Call.output_failed y) s e q h = left h
-  waits_next (Call.output_hung_up y) s e q h = left h
-  waits_next (Call.input_written n) s e q h = left h
-  waits_next Call.input_closed s e q h = left h
-  waits_next (Call.settled y) s e q h = left h
-  waits_next (Call.read_allowance y) s e q h = left h
-  waits_next Call.pending_input s e q h = left h
-  waits_next Call.deadline s e q h = left h
-  waits_next Call.is_finished s e q h = left h
-  waits_next Call.is_detached s e q h = left h
-  waits_next Call.awaits_settlement s e q h = left h
-  waits_next Call.buffered s e q h = left h
-  waits_next Call.high_water s e q h = left h
-  waits_next Call.memory_bound s e q h = left h
-  waits_next Call.key s e q h = left h
-  waits_next Call.limits s e q h = left h
+  waits_next _ s e q h = left h
 
   held_next : (c : Call) (s : State) → s.runner.timers ≡ conf.timers → RunsOn t c → Held s.runner → Held (next s c).runner
   held_next c s e q (left h) = waits_next c s e q h

@@ -1,9 +1,9 @@
 -- A program that hangs, computed from the definitions: so the claim is not of lists that cannot be; and a list for each of its conditions, but that there
 -- is a timeout and that open is answered ok, on which Terminal does not come without it.
 use Rattle.std.specs.Prelude.{Some, None, Ok}
-use Rattle.std.proofs.lemmas.Option.{none-some, same_Some}
+use Rattle.std.proofs.lemmas.Option.{same_Some}
 use Rattle.exec.specs.declared.Cause.{Cause}
-use mathlib.Core.Bool.{true, false, true≢false}
+use mathlib.Core.Bool.{true, false}
 use mathlib.Core.Path.{◌≡◌, refl, subst}
 use mathlib.Core.List.{List, [], ◌∷◌, ◌++◌, map}
 use Prim.Native.Nat.{ℕ, ◌≤◌}
@@ -23,7 +23,7 @@ use Rattle.calls.specs.Call.{Conf, Answer}
 use Rattle.account.specs.Step as Step
 use Rattle.account.specs.Step.{State}
 use Rattle.account.specs.Records.{Entry, EntryDone, call, next_entry, answer_entry, run_entries, made, calls_of, any_terminal_in}
-use Rattle.hung.specs.HungClaim.{RunsOn, Unended}
+use Rattle.hung.specs.HungClaim.{Unended}
 use Rattle.hung.proofs.Hung.{hung}
 
 -- chunks of one byte, windows of one byte, and a timeout at 10
@@ -105,24 +105,12 @@ computed = record {
 
 -- ---- the first of these lists meets every condition
 
-untimed : (now : ℕ) → None ≡ Some now → now ≤ 10
-untimed now e = absurd (none-some now e)
-
-launched : RunsOn 10 (Call.launched (Ok tt))
-launched = (λ now x e. (let z : true ≡ false = cc in true≢false z), untimed)
-
-ticked : RunsOn 10 (Call.tick 9)
-ticked = (λ now x e. (let z : true ≡ false = cc in true≢false z), λ now e. subst (λ (m : ℕ). m ≤ 10) (same_Some 9 now e) (omega arith))
-
-requested : RunsOn 10 Call.next_request
-requested = (λ now x e. (let z : true ≡ false = cc in true≢false z), untimed)
-
-deadlined : RunsOn 10 Call.deadline
-deadlined = (λ now x e. (let z : true ≡ false = cc in true≢false z), untimed)
-
 unended : Unended 10 (calls_of conf (run_entries (begins conf) running))
 unfolding made
-unended = (launched, (ticked, (requested, (deadlined, tt))))
+unended = (
+  (λ now x e. cc, λ now e. cc),
+  ((λ now x e. cc, λ now e. subst (λ (m : ℕ). m ≤ 10) (same_Some 9 now e) (omega arith)), ((λ now x e. cc, λ now e. cc), ((λ now x e. cc, λ now e. cc), tt))),
+)
 
 -- so Terminal comes in it by the claim alone, too
 pub ends : any_terminal_in (run_entries (begins conf) (list_of running 10 18 five)) ≡ true

@@ -6,7 +6,7 @@ use mathlib.Core.Path.{◌≡◌, refl, sym, ◌∙◌, ap}
 use Rattle.exec.specs.declared.Stream.{Stream}
 use Rattle.exec.specs.Stream.{every_stream_lem}
 use Rattle.lifecycle.specs.declared.life.Settling.{Settling}
-use Rattle.lifecycle.specs.declared.life.Settling.TheVariants.{Idle, Requested, Settled, Fenced}
+use Rattle.lifecycle.specs.declared.life.Settling.TheVariants.{Settled, Fenced}
 use Rattle.lifecycle.specs.Life.{launch_known, exit_known, is_fenced, is_settled}
 use Rattle.lifecycle.specs.Setters.{set_give_up_at, set_abandon_at, set_settling}
 use Rattle.output.specs.declared.Output.{Output}
@@ -16,7 +16,9 @@ use Rattle.runner.specs.declared.runner.Runner.{Runner}
 use Rattle.runner.specs.Life.{awaits_launch, is_cleaned_up}
 use Rattle.runner.specs.State.{with, with_life, with_outputs, out_of}
 use Rattle.account.specs.Step.{State, on_runner}
-use Rattle.account.proofs.Flags.{and_l, and_r, and_both}
+use Rattle.std.proofs.lemmas.Bool.{and_from, not-true, not_from_false}
+use Rattle.account.proofs.Phase.{no_wait}
+use Rattle.ring.specs.Flags.{and_l, and_r}
 use Rattle.account.proofs.Sides.{of_every, on_out, none_of, of_none}
 
 -- abandonment has nothing to do, nor will it: no launch is awaited, settling is fenced, and no stream is held open
@@ -82,18 +84,6 @@ branch false x y v w h k = k
 
 -- ---- what is known where a time is not shown
 
-not_false : (a : Bool) → not a ≡ true → a ≡ false
-not_false true e = sym e
-not_false false e = refl
-
-pub false_not : (a : Bool) → a ≡ false → not a ≡ true
-false_not true e = sym e
-false_not false e = refl
-
-unawaited : (l g a : Bool) → l ≡ true → ((not l && g) && a) ≡ false
-unawaited true g a e = refl
-unawaited false g a e = absurd (false≢true e)
-
 module _ (r : Runner) (e : is_cleaned_up r ≡ true) where
   abbrev reports : Bool
   reports = launch_known r.life.launch && exit_known r.life.exit
@@ -108,7 +98,7 @@ module _ (r : Runner) (e : is_cleaned_up r ≡ true) where
   clean_exit = and_r (launch_known r.life.launch) _ (and_l reports _ clean_closed)
 
   pub clean_awaits : awaits_launch r ≡ false
-  clean_awaits = unawaited (launch_known r.life.launch) _ _ (and_l _ (exit_known r.life.exit) (and_l reports _ clean_closed))
+  clean_awaits = no_wait (launch_known r.life.launch) _ _ (and_l _ (exit_known r.life.exit) (and_l reports _ clean_closed))
 
 module _ (r : Runner) (e : is_moot r ≡ true) where
   abbrev given : Bool
@@ -118,20 +108,18 @@ module _ (r : Runner) (e : is_moot r ≡ true) where
   moot_given = and_l given _ e
 
   pub moot_awaits : awaits_launch r ≡ false
-  moot_awaits = not_false (awaits_launch r) (and_l _ (is_fenced r.life.settling) moot_given)
+  moot_awaits = not-true (awaits_launch r) (and_l _ (is_fenced r.life.settling) moot_given)
 
   pub moot_fenced : is_fenced r.life.settling ≡ true
   moot_fenced = and_r (not (awaits_launch r)) _ moot_given
 
   pub moot_held : (x : Stream) → is_held (out_of x r) ≡ false
-  moot_held = none_of (λ (x : Stream). is_held (out_of x r)) (not_false (any_held r.outputs) (and_r given _ e))
+  moot_held = none_of (λ (x : Stream). is_held (out_of x r)) (not-true (any_held r.outputs) (and_r given _ e))
 
 -- settling is not Settled and Fenced at once
 pub unsettled : (s : Settling) → is_fenced s ≡ true → is_settled s ≡ true → ⊥
-unsettled Idle e f = false≢true e
-unsettled (Requested d) e f = false≢true e
-unsettled Settled e f = false≢true e
 unsettled Fenced e f = false≢true f
+unsettled _ e f = false≢true e
 
 -- ---- a change of one stream's output, which stays closed if it was, and is not held if it was not
 
@@ -139,22 +127,30 @@ module _ (x : Stream) (o : Output) (r : Runner) where
   pub put_clean : ((out_of x r).closed ≡ true → o.closed ≡ true) → is_cleaned_up r ≡ true → is_cleaned_up (with_outputs (put_output x o r.outputs) r) ≡ true
   put_clean h e =
       let k = every_stream_lem (λ (y : Stream). (out_of y r).closed) (and_r (reports r e) _ (clean_closed r e)) in
-      and_both _ _
-      (and_both (reports r e) _ (and_l (reports r e) _ (clean_closed r e))
+      and_from _ _
+      (and_from (reports r e) _ (and_l (reports r e) _ (clean_closed r e))
       (of_every _ (on_out (λ (y : Stream) (p : Output). p.closed ≡ true) x o r.outputs (h (k x)) (λ y d. k y))))
       (clean_settled r e)
 
   pub put_moot : (is_held (out_of x r) ≡ false → is_held o ≡ false) → is_moot r ≡ true → is_moot (with_outputs (put_output x o r.outputs) r) ≡ true
   put_moot h e =
       let k = moot_held r e in
-      and_both _ _ (moot_given r e)
-      (false_not _ (of_none _ (on_out (λ (y : Stream) (p : Output). is_held p ≡ false) x o r.outputs (h (k x)) (λ y d. k y))))
+      and_from _ _ (moot_given r e)
+      (not_from_false _ (of_none _ (on_out (λ (y : Stream) (p : Output). is_held p ≡ false) x o r.outputs (h (k x)) (λ y d. k y))))
 
--- ---- a change of settling, which stays Settled or Fenced if it was
+-- ---- a change of settling that leaves Settled and Fenced
 
-pub settle_sees : (s : Settling) (r : Runner) → (is_settled r.life.settling ≡ true → is_settled s ≡ true) → (is_fenced r.life.settling ≡ true → is_fenced s ≡ true)
-    → calm (with_life (set_settling s (calm r).life) (calm r)) ≡ calm (with_life (set_settling s r.life) r)
-settle_sees s r c f =
-    plain r (with_life (set_settling s r.life) r) refl refl
-    (λ e. and_both _ _ (clean_closed r e) (c (clean_settled r e)))
-    (λ e. and_both _ _ (and_both _ _ (false_not (awaits_launch r) (moot_awaits r e)) (f (moot_fenced r e))) (and_r (given r e) _ e))
+pub settle_sees : (f : Settling → Settling) (r : Runner) → f Settled ≡ Settled → f Fenced ≡ Fenced
+    → calm (with_life (set_settling (f r.life.settling) (calm r).life) (calm r)) ≡ calm (with_life (set_settling (f r.life.settling) r.life) r)
+settle_sees f r s n =
+    plain r (with_life (set_settling (f r.life.settling) r.life) r) refl refl
+    (λ e. and_from _ _ (clean_closed r e) (settled r.life.settling (clean_settled r e)))
+    (λ e. and_from _ _ (and_from _ _ (not_from_false (awaits_launch r) (moot_awaits r e)) (fenced r.life.settling (moot_fenced r e))) (and_r (given r e) _ e))
+  where
+    settled : (x : Settling) → is_settled x ≡ true → is_settled (f x) ≡ true
+    settled Settled e = rw s refl
+    settled _ e = absurd (false≢true e)
+
+    fenced : (x : Settling) → is_fenced x ≡ true → is_fenced (f x) ≡ true
+    fenced Fenced e = rw n refl
+    fenced _ e = absurd (false≢true e)

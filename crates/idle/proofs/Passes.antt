@@ -1,6 +1,6 @@
 -- The timers, pass by pass, and what ticks: each sees no more of a runner than is shown.
-use Rattle.std.specs.Prelude.{Option, Result, None, Ok, Err}
-use Rattle.exec.specs.declared.Admission.TheVariants.{Own, Stale}
+use Rattle.std.specs.Prelude.{Option, Result, None, Ok}
+use Rattle.exec.specs.declared.Admission.TheVariants.{Own}
 use Rattle.exec.specs.declared.Admission.{Admission}
 use Rattle.exec.specs.declared.Status.{Status}
 use Rattle.exec.specs.declared.Refusal.{Refusal}
@@ -11,16 +11,14 @@ use Prim.Native.Nat.{ℕ}
 use Rattle.exec.specs.declared.Cause.{Cause}
 use Rattle.exec.specs.declared.Cause.TheVariants.{TimedOut}
 use Rattle.exec.specs.Time.{after, earliest, due}
-use Rattle.lifecycle.specs.declared.life.Settling.{Settling}
-use Rattle.lifecycle.specs.declared.life.Settling.TheVariants.{Idle, Requested, Settled, Fenced}
-use Rattle.lifecycle.specs.Life.{launch_known, exit_known, is_fenced, is_settled, expired}
+use Rattle.lifecycle.specs.Life.{launch_known, exit_known, is_fenced, expired}
 use Rattle.lifecycle.specs.Setters.{set_give_up_at, set_abandon_at}
 use Rattle.output.specs.declared.Output.{Output}
 use Rattle.output.specs.Output.{abandoned}
 use Rattle.runner.specs.declared.runner.Runner.{Runner}
 use Rattle.runner.specs.Life.{awaits_launch, is_cleaned_up, close_runner_input, end_grace, give_up, abandon_launch, abandon_open_streams, begin_termination, pass_grace, terminate, pass_timeout, pass_settlement, give_up_unless_clean, pass_give_up, drop_launch, drop_streams, pass_abandonment, fire, ticked, is_late, cancel_answer, cancel_next, note_exit, is_over, note_exit_once, timeout_cleared, exited_next, silenced, give_up_soon, cut_off, cut_off_once, detach_next}
 use Rattle.runner.specs.State.{with, with_clocks, out_of}
-use Rattle.account.proofs.Flags.{or_left}
+use Rattle.std.proofs.lemmas.Bool.{or_left}
 use Rattle.account.proofs.Sides.{each_same}
 use Rattle.idle.proofs.Calm.{Sees, is_moot, swap, unless, give_up_shown, abandon_shown, calm, kept, anew, plain, still, on, branch, clean_settled, clean_exit, clean_awaits, moot_awaits, moot_fenced, moot_held, unsettled, settle_sees}
 
@@ -53,22 +51,10 @@ pass_timeout_lem now r =
     branch (due r.clocks.timeout_at now) (terminate (timeout_cleared (calm r)) now TimedOut) (calm r) (terminate (timeout_cleared r) now TimedOut) r
     (on (λ x. terminate x now TimedOut) (terminate_sees now TimedOut) (timeout_cleared (calm r)) (timeout_cleared r) (cleared_sees r)) (still r)
 
-expired_settled : (s : Settling) (now : ℕ) → is_settled s ≡ true → is_settled (expired s now) ≡ true
-expired_settled Idle now e = e
-expired_settled (Requested d) now e = absurd (true≢false (sym e))
-expired_settled Settled now e = e
-expired_settled Fenced now e = e
-
-expired_fenced : (s : Settling) (now : ℕ) → is_fenced s ≡ true → is_fenced (expired s now) ≡ true
-expired_fenced Idle now e = e
-expired_fenced (Requested d) now e = absurd (true≢false (sym e))
-expired_fenced Settled now e = e
-expired_fenced Fenced now e = e
-
 pass_settlement_lem : (now : ℕ) → Sees (λ (x : Runner). pass_settlement x now)
 unfolding pass_settlement
 pass_settlement_lem now r =
-    let s : Settling = r.life.settling in settle_sees (expired s now) r (expired_settled s now) (expired_fenced s now)
+    settle_sees (λ s. expired s now) r refl refl
 
 -- ---- give-up
 
@@ -177,18 +163,16 @@ tick_sees now r = branch r.flags.finished (calm r) (fire (calm r) now) r (fire r
 
 pub cancel_sees : (a : (Result Admission Refusal)) (now : ℕ) (c : Cause) → Sees (λ (x : Runner). cancel_next a x now c)
 unfolding cancel_next
-cancel_sees (Err x) now c r = still r
-cancel_sees (Ok Stale) now c r = still r
 cancel_sees (Ok Own) now c r =
     let t : Runner = ticked r now in let u : Runner = ticked (calm r) now in
     rw (ap is_late (tick_sees now r))
     (branch (is_late t) u (terminate u now c) t (terminate t now c) (tick_sees now r) (on (λ x. terminate x now c) (terminate_sees now c) u t (tick_sees now r)))
+cancel_sees _ now c r = still r
 
 pub cancel_shows : (a : Result Admission Refusal) (now : ℕ) (r : Runner) → cancel_answer a (calm r) now ≡ cancel_answer a r now
 unfolding cancel_answer
-cancel_shows (Err x) now r = refl
-cancel_shows (Ok Stale) now r = refl
 cancel_shows (Ok Own) now r = rw (ap is_late (tick_sees now r)) refl
+cancel_shows _ now r = refl
 
 -- an exit that counts finds nothing cleaned up, and sets the time of abandonment anew
 exit_sees : (now : ℕ) (x : (Option Status)) → Sees (λ (z : Runner). note_exit_once z now x)

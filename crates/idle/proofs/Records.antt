@@ -43,17 +43,17 @@ made_sees : (rec : Record) (now : ℕ) (b : List ℕ) (s : State)
 unfolding Channel.made next answer
 made_sees (Record.Adjust n) now b s =
     let r : Runner = s.runner in
-    as_heard (Calls.credit (calm r) r.key Pool.Output n).received (Calls.credit r r.key Pool.Output n).received (call_sees (Call.credit r.key Pool.Output n) s)
+    as_heard (Calls.credit (calm r) r.key Pool.Output n).answer (Calls.credit r r.key Pool.Output n).answer (call_sees (Call.credit r.key Pool.Output n) s)
 made_sees (Record.Data n) now b s =
     let r : Runner = s.runner in
-    as_heard (Calls.input (calm r) r.key (drop 9 b) s.bytes s.lengths).hearing.received (Calls.input r r.key (drop 9 b) s.bytes s.lengths).hearing.received
+    as_heard (Calls.input (calm r) r.key (drop 9 b) s.bytes s.lengths).hearing.answer (Calls.input r r.key (drop 9 b) s.bytes s.lengths).hearing.answer
     (call_sees (Call.input r.key (drop 9 b)) s)
 made_sees (Record.Extended n) now b s = getting s _
 made_sees Record.Eof now b s =
     let r : Runner = s.runner in
-    as_heard (Calls.end_input (calm r) r.key).received (Calls.end_input r r.key).received (call_sees (Call.end_input r.key) s)
+    as_heard (Calls.end_input (calm r) r.key).answer (Calls.end_input r r.key).answer (call_sees (Call.end_input r.key) s)
 made_sees Record.Close now b s =
-    as_noted (Calls.disconnect (calm s.runner) now).reply (Calls.disconnect s.runner now).reply (call_sees (Call.disconnect now) s)
+    as_noted (Calls.disconnect (calm s.runner) now).answer (Calls.disconnect s.runner now).answer (call_sees (Call.disconnect now) s)
 
 parsed_sees : (p : Result Record Refusal) (now : ℕ) (b : List ℕ) (s : State)
     → Reads (parsed_read p (calm s.runner) now b s.bytes s.lengths) (parsed_read p s.runner now b s.bytes s.lengths)
@@ -71,7 +71,7 @@ read_sees (Err x) now channel b s = getting s _
 
 pub record Writes (x y : WriteAfter) : Type 0 where
   pub runner : calm x.writing.runner ≡ calm y.writing.runner
-  pub wrote : x.writing.wrote ≡ y.writing.wrote
+  pub wrote : x.writing.answer ≡ y.writing.answer
   pub buffer : x.buffer ≡ y.buffer
 
 module _ (channel : ℕ) (store buffer : List ℕ) (r : Runner) where
@@ -94,8 +94,8 @@ module _ (channel : ℕ) (store buffer : List ℕ) (r : Runner) where
   unfolding sent asked Calls.next_message stop in_range
   sent_sees =
       let m = message_sees (stop r (bytes_do r.limits store)) r store (take r.limits.chunk (drop 13 buffer)) in
-      subst (λ (b : Bool). Writes (writes b (asked (calm r) store buffer) (calm r)) (writes (is_left (asked r store buffer).saying.said) (asked r store buffer) r))
-      (sym (ap is_left m.said)) (writes_alike (is_left (asked r store buffer).saying.said) (asked (calm r) store buffer) (asked r store buffer) m)
+      subst (λ (b : Bool). Writes (writes b (asked (calm r) store buffer) (calm r)) (writes (is_left (asked r store buffer).saying.answer) (asked r store buffer) r))
+      (sym (ap is_left m.said)) (writes_alike (is_left (asked r store buffer).saying.answer) (asked (calm r) store buffer) (asked r store buffer) m)
 
   write_sees : (a : Result (Unit {0}) Refusal) → Writes (admitted_write a (calm r) channel store buffer) (admitted_write a r channel store buffer)
   unfolding admitted_write roomy_write

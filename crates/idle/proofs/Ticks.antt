@@ -9,7 +9,7 @@ use borrow.Author.Tests.{ltb-true, ltb-false, leb-true, le-leb}
 use Rattle.exec.specs.declared.Cause.TheVariants.{TimedOut}
 use Rattle.exec.specs.Time.{earliest, due}
 use Rattle.lifecycle.specs.declared.life.Settling.{Settling}
-use Rattle.lifecycle.specs.declared.life.Settling.TheVariants.{Idle, Requested, Settled, Fenced}
+use Rattle.lifecycle.specs.declared.life.Settling.TheVariants.{Requested, Fenced}
 use Rattle.lifecycle.specs.Clocks.{first_of}
 use Rattle.lifecycle.specs.Life.{launch_known, is_fenced, settling_late, expired, expired_in_time, expected_by}
 use Rattle.lifecycle.specs.Setters.{set_give_up_at, set_settling}
@@ -17,18 +17,16 @@ use Rattle.output.specs.Outputs.{any_held}
 use Rattle.runner.specs.declared.runner.Runner.{Runner}
 use Rattle.runner.specs.Life.{awaits_launch, is_cleaned_up, end_grace, give_up, abandon_launch, abandon_open_streams, begin_termination, pass_grace, terminate, pass_timeout, pass_settlement, give_up_unless_clean, pass_give_up, drop_launch, drop_streams, pass_abandonment, fire, ticked, deadline_of, timeout_cleared}
 use Rattle.runner.specs.State.{with_clocks, with_life}
-use Rattle.account.proofs.Flags.{either, and_both}
-use Rattle.idle.proofs.Calm.{calm, false_not}
+use Rattle.std.proofs.lemmas.Bool.{and_from, and_right, or_parts, not_from_false}
+use Rattle.std.proofs.Math.Bool.{or-false}
+use Rattle.account.proofs.Flags.{either}
+use Rattle.idle.proofs.Calm.{calm}
 use Rattle.idle.proofs.Passes.{given_clean, moot_drops, abandonment_sees}
 
 -- the earlier of two is due where one of them is
 earliest_due : (a b : Option ℕ) (now : ℕ) → due (earliest a b) now ≡ (due a now || due b now)
 earliest_due None b now = refl
-earliest_due (Some a) None now = sym (or_none (leb a now))
-  where
-    or_none : (x : Bool) → (x || false) ≡ x
-    or_none true = refl
-    or_none false = refl
+earliest_due (Some a) None now = sym (or-false (leb a now))
 earliest_due (Some a) (Some b) now = by (ltb b a) (leb a now) (leb b now) refl refl refl
   where
     by : (t x y : Bool) → ltb b a ≡ t → leb a now ≡ x → leb b now ≡ y → due (cond t (Some b) (Some a)) now ≡ (x || y)
@@ -73,22 +71,15 @@ module _ (now : ℕ) (r : Runner) where
 
   waits : due (first_of r.clocks (expected_by r.life.settling) (not (is_cleaned_up r)) (abandons r)) now ≡ false → Waits
   waits e =
-      by (due r.clocks.timeout_at now) (due r.clocks.grace_until now) (due (expected_by r.life.settling) now) (due gives now) (due leaves_at now)
-      refl refl refl refl refl (sym first_due ∙ e)
-    where
-      by : (t g s u a : Bool) → due r.clocks.timeout_at now ≡ t → due r.clocks.grace_until now ≡ g → due (expected_by r.life.settling) now ≡ s → due gives now ≡ u
-          → due leaves_at now ≡ a → ((((t || g) || s) || u) || a) ≡ false → Waits
-      by true g s u a et eg es eu ea h = absurd (true≢false h)
-      by false true s u a et eg es eu ea h = absurd (true≢false h)
-      by false false true u a et eg es eu ea h = absurd (true≢false h)
-      by false false false true a et eg es eu ea h = absurd (true≢false h)
-      by false false false false a et eg es eu ea h = record { timeout = et; grace = eg; settlement = es; give_up_lem = eu; abandonment = ea ∙ h }
+      let a = or_parts _ _ (sym first_due ∙ e) in
+      let u = or_parts _ _ a.0 in
+      let s = or_parts _ _ u.0 in
+      let t = or_parts _ _ s.0 in
+      record { timeout = t.0; grace = t.1; settlement = s.1; give_up_lem = u.1; abandonment = a.1 }
 
   in_time : (s : Settling) → due (expected_by s) now ≡ false → settling_late s now ≡ false
-  in_time Idle e = refl
   in_time (Requested d) e = e
-  in_time Settled e = refl
-  in_time Fenced e = refl
+  in_time _ e = refl
 
   -- give-up is not due, or finds all cleaned up
   gives_nothing : due gives now ≡ false → calm (pass_give_up r now) ≡ calm r
@@ -107,7 +98,7 @@ module _ (now : ℕ) (r : Runner) where
   nothing_to_abandon true f h ea ef eh e = absurd (true≢false e)
   nothing_to_abandon false true true ea ef eh e = absurd (true≢false e)
   nothing_to_abandon false true false ea ef eh e =
-      moot_drops true r (and_both _ _ (and_both _ _ (false_not (awaits_launch r) ea) ef) (false_not (any_held r.outputs) eh))
+      moot_drops true r (and_from _ _ (and_from _ _ (not_from_false (awaits_launch r) ea) ef) (not_from_false (any_held r.outputs) eh))
   nothing_to_abandon false false h ea ef eh e =
       let l : drop_launch r ≡ r = rw ea in
       let s : drop_streams r ≡ r = rw ef in
@@ -146,6 +137,9 @@ module _ (now : ℕ) (r : Runner) where
 -- ---- after a tick
 
 module _ (now : ℕ) where
+  abbrev Later : Option ℕ → Type 0
+  Later d = due d now ≡ false
+
   -- the timers before abandonment, each once it was asked
   abbrev Timeout : Runner → Type 0
   Timeout r = due r.clocks.timeout_at now ≡ false
@@ -176,14 +170,12 @@ module _ (now : ℕ) where
       by false e = e
 
   expires : (s : Settling) → due (expected_by (expired s now)) now ≡ false
-  expires Idle = refl
   expires (Requested d) = by (due d now) refl
     where
       by : (b : Bool) → due d now ≡ b → due (expected_by (cond b Fenced (Requested d))) now ≡ false
       by true e = refl
       by false e = e
-  expires Settled = refl
-  expires Fenced = refl
+  expires _ = refl
 
   given : (r : Runner) → Settlement r → GiveUp (pass_give_up r now)
   unfolding pass_give_up give_up_unless_clean give_up
@@ -202,29 +194,17 @@ module _ (now : ℕ) where
   unfolding drop_launch abandon_launch
   dropped r h = by (awaits_launch r) refl
     where
-      and_none : (x : Bool) → (x && false) ≡ false
-      and_none true = refl
-      and_none false = refl
-
       by : (b : Bool) → awaits_launch r ≡ b → GiveUp (cond b (abandon_launch r) r) × (awaits_launch (cond b (abandon_launch r) r) ≡ false)
-      by true e = (((h.0.0, refl), h.1), and_none (not (launch_known r.life.launch) && not r.flags.gave_up))
+      by true e = (((h.0.0, refl), h.1), and_right (not (launch_known r.life.launch) && not r.flags.gave_up) false refl)
       by false e = (h, e)
 
   streamed : (r : Runner) → GiveUp r → awaits_launch r ≡ false → Done (drop_streams r)
   unfolding drop_streams abandon_open_streams
   streamed r h a = by (is_fenced r.life.settling) refl
     where
-      none : (b : Bool) → due (cond b None None) now ≡ false
-      none true = refl
-      none false = refl
-
       by : (b : Bool) → is_fenced r.life.settling ≡ b → Done (cond b (abandon_open_streams r) r)
-      by true e = (h, none (abandons (abandon_open_streams r)))
+      by true e = (h, either Later (abandons (abandon_open_streams r)) None None refl refl)
       by false e = (h, rw (a, e) refl)
-
-  waiting : (b : Bool) (d : Option ℕ) → due d now ≡ false → due (cond b d None) now ≡ false
-  waiting true d e = e
-  waiting false d e = refl
 
   left : (r : Runner) → GiveUp r → Done (pass_abandonment r now)
   unfolding pass_abandonment
@@ -232,7 +212,7 @@ module _ (now : ℕ) where
     where
       by : (b : Bool) → due r.clocks.abandon_at now ≡ b → Done (cond b (drop_streams (drop_launch r)) r)
       by true e = let k = dropped r h in streamed (drop_launch r) k.0 k.1
-      by false e = (h, waiting (abandons r) r.clocks.abandon_at e)
+      by false e = (h, either Later (abandons r) r.clocks.abandon_at None e refl)
 
   fire_done : (r : Runner) → Done (fire r now)
   unfolding fire pass_settlement
@@ -247,15 +227,11 @@ module _ (now : ℕ) where
   unfolding ticked deadline_of
   tick_later r = by r.flags.finished refl
     where
-      unfinished : (f : Bool) (d : Option ℕ) → due d now ≡ false → due (cond f None d) now ≡ false
-      unfinished true d e = refl
-      unfinished false d e = e
-
       by : (f : Bool) → r.flags.finished ≡ f → due (deadline_of (cond f r (fire r now))) now ≡ false
       by true e = rw e refl
       by false e =
           let t : Runner = fire r now in
           let d : Done t = fire_done r in
-          unfinished t.flags.finished _ (first_due now t
+          either Later t.flags.finished None _ refl (first_due now t
           ∙ none_due (due t.clocks.timeout_at now) (due t.clocks.grace_until now) (due (expected_by t.life.settling) now) (due (gives now t) now) (due (leaves_at now t) now)
-          d.0.0.0.0 d.0.0.0.1 d.0.0.1 (waiting (not (is_cleaned_up t)) t.clocks.give_up_at d.0.1) d.1)
+          d.0.0.0.0 d.0.0.0.1 d.0.0.1 (either Later (not (is_cleaned_up t)) t.clocks.give_up_at None d.0.1 refl) d.1)

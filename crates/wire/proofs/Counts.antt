@@ -15,7 +15,7 @@ use Rattle.account.specs.Claim.{terminal_message}
 use Rattle.account.specs.TurnClaim.{carried_by}
 use Rattle.account.proofs.Flags.{either}
 use Rattle.wire.specs.Messages.{any, ends_by}
-use Rattle.wire.specs.Heard.{Heard, Eof, Close, bytes_in, units_in, is_eof, is_close, is_unread, joined, count, told_by}
+use Rattle.wire.specs.Heard.{Heard, Eof, Exit, Close, bytes_in, units_in, is_eof, is_close, is_unread, joined, count, told_by}
 use Rattle.wire.specs.Channel.{exit_of, speaks}
 use Rattle.wire.specs.Claim.{credit_in, once}
 use Rattle.wire.proofs.Ends.{ends_all, OnceAt, Once}
@@ -23,29 +23,21 @@ use Rattle.wire.proofs.Order.{Final}
 
 -- ---- a message
 
+-- what holds of no status and of any holds of what is to be heard of it
+exit_by : (P : List Heard → Type 0) → P [] → ((s : Status) → P (Exit s ∷ [])) → (x : Option Status) → P (exit_of x)
+exit_by P none some None = none
+exit_by P none some (Some s) = some s
+
 pub bytes_told : (x : Stream) (e : Each Bool) (m : Message) → joined (bytes_in x) (speaks e m) ≡ carried_by x m
-bytes_told x e (Call.Credit n) = refl
-bytes_told x e Call.Started = refl
 bytes_told x e (Call.Output y b) = append-nil _
 bytes_told x e (Call.End y) = either (λ (hs : List Heard). joined (bytes_in x) hs ≡ []) (every (ends_by (Call.End y) e)) (Eof ∷ []) [] refl refl
-bytes_told x e Call.InputClosed = refl
-bytes_told x e (Call.Terminal o) = by o.status
-  where
-    by : (s : Option Status) → joined (bytes_in x) (exit_of s ++ (Close ∷ [])) ≡ []
-    by None = refl
-    by (Some s) = refl
+bytes_told x e (Call.Terminal o) = exit_by (λ hs. joined (bytes_in x) (hs ++ (Close ∷ [])) ≡ []) refl (λ s. refl) o.status
+bytes_told x e _ = refl
 
 pub units_told : (e : Each Bool) (m : Message) → joined units_in (speaks e m) ≡ credit_in m
-units_told e (Call.Credit n) = refl
-units_told e Call.Started = refl
-units_told e (Call.Output y b) = refl
 units_told e (Call.End y) = either (λ (hs : List Heard). joined units_in hs ≡ []) (every (ends_by (Call.End y) e)) (Eof ∷ []) [] refl refl
-units_told e Call.InputClosed = refl
-units_told e (Call.Terminal o) = by o.status
-  where
-    by : (s : Option Status) → joined units_in (exit_of s ++ (Close ∷ [])) ≡ []
-    by None = refl
-    by (Some s) = refl
+units_told e (Call.Terminal o) = exit_by (λ hs. joined units_in (hs ++ (Close ∷ [])) ≡ []) refl (λ s. refl) o.status
+units_told e _ = refl
 
 -- ---- how many
 
@@ -61,17 +53,10 @@ pub unread_none : (e : Each Bool) (ms : List Message) → count is_unread (told_
 unread_none e [] = refl
 unread_none e (m ∷ ms) = count_append is_unread (speaks e m) (told_by speaks (ends_by m e) ms) ∙ (let y = by m in let z = unread_none (ends_by m e) ms in omega arith)
   where
-    exit : (s : Option Status) → count is_unread (exit_of s ++ (Close ∷ [])) ≡ 0
-    exit None = refl
-    exit (Some s) = refl
-
     by : (m : Message) → count is_unread (speaks e m) ≡ 0
-    by (Call.Credit n) = refl
-    by Call.Started = refl
-    by (Call.Output y b) = refl
     by (Call.End y) = either (λ (hs : List Heard). count is_unread hs ≡ 0) (every (ends_by (Call.End y) e)) (Eof ∷ []) [] refl refl
-    by Call.InputClosed = refl
-    by (Call.Terminal o) = exit o.status
+    by (Call.Terminal o) = exit_by (λ hs. count is_unread (hs ++ (Close ∷ [])) ≡ 0) refl (λ s. refl) o.status
+    by _ = refl
 
 -- Terminal, which is the last, is one CLOSE
 pub closes_told : (e : Each Bool) (ms : List Message) → Final ms → count is_close (told_by speaks e ms) ≡ once (any terminal_message ms)
@@ -79,17 +64,10 @@ closes_told e [] f = refl
 closes_told e (m ∷ ms) f =
     count_append is_close (speaks e m) (told_by speaks (ends_by m e) ms) ∙ (let y = by m in let z = closes_told (ends_by m e) ms f.1 in let w = all (terminal_message m) f.0 in omega arith)
   where
-    exit : (s : Option Status) → count is_close (exit_of s ++ (Close ∷ [])) ≡ 1
-    exit None = refl
-    exit (Some s) = refl
-
     by : (m : Message) → count is_close (speaks e m) ≡ once (terminal_message m)
-    by (Call.Credit n) = refl
-    by Call.Started = refl
-    by (Call.Output y b) = refl
     by (Call.End y) = either (λ (hs : List Heard). count is_close hs ≡ 0) (every (ends_by (Call.End y) e)) (Eof ∷ []) [] refl refl
-    by Call.InputClosed = refl
-    by (Call.Terminal o) = exit o.status
+    by (Call.Terminal o) = exit_by (λ hs. count is_close (hs ++ (Close ∷ [])) ≡ 1) refl (λ s. refl) o.status
+    by _ = refl
 
     all : (b : Bool) → (b ≡ true → ms ≡ []) → once b + once (any terminal_message ms) ≡ once (b || any terminal_message ms)
     all true g = ap (λ (ns : List Message). 1 + once (any terminal_message ns)) (g refl)
@@ -107,23 +85,19 @@ pub eofs_told : (ms : List Message) (e : Each Bool) → Once e ms → count is_e
 eofs_told [] e f = omega arith
 eofs_told (m ∷ ms) e f = by m f.0 (eofs_told ms (ends_by m e) f.1)
   where
-    exit : (s : Option Status) → count is_eof (exit_of s ++ (Close ∷ [])) ≡ 0
-    exit None = refl
-    exit (Some s) = refl
-
     one_eof : (b : Bool) → count is_eof (cond b (Eof ∷ []) []) ≡ once b
     one_eof true = refl
     one_eof false = refl
 
     by : (m : Message) → OnceAt e m → count is_eof (told_by speaks (ends_by m e) ms) + once (every (ends_by m e)) ≡ once (every (ends_all ms (ends_by m e)))
         → count is_eof (speaks e m ++ told_by speaks (ends_by m e) ms) + once (every e) ≡ once (every (ends_all ms (ends_by m e)))
-    by (Call.Credit n) f h = h
-    by Call.Started f h = h
-    by (Call.Output y b) f h = h
     by (Call.End y) f h =
         let a = count_append is_eof (speaks e (Call.End y)) (told_by speaks (ends_by (Call.End y) e) ms) in
         let b = one_eof (every (ends_by (Call.End y) e)) in
         let c : once (every e) ≡ 0 = ap once (not_every y e f) in
         omega arith
-    by Call.InputClosed f h = h
-    by (Call.Terminal o) f h = (let a = count_append is_eof (exit_of o.status ++ (Close ∷ [])) (told_by speaks e ms) in let b = exit o.status in omega arith)
+    by (Call.Terminal o) f h =
+        let a = count_append is_eof (exit_of o.status ++ (Close ∷ [])) (told_by speaks e ms) in
+        let b = exit_by (λ hs. count is_eof (hs ++ (Close ∷ [])) ≡ 0) refl (λ s. refl) o.status in
+        omega arith
+    by _ f h = h

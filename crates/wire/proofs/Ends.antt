@@ -1,5 +1,5 @@
 -- Which ends were told: each once, and no message of a stream comes after its End.
-use mathlib.Core.Bool.{Bool, true, false, cond, not, ◌&&◌, ◌||◌, or_assoc, true≢false, false≢true}
+use mathlib.Core.Bool.{Bool, true, false, cond, not, ◌&&◌, ◌||◌, or_assoc, true≢false}
 use mathlib.Core.Path.{◌≡◌, refl, sym, ap, ◌∙◌, subst, subst⁻¹}
 use mathlib.Core.List.{List, [], ◌∷◌, ◌++◌}
 use Prim.Native.Nat.{ℕ, min}
@@ -15,7 +15,7 @@ use Rattle.exec.specs.Stream.{stream_at, following, same_stream}
 use Rattle.choice.specs.declared.Choice.{Choice}
 use Rattle.choice.specs.Order.{if_else, order}
 use Rattle.output.specs.declared.Output.{Output}
-use Rattle.output.specs.Output.{is_done, ended_out, sent_out, keeps}
+use Rattle.output.specs.Output.{is_done, ended_out, sent_out}
 use Rattle.runner.specs.declared.runner.Runner.{Runner}
 use Rattle.runner.specs.Life.{awaits_launch}
 use Rattle.runner.specs.Message.{sendable_of, untold, choose, output_paid, output_sent, effect}
@@ -27,10 +27,13 @@ use Rattle.account.specs.Step.{State}
 use Rattle.account.specs.Claim.{is_message}
 use Rattle.account.proofs.Plain.{said, next, answer}
 use Rattle.account.proofs.Finish.{Kind, quiet, speaks, kind}
-use Rattle.account.proofs.Flags.{and_l, and_r, or_left}
+use Rattle.std.proofs.lemmas.Bool.{or_left}
+use Rattle.ring.specs.Flags.{and_l, and_r}
+use Rattle.std.proofs.Math.Bool.{or-false}
+use Rattle.account.proofs.Phase.{intake_none}
 use Rattle.account.proofs.Sides.{one_per, per_same, apart, on_out, per_put, one_on, on_same}
 use Rattle.wire.specs.Messages.{said_in, is_end, is_of, any, ends_by}
-use Rattle.wire.proofs.Outs.{All, Stands, quiet_keeps}
+use Rattle.account.proofs.Outs.{All, Stands, quiet_keeps}
 
 -- ---- a stream whose End was told is closed, with nothing queued
 
@@ -44,35 +47,27 @@ Muted r = All Mute r
 abbrev pub ends : Runner → Each Bool
 ends r = per (λ (x : Stream). (out_of x r).ended)
 
-keeps_none : (c g d : Bool) (k n : ℕ) → c ≡ true → keeps (c || g) d k n ≡ 0
-keeps_none true g d k n e = refl
-keeps_none false g d k n e = absurd (false≢true e)
-
 -- a call that says no message tells no End
 still : (e : Each Bool) → Stands (λ (x : Stream) (o : Output). (o.ended ≡ one x e) × Mute x o)
 still e = record {
   grace = λ x o p. (p.0, λ t. ((p.1 t).0, refl));
-  given = λ x o p. (p.0, λ t. (refl, refl));
+  gives = λ x o p. (p.0, λ t. (refl, refl));
   abandons = λ x o p. (p.0, λ t. (or_left o.closed (not o.hung_up) (p.1 t).0, (p.1 t).1));
   asked = λ x o p. p;
   closes = λ x o p. (p.0, λ t. (refl, (p.1 t).1));
   fails = λ x o p. (p.0, λ t. (refl, (p.1 t).1));
   hangs = λ x o p. p;
   loses = λ x b o p. p;
-  takes = λ x g d k n o p. (p.0, λ t. ((p.1 t).0, (let z = (p.1 t).1 in let y = keeps_none o.closed g d k n (p.1 t).0 in omega arith)));
+  takes = λ x g d k n o p. (p.0, λ t. ((p.1 t).0, (let z = (p.1 t).1 in let y = intake_none o.closed g d k n (or_left o.closed d (p.1 t).0) in omega arith)));
 }
 
 -- ---- what is chosen
 
 -- a stream's End while it is done and its End not told, its bytes while its End is not told
 Fresh : Runner → Choice → Type 0
-Fresh r Choice.None = Unit
-Fresh r Choice.Credit = Unit
-Fresh r Choice.Started = Unit
-Fresh r Choice.InputClosed = Unit
 Fresh r (Choice.End x) = ((out_of x r).ended ≡ false) × (is_done (out_of x r) ≡ true)
 Fresh r (Choice.Output x n) = (out_of x r).ended ≡ false
-Fresh r Choice.Terminal = Unit
+Fresh r _ = Unit
 
 either : (P : Choice → Type 0) (b : Bool) (x y : Choice) → (b ≡ true → P x) → P y → P (if_else b x y)
 unfolding if_else
@@ -121,12 +116,8 @@ ends_all (m ∷ ms) e = ends_all ms (ends_by m e)
 
 -- an End is told of a stream whose End was not
 abbrev pub OnceAt : Each Bool → Message → Type 0
-OnceAt e (Call.Credit n) = Unit
-OnceAt e Call.Started = Unit
-OnceAt e (Call.Output x b) = Unit
 OnceAt e (Call.End x) = one x e ≡ false
-OnceAt e Call.InputClosed = Unit
-OnceAt e (Call.Terminal o) = Unit
+OnceAt e _ = Unit
 
 abbrev pub Once : Each Bool → List Message → Type 0
 Once e [] = Unit
@@ -154,9 +145,6 @@ other y x r f t = rw (apart y x (ends r) (at y r ∙ f) (at x r ∙ t)) refl
 effect_tells : (m : Choice) (r : Runner) (store : List ℕ) → Fresh r m → Muted r → Tells r (effect m r) (said_in (said m r store))
 unfolding Fresh said effect output_sent output_paid
 effect_tells Choice.None r store f h = record { told = refl; once = tt; muted = h; silent = λ x e. refl }
-effect_tells Choice.Credit r store f h = record { told = refl; once = (tt, tt); muted = h; silent = λ x e. refl }
-effect_tells Choice.Started r store f h = record { told = refl; once = (tt, tt); muted = h; silent = λ x e. refl }
-effect_tells Choice.InputClosed r store f h = record { told = refl; once = (tt, tt); muted = h; silent = λ x e. refl }
 effect_tells (Choice.End y) r store f h = record {
   told = per_put (λ (o : Output). o.ended) y (ended_out (out_of y r)) r.outputs;
   once = (at y r ∙ f.0, tt);
@@ -170,7 +158,7 @@ effect_tells (Choice.Output y n) r store f h = record {
   muted = on_out Mute y (sent_out r.limits.chunk n (out_of y r)) r.outputs (λ e. ((h y e).0, (let z = (h y e).1 in omega arith))) (λ x d. h x);
   silent = λ x e. other y x r f e;
 }
-effect_tells Choice.Terminal r store f h = record { told = refl; once = (tt, tt); muted = h; silent = λ x e. refl }
+effect_tells _ r store f h = record { told = refl; once = (tt, tt); muted = h; silent = λ x e. refl }
 
 -- an answer says nothing, or one message
 pub data Speech : Answer → Type 0 where
@@ -178,21 +166,8 @@ pub data Speech : Answer → Type 0 where
   some : (m : Message) → Speech (Call.Says m)
 
 pub speech : (a : Answer) → Speech a
-speech Call.Ok = none refl refl
-speech Call.Applied = none refl refl
-speech Call.Stale = none refl refl
-speech Call.Late = none refl refl
-speech (Call.Refused n) = none refl refl
-speech (Call.Taken n) = none refl refl
-speech (Call.Pending b) = none refl refl
-speech (Call.Value n) = none refl refl
-speech (Call.Time d) = none refl refl
-speech (Call.Truth b) = none refl refl
-speech (Call.Asks r) = none refl refl
 speech (Call.Says m) = some m
-speech (Call.IsKey k) = none refl refl
-speech (Call.AreLimits l) = none refl refl
-speech Call.Nothing = none refl refl
+speech _ = none refl refl
 
 pub unsaid : (a : Answer) → is_message a ≡ false → said_in a ≡ []
 unsaid a q = by a (speech a) q
@@ -224,11 +199,7 @@ call_tells c s h = go c (kind c s)
 
 -- a stream's End was told before, or is among them
 pub ends_so : (ms : List Message) (e : Each Bool) (x : Stream) → one x (ends_all ms e) ≡ (one x e || any (is_end x) ms)
-ends_so [] e x = sym (or_none (one x e))
-  where
-    or_none : (a : Bool) → (a || false) ≡ a
-    or_none true = refl
-    or_none false = refl
+ends_so [] e x = sym (or-false (one x e))
 ends_so (m ∷ ms) e x = ends_so ms (ends_by m e) x ∙ by m
   where
     told : (a b c : Bool) → (cond a true b || c) ≡ (b || (a || c))
@@ -237,12 +208,8 @@ ends_so (m ∷ ms) e x = ends_so ms (ends_by m e) x ∙ by m
     told false b c = refl
 
     by : (m : Message) → (one x (ends_by m e) || any (is_end x) ms) ≡ (one x e || (is_end x m || any (is_end x) ms))
-    by (Call.Credit n) = refl
-    by Call.Started = refl
-    by (Call.Output y b) = refl
     by (Call.End y) = ap (λ (b : Bool). b || any (is_end x) ms) (one_on y true e x) ∙ told (same_stream y x) (one x e) (any (is_end x) ms)
-    by Call.InputClosed = refl
-    by (Call.Terminal o) = refl
+    by _ = refl
 
 pub ends_append : (ms ns : List Message) (e : Each Bool) → ends_all (ms ++ ns) e ≡ ends_all ns (ends_all ms e)
 ends_append [] ns e = refl

@@ -11,7 +11,8 @@ use Rattle.calls.specs.Call.{Conf, Answer, Message}
 use Rattle.account.specs.Step.{State}
 use Rattle.account.specs.Records.{Entry, EntryDone, next_entry, answer_entry, after_entries}
 use Rattle.account.specs.TurnClaim.{carried_by, carried, sent_in}
-use Rattle.account.proofs.Flags.{or_false_l, or_false_r}
+use Rattle.std.proofs.lemmas.Bool.{or_parts}
+use Rattle.std.proofs.lemmas.List.{map-append}
 use Rattle.account.proofs.Records.{Good, good_entry}
 use Rattle.account.proofs.Tells.{quiet_carries}
 use Rattle.wire.specs.Messages.{said_in, said_by, said_from, is_of, any, ends_by}
@@ -20,10 +21,6 @@ use Rattle.wire.proofs.Ends.{Muted, ends, ends_all, Speech, none, some, speech}
 use Rattle.wire.proofs.Order.{entry_tells}
 
 -- ---- lists
-
-pub map_append : {A B : Type 0} (f : A → B) (l k : List A) → map f (l ++ k) ≡ map f l ++ map f k
-map_append f [] k = refl
-map_append {B = B} f (x ∷ l) k = ap (λ (r : List B). f x ∷ r) (map_append f l k)
 
 pub joined_append : {A B : Type 0} (f : A → List B) (l k : List A) → joined f (l ++ k) ≡ joined f l ++ joined f k
 joined_append f [] k = refl
@@ -63,7 +60,7 @@ module _ (speaks : Each Bool → Message → List Heard) where
   list_heard conf on_wire hear Of step (e ∷ es) s g v l =
       let k = (entry_tells conf e s g v).0 in
       let ms : List Message = said_in (answer_entry s e) in
-      map_append hear (on_wire s e) (wire on_wire (next_entry s e) es)
+      map-append hear (on_wire s e) (wire on_wire (next_entry s e) es)
       ∙ ap (λ (hs : List Heard). hs ++ map hear (wire on_wire (next_entry s e) es)) (step e s g v l.0)
       ∙ ap (λ (hs : List Heard). told_by speaks (ends s.runner) ms ++ hs)
       (list_heard conf on_wire hear Of step es (next_entry s e) (good_entry conf e s g) k.muted l.1 ∙ ap (λ (x : Each Bool). told_by speaks x (said_from (next_entry s e) es)) k.told)
@@ -88,15 +85,11 @@ sent_said x (d ∷ ds) =
 pub none_carried : (x : Stream) (ms : List Message) → any (is_of x) ms ≡ false → joined (carried_by x) ms ≡ []
 none_carried x [] e = refl
 none_carried x (m ∷ ms) e =
-    ap (λ (b : List ℕ). b ++ joined (carried_by x) ms) (by m (or_false_l (is_of x m) (any (is_of x) ms) e)) ∙ none_carried x ms (or_false_r (is_of x m) (any (is_of x) ms) e)
+    ap (λ (b : List ℕ). b ++ joined (carried_by x) ms) (by m (or_parts (is_of x m) (any (is_of x) ms) e).0) ∙ none_carried x ms (or_parts (is_of x m) (any (is_of x) ms) e).1
   where
     by : (m : Message) → is_of x m ≡ false → carried_by x m ≡ []
-    by (Call.Credit n) e = refl
-    by Call.Started e = refl
     by (Call.Output y b) e = rw e refl
-    by (Call.End y) e = refl
-    by Call.InputClosed e = refl
-    by (Call.Terminal o) e = refl
+    by _ e = refl
 
 pub said_append : (xs ys : List Entry) (s : State) → said_from s (xs ++ ys) ≡ said_from s xs ++ said_from (after_entries s xs) ys
 said_append [] ys s = refl

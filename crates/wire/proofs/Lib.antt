@@ -1,5 +1,4 @@
 -- What a peer can know, file by file.
-pub mod Outs
 pub mod Ends
 pub mod Order
 pub mod Follows

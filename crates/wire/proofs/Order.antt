@@ -1,6 +1,8 @@
 -- The order that the messages of every list keep: an End once, and nothing of its stream after it; nothing after Terminal.
 use Rattle.std.specs.Prelude.{Option, Some, None}
-use mathlib.Core.Bool.{Bool, true, false, ◌||◌, true≢false, false≢true}
+use Rattle.std.proofs.Math.Bool.{or-false}
+use Rattle.std.proofs.lemmas.Bool.{or_right}
+use mathlib.Core.Bool.{or-true, Bool, true, false, ◌||◌, true≢false, false≢true}
 use mathlib.Core.Path.{◌≡◌, refl, sym, ap, ◌∙◌, subst⁻¹}
 use mathlib.Core.List.{List, [], ◌∷◌, ◌++◌}
 use Prim.Native.Nat.{ℕ}
@@ -39,16 +41,12 @@ pub record Finishes (r t : Runner) (ms : List Message) : Type 0 where
   pub ended : any terminal_message ms ≡ true → t.flags.finished ≡ true
   pub final : Final ms
 
-or_none : (a : Bool) → (a || false) ≡ true → a ≡ true
-or_none true e = refl
-or_none false e = e
-
 said_terminal : (a : Answer) → any terminal_message (said_in a) ≡ true → is_terminal a ≡ true
 said_terminal a h = by a (speech a) h
   where
     by : (a : Answer) → Speech a → any terminal_message (said_in a) ≡ true → is_terminal a ≡ true
     by a (Ends.none e n) h = absurd (false≢true (sym (ap (any terminal_message) e) ∙ h))
-    by a (Ends.some m) h = or_none (terminal_message m) h
+    by a (Ends.some m) h = sym (or-false (terminal_message m)) ∙ h
 
 one_final : (a : Answer) → Final (said_in a)
 one_final a = by a (speech a)
@@ -66,12 +64,8 @@ call_finishes c s = record {
 
 final_append : (ms ns : List Message) → Final ms → (any terminal_message ms ≡ true → ns ≡ []) → Final ns → Final (ms ++ ns)
 final_append [] ns p q h = h
-final_append (m ∷ ms) ns p q h = (by (terminal_message m) refl, final_append ms ns p.1 (λ e. q (or_right (terminal_message m) e)) h)
+final_append (m ∷ ms) ns p q h = (by (terminal_message m) refl, final_append ms ns p.1 (λ e. q (or_right (terminal_message m) (any terminal_message ms) e)) h)
   where
-    or_right : (a : Bool) → any terminal_message ms ≡ true → (a || any terminal_message ms) ≡ true
-    or_right true e = refl
-    or_right false e = e
-
     by : (b : Bool) → terminal_message m ≡ b → terminal_message m ≡ true → ms ++ ns ≡ []
     by true e d = rw (p.0 e, q (ap (λ (a : Bool). a || any terminal_message ms) e)) refl
     by false e d = absurd (true≢false (sym d ∙ e))
@@ -143,10 +137,6 @@ module _ (conf : Conf) (now : ℕ) (bytes lengths : List ℕ) (op : Opens conf n
   -- THE ORDER
   pub ordered : Ordered conf now bytes lengths
   ordered = record {
-    ended = λ es ds x e. (behind es ds).0.silent x (ended_at es x ∙ rw e (or_true (one x no_ends)));
+    ended = λ es ds x e. (behind es ds).0.silent x (ended_at es x ∙ rw e (or-true (one x no_ends)));
     over = λ es ds e. ((behind es ds).1.over ((from_open es).1.ended e)).0;
   }
-    where
-      or_true : (a : Bool) → (a || true) ≡ true
-      or_true true = refl
-      or_true false = refl

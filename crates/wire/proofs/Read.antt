@@ -6,13 +6,13 @@ use mathlib.Core.List.{List, [], ◌∷◌, ◌++◌, append-nil}
 use Prim.Native.Nat.{ℕ, ◌+◌, ◌-◌, ◌^◌, ◌≤◌, ◌<◌}
 use native.Mathlib.Omega.{arith}
 use lib.Dec.{eqb}
-use lib.IntN.{pos, negsuc}
+use lib.IntN.{negsuc}
 use lib.ListN.{length, take, drop, get_or, length-append}
 use lib.Seq.{take_at}
 use borrow.Author.Tests.{leb-true, eq-eqb, ne_eqb}
 use Rattle.exec.specs.declared.Limits.{Limits}
 use Rattle.exec.specs.declared.Status.{Status}
-use Rattle.exec.specs.declared.Status.TheVariants.{Exited, Signaled}
+use Rattle.exec.specs.declared.Status.TheVariants.{Exited}
 use Rattle.exec.specs.declared.Stream.{Stream}
 use Rattle.exec.specs.declared.Stream.TheVariants.{Stdout, Stderr}
 use Rattle.exec.specs.declared.Unit as Units
@@ -41,7 +41,7 @@ use Rattle.exits.specs.Exit.{request, is_told, is_untold, ending}
 use Rattle.exits.specs.RoundTrip.{Tells, forth}
 use Rattle.exits.proofs.Ended.{ended_reads}
 use Rattle.channel.specs.Calls.{WriteAfter, wrote, wrote_buffer, sent_as, sent_buffer, part_back, has_ended, asked, told, is_left}
-use Rattle.channel.specs.Ended.{Writes, elsewhere, short, left, taken, tells}
+use Rattle.channel.specs.Ended.{Writes, taken, tells}
 use Rattle.channel.proofs.Ended.{writes}
 use Rattle.calls.specs.Call as Call
 use Rattle.calls.specs.Call.{Answer}
@@ -58,7 +58,7 @@ use Rattle.wire.specs.Messages.{said_in}
 use Rattle.wire.specs.Heard.{Heard, Window, Bytes, Eof, Exit, Close, told_by}
 use Rattle.wire.specs.Channel.{packet, written, on_wire, hear, heard, exit_of, speaks}
 use Rattle.wire.specs.Claim.{OfChannel}
-use Rattle.wire.proofs.Follows.{map_append}
+use Rattle.std.proofs.lemmas.List.{map-append}
 use Rattle.wire.proofs.Ends.{Muted, ends, at, end_untold}
 
 -- ---- one record
@@ -83,8 +83,7 @@ module _ (channel : ℕ) where
   by_kind (Record.Data n) b e h = rw (h.kind.0, e, h.kind.0, mine b h, eq-eqb (number_at b 5) (length b - 9) (omega (arith, h.whole, h.kind.1))) refl
   by_kind (Record.Extended n) b e h =
       rw (h.kind.0, e, h.kind.0, mine b h, h.typed, eq-eqb (number_at b 9) (length b - 13) (omega (arith, h.whole, h.kind.1))) refl
-  by_kind Record.Eof b e h = rw (h.kind, e, h.kind, mine b h) refl
-  by_kind Record.Close b e h = rw (h.kind, e, h.kind, mine b h) refl
+  by_kind _ b e h = rw (h.kind, e, h.kind, mine b h) refl
 
   record_heard : (rec : Record) (b : List ℕ) → Codec.read channel b ≡ Ok rec → heard channel (packet b) ≡ as_heard rec b ∷ []
   record_heard rec b e =
@@ -94,9 +93,8 @@ module _ (channel : ℕ) where
   -- a request begins with 98
   first_98 : (x : Status) → is_told x ≡ true → (get_or (request channel x) 0 0 ≡ 98) × (0 < length (request channel x))
   unfolding request is_told
-  first_98 (Exited (pos code)) t = (refl, omega arith)
   first_98 (Exited (negsuc n)) t = absurd (false≢true t)
-  first_98 (Signaled n) t = (refl, omega arith)
+  first_98 _ t = (refl, omega arith)
 
   request_heard : (x : Status) (b : List ℕ) → Exits.read channel b ≡ Ok x → heard channel (packet b) ≡ Exit x ∷ []
   request_heard x b e =
@@ -116,7 +114,7 @@ module _ (channel : ℕ) where
         ≡ (exit_of x ++ (Close ∷ [])) ++ []
     ending_heard x rest u =
         let q = ended_reads channel x rest known u in
-        map_append (hear channel) (packet (take (length (ending channel x) - 5) (ending channel x ++ rest))) _
+        map-append (hear channel) (packet (take (length (ending channel x) - 5) (ending channel x ++ rest))) _
         ∙ ap (λ (hs : List Heard). hs ++ heard channel (packet (take 5 (drop (length (ending channel x) - 5) (ending channel x ++ rest))))) (exit_heard x _ q.0)
         ∙ ap (λ (hs : List Heard). exit_of x ++ hs) (record_heard Record.Close _ q.1)
         ∙ sym (append-nil (exit_of x ++ (Close ∷ [])))
@@ -152,9 +150,6 @@ module _ (channel : ℕ) where
         → heard channel (written (wrote channel ended (said_for m r)) (wrote_buffer channel ended (said_for m r) (part_back k buffer (buffer_after m r store part))))
         ≡ told_by speaks e (said_in (said m r store))
     unfolding said_for buffer_after wrote wrote_buffer sent_as sent_buffer is_left said
-    choice_heard Choice.None r store part buffer k ended e h small l last u = refl
-    choice_heard Choice.Started r store part buffer k ended e h small l last u = refl
-    choice_heard Choice.InputClosed r store part buffer k ended e h small l last u = refl
     choice_heard Choice.Credit r store part buffer k ended e h small l last u =
         laid_heard (Record.Adjust r.input.window.returnable) (part_back k buffer part) (part_long k buffer part 0 h (omega arith)) small
     choice_heard (Choice.End x) r store part buffer k false e h small l last u = ap (λ (b : Bool). cond b (Eof ∷ []) [] ++ []) (last x refl)
@@ -166,6 +161,7 @@ module _ (channel : ℕ) where
     choice_heard (Choice.Output Stderr n) r store part buffer k ended e h small l last u =
         output_heard (Record.Extended n) k buffer (payload r Stderr n store) part h (l Stderr n refl).0 (l Stderr n refl).1 (Bytes Stderr) (λ b. refl)
     choice_heard Choice.Terminal r store part buffer k ended e h small l last u = ending_heard (outcome_of r).status _ u
+    choice_heard _ r store part buffer k ended e h small l last u = refl
 
 -- ---- at a state that came from open
 
@@ -199,15 +195,13 @@ module _ (s : State) (f : Fine s) (v : Muted s.runner) (channel : ℕ) (o : OfCh
   spoken h = (told_does s channel buffer good h).1 ∙ answer_same s (Call.next_message part) f
 
   written_heard : (met : Bool) (w : WriteAfter) → Writes s.runner channel s.bytes buffer met w
-      → heard channel (written w.writing.wrote w.buffer) ≡ told_by speaks (ends s.runner) (said_in (answers w))
+      → heard channel (written w.writing.answer w.buffer) ≡ told_by speaks (ends s.runner) (said_in (answers w))
   unfolding told asked Calls.next_message
-  written_heard met w (elsewhere x) = refl
-  written_heard met w (short x y) = refl
-  written_heard met w (left u) = refl
   written_heard met w (taken u h) =
       rw good (choice_heard channel o.number (choose s.runner (length part)) s.runner s.bytes part buffer s.runner.limits.chunk (has_ended s.runner) (ends s.runner) (omega (arith, h)) small fitting
       (λ x c. last_of x (ends s.runner) (at x s.runner ∙ end_untold (length part) s.runner x v c)) (rw good at u))
       ∙ ap (λ (a : Answer). told_by speaks (ends s.runner) (said_in a)) (sym (spoken (omega (arith, h))))
+  written_heard met w _ = refl
 
   -- A RECORD THAT IS WRITTEN IS HEARD AS ITS MESSAGE
   pub record_told : heard channel (on_wire s (write_record channel buffer)) ≡ told_by speaks (ends s.runner) (said_in (answer_entry s (write_record channel buffer)))

@@ -53,10 +53,7 @@ quiet_call c s e = by c (kind c s) e
 -- a record that is read says nothing
 read_unsaid : (a : Result (Option Receipt) Refusal) → said_in (read_as a) ≡ []
 read_unsaid (Ok (Some Receipt.Applied)) = refl
-read_unsaid (Ok (Some Receipt.Stale)) = refl
-read_unsaid (Ok (Some Receipt.Late)) = refl
-read_unsaid (Ok None) = refl
-read_unsaid (Err x) = refl
+read_unsaid _ = refl
 
 module _ (conf : Conf) (channel : ℕ) (o : OfChannel conf channel) where
   entry_heard : (e : Entry) (s : State) → Good conf s → Muted s.runner → Lone channel e
@@ -73,20 +70,15 @@ module _ (conf : Conf) (channel : ℕ) (o : OfChannel conf channel) where
 
 unsent : (w : Result (Option (Messages × ℕ)) Refusal) (b : List ℕ) → is_message (wrote_as w b) ≡ false → written w b ≡ []
 unsent (Ok None) b e = refl
-unsent (Ok (Some (Messages.Credit n, k))) b e = absurd (true≢false e)
-unsent (Ok (Some (Messages.Started, k))) b e = absurd (true≢false e)
-unsent (Ok (Some (Messages.Output x n, k))) b e = absurd (true≢false e)
-unsent (Ok (Some (Messages.End x, k))) b e = absurd (true≢false e)
-unsent (Ok (Some (Messages.InputClosed, k))) b e = absurd (true≢false e)
-unsent (Ok (Some (Messages.Terminal o, k))) b e = absurd (true≢false e)
 unsent (Err x) b e = refl
+unsent (Ok (Some (Messages.Credit n, k))) b e = absurd (true≢false e)
+unsent _ b e = absurd (true≢false e)
 
 unwired : (e : Entry) (s : State) → is_message (answer_entry s e) ≡ false → on_wire s e ≡ []
 unfolding answer_entry on_wire
-unwired (call c) s h = refl
-unwired (read_record now channel b) s h = refl
 unwired (write_record channel buffer) s h =
-    unsent (Channel.write_record s.runner channel s.bytes buffer).writing.wrote (Channel.write_record s.runner channel s.bytes buffer).buffer h
+    unsent (Channel.write_record s.runner channel s.bytes buffer).writing.answer (Channel.write_record s.runner channel s.bytes buffer).buffer h
+unwired _ s h = refl
 
 silent_wire : (es : List Entry) (s : State) → SilentIn (run_entries s es) → wire on_wire s es ≡ []
 silent_wire [] s h = refl

@@ -43,7 +43,7 @@ unfoldable pub on_wire : State → Entry → List (List ℕ)
 on_wire s (call c) = []
 on_wire s (read_record now channel b) = []
 on_wire s (write_record channel buffer) =
-    written (Channel.write_record s.runner channel s.bytes buffer).writing.wrote (Channel.write_record s.runner channel s.bytes buffer).buffer
+    written (Channel.write_record s.runner channel s.bytes buffer).writing.answer (Channel.write_record s.runner channel s.bytes buffer).buffer
 
 -- ---- what its peer hears
 
