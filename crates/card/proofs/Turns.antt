@@ -9,7 +9,7 @@ use Prim.Native.Nat.{ℕ, ◌+◌, ◌-◌, ◌≤◌, ◌<◌}
 use native.Mathlib.Omega.{arith}
 use lib.ListN.{length, take, drop, length-drop}
 use native.Mathlib.Nat.{zero-add, sub-zero}
-use lib.Seq.{length-take-le, take-add, drop-drop}
+use lib.Seq.{take_all, length-take-le, take-add, drop-drop}
 use Rattle.ring.specs.Runs.{copied_zero}
 use Rattle.card.specs.declared.feed.Card.{Card}
 use Rattle.standing.specs.declared.Standing.{Standing}
@@ -89,14 +89,18 @@ feeds_line c x r y at to h l =
 
 -- ---- a turn
 
+-- what is left of a piece, as a part of it
+pub rest_is : (piece : List ℕ) (used : ℕ) → take (length piece - used) (drop used piece) ≡ drop used piece
+rest_is piece used = take_all (length piece - used) (drop used piece) (omega (arith, length-drop used piece))
+
 -- the line area with other bytes
 abbrev pub with_line : Lent → List ℕ → Lent
 with_line x line = record { line = line; stores = x.stores; out = x.out }
 
 -- the bytes of the line are held first
-module _ (piece : List ℕ) (t : Turn) (before : Lent) (c : Card) (line : List ℕ) (end : ℕ) (few : t.card.held ≤ 65536) (size : length before.line ≡ 65536)
-    (e : end ≡ t.used + line_length (drop t.used piece)) (from : t.used ≤ length piece) (room : t.at ≤ length before.out)
-    (h : Holds (take (end - t.used) (drop t.used piece)) t.card before.line c line) (size' : length line ≡ 65536) where
+module _ (piece : List ℕ) (t : Turn) (before : Lent) (c : Card) (line : List ℕ) (n : ℕ) (few : t.card.held ≤ 65536) (size : length before.line ≡ 65536)
+    (e : n ≡ line_length (drop t.used piece)) (from : t.used ≤ length piece) (room : t.at ≤ length before.out)
+    (h : Holds (take n (drop t.used piece)) t.card before.line c line) (size' : length line ≡ 65536) where
   abbrev bs : List ℕ
   bs = drop t.used piece
 
@@ -106,8 +110,8 @@ module _ (piece : List ℕ) (t : Turn) (before : Lent) (c : Card) (line : List �
   abbrev mid : Lent
   mid = with_line before line
 
-  to_end : end - t.used ≡ line_length bs
-  to_end = omega arith
+  abbrev end : ℕ
+  end = t.used + n
 
   held_length : length (take t.card.held before.line) ≡ t.card.held
   held_length = length-take-le t.card.held before.line (omega arith)
@@ -117,10 +121,10 @@ module _ (piece : List ℕ) (t : Turn) (before : Lent) (c : Card) (line : List �
 
   held_session : session_of c mid ≡ hold_all s (take (line_length bs) bs)
   unfolding hold_all
-  held_session = rw (h.standing, h.lines, h.held, to_end) refl
+  held_session = rw (h.standing, h.lines, h.held, e) refl
 
   held_area : line ≡ laid s before.line (take (line_length bs) bs)
-  held_area = h.area ∙ sym (line_lays bs s before.line held_few size ∙ rw (held_length, to_end) refl)
+  held_area = h.area ∙ sym (line_lays bs s before.line held_few size ∙ rw (held_length, e) refl)
 
   held_fed : Feeds (take (line_length bs) bs) t.card before t.at c mid t.at
   held_fed =
@@ -136,8 +140,8 @@ module _ (piece : List ℕ) (t : Turn) (before : Lent) (c : Card) (line : List �
   go_stop : eaten s (length before.out - t.at) bs ≡ line_length bs → Goes piece t before (record { card = c; used = end; at = t.at; more = false }) mid
   go_stop n = record {
     k = line_length bs;
-    used = e;
-    most = omega (arith, index_most 10 bs, length-drop t.used piece);
+    used = ap (λ (k : ℕ). t.used + k) e;
+    most = omega (arith, e, index_most 10 bs, length-drop t.used piece);
     fed = held_fed;
     eats = n ∙ omega arith;
     further = λ q. absurd (true≢false (sym q));

@@ -4,7 +4,8 @@ use Rattle.card.specs.declared.feed.Card.{Card}
 use Rattle.printing.specs.Written.{Wrote}
 use Rattle.grammar.specs.Feed.{Session, line_ends}
 use Rattle.card.specs.Laying.{put}
-use Rattle.standing.specs.Standing.{Stores, stores, Place, place_of, stage_at, placed}
+use Rattle.standing.specs.declared.areas.Areas.{Areas}
+use Rattle.standing.specs.Standing.{Stores, stores, stores_in, Place, place_of, stage_at, placed}
 
 -- what is lent to a card: the line area, the runner's stores and the output area
 pub record Lent : Type 0 where
@@ -15,9 +16,9 @@ pub record Lent : Type 0 where
 abbrev pub lent : (line bytes lengths out : List ℕ) → Lent
 lent line bytes lengths out = record { line = line; stores = stores bytes lengths; out = out }
 
--- how long they are, with the area for work
-abbrev pub Areas : (line bytes lengths work : List ℕ) → Type 0
-Areas line bytes lengths work = (length line ≡ 65536) × (length bytes ≡ 65536) × (length lengths ≡ 1024) × (length work ≡ 65536)
+-- the same by the areas of a session
+abbrev pub lent_with : (line : List ℕ) → Areas → (out : List ℕ) → Lent
+lent_with line x out = record { line = line; stores = stores_in x; out = out }
 
 abbrev pub place_in : Card → Lent → Place
 place_in c x = place_of c.standing x.stores

@@ -4,7 +4,7 @@
 
 ghost use Rattle.std.specs.Prelude.{◌≤◌, ◌<◌, IfOk, length};
 
-use card::feed::Card;
+use feeder::Feeder;
 use std::io;
 use std::io::{Read, Write};
 
@@ -22,28 +22,20 @@ fn cut(text: &[u8]) -> (&[u8], &[u8])
 }
 
 // The cards of a text, one after the other. What stands behind the last line of dashes is a card too.
-fn answer_all<W: Write>(
-    text: &[u8],
-    line: &mut [u8],
-    store: &mut [u8],
-    lengths: &mut [u32],
-    out: &mut [u8],
-    to: &mut W,
-) -> io::Result<()> {
-    let mut card = Card::new();
+fn answer_all<W: Write>(text: &[u8], feeder: &mut Feeder, to: &mut W) -> io::Result<()> {
     let mut rest = text;
+    // (No `for`: a turn takes a line off the text, with its end.)
     while !rest.is_empty() {
         let (next, behind) = cut(rest);
         if next == END {
-            feeder::end(card, line, store, lengths, out, to)?;
+            feeder.end(to)?;
             to.write_all(END)?;
-            card = Card::new();
         } else {
-            card = feeder::feed(card, line, store, lengths, next, out, to)?.card;
+            feeder.feed(next, to)?;
         }
         rest = behind;
     }
-    feeder::end(card, line, store, lengths, out, to)
+    feeder.end(to)
 }
 
 // Reads up to the end of the input or of the area, and says how many bytes came.
@@ -51,6 +43,7 @@ fn fill<R: Read>(from: &mut R, area: &mut [u8]) -> io::Result<usize>
     ensures { IfOk result (λ n. n ≤ length area.new) }
 {
     let mut n = 0;
+    // A number of turns that no run uses up: a `loop` would owe a measure, and an input has none.
     for _ in 0..u64::MAX {
         let got = from.read(&mut area[n..])?;
         if got == 0 {
@@ -63,18 +56,6 @@ fn fill<R: Read>(from: &mut R, area: &mut [u8]) -> io::Result<usize>
 
 fn main(rt: HostRuntime) -> io::Result<()> {
     let mut text = [0u8; feeder::LARGE_AREA];
-    let mut line = [0u8; feeder::AREA];
-    let mut store = [0u8; feeder::AREA];
-    let mut lengths = [0u32; feeder::LENGTHS];
-    let mut out = [0u8; feeder::LARGE_AREA];
     let n = fill(&mut rt.stdin(), &mut text)?;
-    let mut to = io::writer(&rt);
-    answer_all(
-        &text[..n],
-        &mut line,
-        &mut store,
-        &mut lengths,
-        &mut out,
-        &mut to,
-    )
+    answer_all(&text[..n], &mut Feeder::new(), &mut io::writer(&rt))
 }

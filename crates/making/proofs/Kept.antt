@@ -10,7 +10,7 @@ use Rattle.exec.specs.declared.Stream.{Stream}
 use Rattle.exec.specs.Key.{admits}
 use Rattle.exec.specs.Limits.{output_pool}
 use Rattle.runner.specs.declared.runner.Runner.{Runner}
-use Rattle.runner.specs.Calls.{hearing, credit, stores_do, input_by, input, output_by, output, written_by, input_written, message_by, next_message}
+use Rattle.runner.specs.Calls.{calling, credit, stores_do, input_by, input, output_by, output, written_by, input_written, message_by, next_message}
 use Rattle.runner.specs.Message.{choose, effect, say, output_sent, output_paid}
 use Rattle.runner.specs.Range.{bytes_do, lengths_do, stop}
 use Rattle.runner.specs.State.{with_input, with_outputs, with_flow}
@@ -30,7 +30,7 @@ credit_kept r k p units = by (stop r true)
     answer : Result Receipt Refusal
     answer = credit_answer (admits r.key k) (output_pool r.limits.shared p) r units
 
-    by : (x : Result (Unit {0}) Refusal) → (hearing x answer next r).runner ≡ credit_moved r (hearing x answer next r).runner
+    by : (x : Result (Unit {0}) Refusal) → (calling x answer next r).runner ≡ credit_moved r (calling x answer next r).runner
     by (Ok tt) = refl
     by (Err x) = refl
 

@@ -16,7 +16,7 @@ use Rattle.inbox.specs.Inbox.{front, inbox_base}
 use Rattle.exec.specs.Limits.{input_bytes}
 use Rattle.input.specs.Input as Input
 use Rattle.runner.specs.Streams.{OutputAfter, InputAfter, pending_of}
-use Rattle.runner.specs.declared.answer.Saying.{Saying}
+use Rattle.runner.specs.declared.answer.After.{After}
 use Rattle.runner.specs.Message.{MessageAfter, message_after, said_for, choose, sendable_of}
 use Rattle.exec.specs.Limits.{pool_of}
 use Rattle.runner.specs.State.{out_of, credit_at}
@@ -49,13 +49,13 @@ Tells x bytes c a work = (lengths : List ℕ) → answer_is a work ≡ answer (s
 
 -- the same for a call that is lent stores, from what it leaves
 abbrev pub OutputMade : Runner → Answer → (bytes : List ℕ) → OutputAfter → Type 0
-OutputMade r a bytes x = (r ≡ x.taking.runner) × (bytes ≡ x.bytes) × AnswerIs a (λ w. took x.taking.taken)
+OutputMade r a bytes x = (r ≡ x.taking.runner) × (bytes ≡ x.bytes) × AnswerIs a (λ w. took x.taking.answer)
 
 abbrev pub InputMade : Runner → Answer → (bytes lengths : List ℕ) → InputAfter → Type 0
-InputMade r a bytes lengths x = (r ≡ x.hearing.runner) × (bytes ≡ x.bytes) × (lengths ≡ x.lengths) × AnswerIs a (λ w. received_as x.hearing.received)
+InputMade r a bytes lengths x = (r ≡ x.hearing.runner) × (bytes ≡ x.bytes) × (lengths ≡ x.lengths) × AnswerIs a (λ w. received_as x.hearing.answer)
 
 abbrev pub MessageMade : Runner → Answer → (work : List ℕ) → MessageAfter → Type 0
-MessageMade r a work x = (r ≡ x.saying.runner) × (answer_is a work ≡ says x.saying.said x.buffer)
+MessageMade r a work x = (r ≡ x.saying.runner) × (answer_is a work ≡ says x.saying.answer x.buffer)
 
 -- each of the timed calls has its time, and no question has one
 pub timed_time : (now : ℕ) (t : Timed) → time_of (timed_is now t) ≡ Some now
@@ -116,11 +116,11 @@ sends_fit : (r : Runner) (k : ℕ) (x : Stream) (n : ℕ) → Choice.Output x n 
 unfolding sendable_of
 sends_fit r k x n e = let c = chosen r k x n e in let m = min (min (out_of x r).queued r.limits.chunk) k in omega (arith, c.bytes, least r.limits.output.unit (credit_at (pool_of r.limits x) r.credits).available m)
 
-pub said_fits : (r : Runner) (store buffer : List ℕ) → Fits (next_message r store buffer).saying.said (length buffer)
+pub said_fits : (r : Runner) (store buffer : List ℕ) → Fits (next_message r store buffer).saying.answer (length buffer)
 unfolding next_message
 said_fits r store buffer = by (stop r (bytes_do r.limits store))
   where
-    by : (x : Result (Unit {0}) Refusal) → Fits (message_by x r store buffer).saying.said (length buffer)
+    by : (x : Result (Unit {0}) Refusal) → Fits (message_by x r store buffer).saying.answer (length buffer)
     by (Ok tt) = chosen_fits (choose r (length buffer)) r (length buffer) (λ x n e. sends_fit r (length buffer) x n e)
     by (Err x) = tt
 
@@ -144,17 +144,17 @@ pub cleared : (w v : List ℕ) (n : ℕ) → v ≡ zeros n ++ drop n w → take 
 cleared w v n h =
     let z : n - 0 ≡ n = omega arith in rw (h, z) (take_at (zeros n) (drop n w) n (zeros_length n))
 
-pub said_made : (r : Runner) (store : List ℕ) (n : ℕ) (x : Saying) (buffer rest : List ℕ) (a : Answer)
-    → message_after x buffer ≡ next_message r store (zeros n) → length buffer ≡ n → AnswerIs a (λ w. says x.said w)
+pub said_made : (r : Runner) (store : List ℕ) (n : ℕ) (x : After (Option Message)) (buffer rest : List ℕ) (a : Answer)
+    → message_after x buffer ≡ next_message r store (zeros n) → length buffer ≡ n → AnswerIs a (λ w. says x.answer w)
     → MessageMade x.runner a (buffer ++ rest) (next_message r store (zeros n))
 said_made r store n x buffer rest a e size h =
     let m = next_message r store (zeros n) in
-    let said = ap (λ (y : MessageAfter). y.saying.said) e in
+    let said = ap (λ (y : MessageAfter). y.saying.answer) e in
     let same = ap (λ (y : MessageAfter). y.buffer) e in
     let k : length buffer ≡ length (zeros n) = size ∙ sym (zeros_length n) in
-    let fits : Fits x.said (length buffer) = rw (said, k) (said_fits r store (zeros n)) in (
+    let fits : Fits x.answer (length buffer) = rw (said, k) (said_fits r store (zeros n)) in (
       ap (λ (y : MessageAfter). y.saying.runner) e,
-      h (buffer ++ rest) ∙ says_front x.said buffer rest fits ∙ ap (λ (y : MessageAfter). says y.saying.said y.buffer) e,
+      h (buffer ++ rest) ∙ says_front x.answer buffer rest fits ∙ ap (λ (y : MessageAfter). says y.saying.answer y.buffer) e,
     )
 
 -- ---- what waits

@@ -3,36 +3,35 @@
 
 ghost use Rattle.std.specs.Prelude.{◌≡◌, ℕ, List, [], ◌++◌, ◌≤◌, ◌<◌, length, take, drop};
 ghost use Rattle.calls.specs.Call as Calls;
-ghost use Rattle.account.specs.Step.{replied, received_as, asks, waits, answer};
+ghost use Rattle.account.specs.Step.{answered, waits, answer};
+ghost use Rattle.runner.specs.declared.answer.After.{After};
 ghost use Rattle.runner.specs.Calls as Runs;
 ghost use Rattle.syntax.specs.Lines.{zeros};
 ghost use Rattle.syntax.specs.Meaning.{timed_is, question_is, call_is};
 ghost use Rattle.answering.specs.Answering.{answer_is, AnswerIs};
 ghost use Rattle.making.specs.Making.{state_of, OutputMade, InputMade, MessageMade, Made, Moves, Tells};
 
-use answering::Answer;
-use exec::{Cause, Key, LaunchFailure, Pool, Settlement, Status, Stream};
-use ring::{copy_in, smaller};
-use runner::answer::{Hearing, Noting};
+use answering::{Answer, IntoAnswer};
+use exec::{Key, Pool, Stream};
+use ring::copy_in;
+use runner::answer::After;
 use runner::runner::Runner;
 use syntax::{Call, Question, Timed};
 
-fn noted(runner: &mut Runner, noting: Noting) -> Answer
-    ensures { (runner.new ≡ noting.runner) × AnswerIs result (λ w. replied noting.reply) }
+// A call that changes the runner, and its answer. Each stands alone (inline(never)), as do all below: as parts of `make` they would
+// all be set up for each call.
+#[inline(never)]
+fn told<T: IntoAnswer, F: FnOnce(Runner) -> After<T>>(runner: &mut Runner, call: F) -> Answer
+    requires { F.IsAlwaysCallable call }
+    ensures { (after : After T) × F.post call runner.old after × (runner.new ≡ after.runner) × AnswerIs result (λ w. answered (λ x. T.told x w) after.answer) }
 {
-    *runner = noting.runner;
-    noting.reply.into()
+    let after = call(*runner);
+    *runner = after.runner;
+    after.answer.into()
 }
 
-fn heard(runner: &mut Runner, hearing: Hearing) -> Answer
-    ensures { (runner.new ≡ hearing.runner) × AnswerIs result (λ w. received_as hearing.received) }
-{
-    *runner = hearing.runner;
-    hearing.received.into()
-}
-
-// ---- the calls that change the runner. Each stands alone (inline(never)): as parts of `make` they would all be set up for each call.
-// Of what a call that moves bytes or credit hands back only the parts that it can move are taken over, so that the rest is not copied.
+// ---- the calls that move bytes or credit. Of what they hand back only the parts that they can move are taken over, so that the rest
+// is not copied.
 
 #[tactic(auto, unfolding(account::specs::Step::next, account::specs::Step::answer), using(crate::proofs::Kept::credit_kept))]
 #[inline(never)]
@@ -43,7 +42,7 @@ fn credit(runner: &mut Runner, key: Key, pool: Pool, units: u32) -> Answer
     let next = hearing.runner;
     let credits = next.credits;
     runner.credits = credits;
-    hearing.received.into()
+    hearing.answer.into()
 }
 
 #[inline(never)]
@@ -57,88 +56,25 @@ fn input(
 ) -> Answer
     ensures { InputMade runner.new result store.new lengths.new (Runs.input runner.old key (take n work.now) store.old lengths.old) }
 {
-    let k = smaller(n, work.len());
+    let k = n.min(work.len());
     let hearing = runner.input(key, store, lengths, &work[..k]);
     let next = hearing.runner;
     runner.input = next.input;
     runner.high_water = next.high_water;
-    hearing.received.into()
-}
-
-#[tactic(auto, unfolding(account::specs::Step::next, account::specs::Step::answer))]
-#[inline(never)]
-fn end_input(runner: &mut Runner, key: Key) -> Answer
-    ensures { Moves runner.old (Calls.end_input key) runner.new result }
-{
-    let hearing = runner.end_input(key);
-    heard(runner, hearing)
-}
-
-#[tactic(auto, unfolding(account::specs::Step::next, account::specs::Step::answer))]
-#[inline(never)]
-fn cancel(runner: &mut Runner, now: u64, key: Key, cause: Cause) -> Answer
-    ensures { Moves runner.old (Calls.cancel now key cause) runner.new result }
-{
-    let hearing = runner.cancel(now, key, cause);
-    heard(runner, hearing)
-}
-
-#[tactic(auto, unfolding(account::specs::Step::next, account::specs::Step::answer))]
-#[inline(never)]
-fn launched(runner: &mut Runner, launch: Result<(), LaunchFailure>) -> Answer
-    ensures { Moves runner.old (Calls.launched launch) runner.new result }
-{
-    let noting = runner.launched(launch);
-    noted(runner, noting)
+    hearing.answer.into()
 }
 
 #[inline(never)]
 fn output(runner: &mut Runner, stream: Stream, n: usize, store: &mut [u8], work: &[u8]) -> Answer
     ensures { OutputMade runner.new result store.new (Runs.output runner.old stream (take n work.now) store.old) }
 {
-    let k = smaller(n, work.len());
+    let k = n.min(work.len());
     let taking = runner.output(stream, store, &work[..k]);
     let next = taking.runner;
     let outputs = next.outputs;
     runner.outputs = outputs;
     runner.high_water = next.high_water;
-    answering::taken(taking.taken)
-}
-
-#[tactic(auto, unfolding(account::specs::Step::next, account::specs::Step::answer))]
-#[inline(never)]
-fn discarded(runner: &mut Runner, stream: Stream, bytes: usize) -> Answer
-    ensures { Moves runner.old (Calls.discarded stream bytes) runner.new result }
-{
-    let noting = runner.discarded(stream, bytes);
-    noted(runner, noting)
-}
-
-#[tactic(auto, unfolding(account::specs::Step::next, account::specs::Step::answer))]
-#[inline(never)]
-fn output_closed(runner: &mut Runner, stream: Stream) -> Answer
-    ensures { Moves runner.old (Calls.output_closed stream) runner.new result }
-{
-    let noting = runner.output_closed(stream);
-    noted(runner, noting)
-}
-
-#[tactic(auto, unfolding(account::specs::Step::next, account::specs::Step::answer))]
-#[inline(never)]
-fn output_failed(runner: &mut Runner, stream: Stream) -> Answer
-    ensures { Moves runner.old (Calls.output_failed stream) runner.new result }
-{
-    let noting = runner.output_failed(stream);
-    noted(runner, noting)
-}
-
-#[tactic(auto, unfolding(account::specs::Step::next, account::specs::Step::answer))]
-#[inline(never)]
-fn output_hung_up(runner: &mut Runner, stream: Stream) -> Answer
-    ensures { Moves runner.old (Calls.output_hung_up stream) runner.new result }
-{
-    let noting = runner.output_hung_up(stream);
-    noted(runner, noting)
+    answering::taken(taking.answer)
 }
 
 // (The store of bytes is not lent.)
@@ -150,80 +86,7 @@ fn input_written(runner: &mut Runner, lengths: &mut [u32], n: usize) -> Answer
     let noting = runner.input_written(lengths, n);
     let next = noting.runner;
     runner.input = next.input;
-    noting.reply.into()
-}
-
-#[tactic(auto, unfolding(account::specs::Step::next, account::specs::Step::answer))]
-#[inline(never)]
-fn input_closed(runner: &mut Runner) -> Answer
-    ensures { Moves runner.old Calls.input_closed runner.new result }
-{
-    let noting = runner.input_closed();
-    noted(runner, noting)
-}
-
-#[tactic(auto, unfolding(account::specs::Step::next, account::specs::Step::answer))]
-#[inline(never)]
-fn exited(runner: &mut Runner, now: u64, status: Option<Status>) -> Answer
-    ensures { Moves runner.old (Calls.exited now status) runner.new result }
-{
-    let noting = runner.exited(now, status);
-    noted(runner, noting)
-}
-
-#[tactic(auto, unfolding(account::specs::Step::next, account::specs::Step::answer))]
-#[inline(never)]
-fn settled(runner: &mut Runner, settlement: Settlement) -> Answer
-    ensures { Moves runner.old (Calls.settled settlement) runner.new result }
-{
-    let noting = runner.settled(settlement);
-    noted(runner, noting)
-}
-
-#[tactic(auto, unfolding(account::specs::Step::next, account::specs::Step::answer))]
-#[inline(never)]
-fn dropped(runner: &mut Runner, now: u64) -> Answer
-    ensures { Moves runner.old (Calls.dropped now) runner.new result }
-{
-    let noting = runner.dropped(now);
-    noted(runner, noting)
-}
-
-#[tactic(auto, unfolding(account::specs::Step::next, account::specs::Step::answer))]
-#[inline(never)]
-fn reset(runner: &mut Runner, now: u64) -> Answer
-    ensures { Moves runner.old (Calls.reset now) runner.new result }
-{
-    let noting = runner.reset(now);
-    noted(runner, noting)
-}
-
-#[tactic(auto, unfolding(account::specs::Step::next, account::specs::Step::answer))]
-#[inline(never)]
-fn disconnect(runner: &mut Runner, now: u64) -> Answer
-    ensures { Moves runner.old (Calls.disconnect now) runner.new result }
-{
-    let noting = runner.disconnect(now);
-    noted(runner, noting)
-}
-
-#[tactic(auto, unfolding(account::specs::Step::next, account::specs::Step::answer))]
-#[inline(never)]
-fn tick(runner: &mut Runner, now: u64) -> Answer
-    ensures { Moves runner.old (Calls.tick now) runner.new result }
-{
-    let noting = runner.tick(now);
-    noted(runner, noting)
-}
-
-#[tactic(auto, unfolding(account::specs::Step::next, account::specs::Step::answer))]
-#[inline(never)]
-fn next_request(runner: &mut Runner) -> Answer
-    ensures { Moves runner.old Calls.next_request runner.new result }
-{
-    let asking = runner.next_request();
-    *runner = asking.runner;
-    asking.asked.into()
+    noting.answer.into()
 }
 
 // n zeros at the start of work.
@@ -251,7 +114,7 @@ fn next_message(runner: &mut Runner, n: usize, store: &[u8], work: &mut [u8]) ->
     runner.outputs = outputs;
     runner.credits = credits;
     runner.turn = next.turn;
-    saying.said.into()
+    saying.answer.into()
 }
 
 // Bytes that wait are copied to the start of work.
@@ -296,12 +159,12 @@ fn timed(runner: &mut Runner, now: u64, call: Timed) -> Answer
     ensures { Moves runner.old (timed_is now call) runner.new result }
 {
     match call {
-        Timed::Cancel(key, cause) => cancel(runner, now, key, cause),
-        Timed::Exited(status) => exited(runner, now, status),
-        Timed::Dropped => dropped(runner, now),
-        Timed::Reset => reset(runner, now),
-        Timed::Disconnect => disconnect(runner, now),
-        Timed::Tick => tick(runner, now),
+        Timed::Cancel(key, cause) => told(runner, |r| r.cancel(now, key, cause)),
+        Timed::Exited(status) => told(runner, |r| r.exited(now, status)),
+        Timed::Dropped => told(runner, |r| r.dropped(now)),
+        Timed::Reset => told(runner, |r| r.reset(now)),
+        Timed::Disconnect => told(runner, |r| r.disconnect(now)),
+        Timed::Tick => told(runner, |r| r.tick(now)),
     }
 }
 
@@ -320,17 +183,17 @@ pub fn make(
     match call {
         Call::Credit(key, pool, units) => credit(runner, key, pool, units),
         Call::Input(key, n) => input(runner, key, n, store, lengths, work),
-        Call::EndInput(key) => end_input(runner, key),
-        Call::Launched(launch) => launched(runner, launch),
+        Call::EndInput(key) => told(runner, |r| r.end_input(key)),
+        Call::Launched(launch) => told(runner, |r| r.launched(launch)),
         Call::Output(stream, n) => output(runner, stream, n, store, work),
-        Call::Discarded(stream, n) => discarded(runner, stream, n),
-        Call::OutputClosed(stream) => output_closed(runner, stream),
-        Call::OutputFailed(stream) => output_failed(runner, stream),
-        Call::OutputHungUp(stream) => output_hung_up(runner, stream),
+        Call::Discarded(stream, n) => told(runner, |r| r.discarded(stream, n)),
+        Call::OutputClosed(stream) => told(runner, |r| r.output_closed(stream)),
+        Call::OutputFailed(stream) => told(runner, |r| r.output_failed(stream)),
+        Call::OutputHungUp(stream) => told(runner, |r| r.output_hung_up(stream)),
         Call::InputWritten(n) => input_written(runner, lengths, n),
-        Call::InputClosed => input_closed(runner),
-        Call::Settled(settlement) => settled(runner, settlement),
-        Call::NextRequest => next_request(runner),
+        Call::InputClosed => told(runner, |r| r.input_closed()),
+        Call::Settled(settlement) => told(runner, |r| r.settled(settlement)),
+        Call::NextRequest => told(runner, |r| r.next_request()),
         Call::NextMessage(n) => next_message(runner, usize::from(n), store, work),
         Call::At(now, call) => timed(runner, now, call),
         Call::Ask(question) => ask(*runner, question, store, work),

@@ -1,35 +1,21 @@
 // Reads a session card from standard input, in pieces, and prints its answers. All that matters is crate card.
 #![tactic(auto)]
 
-use card::feed::Card;
+use feeder::Feeder;
 use std::io;
 use std::io::Read;
 
 fn main(rt: HostRuntime) -> io::Result<()> {
     let mut from = rt.stdin();
     let mut to = io::writer(&rt);
-    let mut line = [0u8; feeder::AREA];
-    let mut store = [0u8; feeder::AREA];
-    let mut lengths = [0u32; feeder::LENGTHS];
     let mut piece = [0u8; feeder::AREA];
-    let mut out = [0u8; feeder::LARGE_AREA];
-    let mut card = Card::new();
-    // A number of turns that no run uses up.
+    let mut feeder = Feeder::new();
+    // A number of turns that no run uses up: a `loop` would owe a measure, and an input has none.
     for _ in 0..u64::MAX {
         let n = from.read(&mut piece)?;
-        let fed = feeder::feed(
-            card,
-            &mut line,
-            &mut store,
-            &mut lengths,
-            &piece[..n],
-            &mut out,
-            &mut to,
-        )?;
-        card = fed.card;
-        if (n == 0) | !fed.more {
+        if (n == 0) | !feeder.feed(&piece[..n], &mut to)? {
             break;
         }
     }
-    feeder::end(card, &line, &mut store, &mut lengths, &mut out, &mut to)
+    feeder.end(&mut to)
 }

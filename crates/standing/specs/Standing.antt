@@ -3,9 +3,12 @@ use Rattle.std.specs.Prelude.{◌≡◌, refl, List, ℕ, Option, Result, Some, 
 use Rattle.std.proofs.Common.{ap, ◌∙◌}
 use Rattle.exec.specs.declared.Refusal.{Refusal}
 use Rattle.runner.specs.declared.runner.Runner.{Runner}
+use Rattle.runner.specs.declared.answer.After.{After}
+use Rattle.runner.specs.Calls as Calls
 use Rattle.calls.specs.Call.{Call}
 use Rattle.account.specs.Step.{State, replied}
 use Rattle.standing.specs.declared.Standing.{Standing}
+use Rattle.standing.specs.declared.areas.Areas.{Areas}
 use Rattle.syntax.specs.Lines.{zeros}
 use Rattle.grammar.specs.Feed.{first, later, answered, too_long, answer_of}
 use Rattle.opening.specs.Meaning.{opening_is}
@@ -81,19 +84,35 @@ placed_is q x p h = ap stage_at h ∙ stage_placed x p
 abbrev pub Told : Feed.Answered → (was : Place) → Standing → Answer → (after : Stores) → (work : List ℕ) → Type 0
 Told f was s a after work = (place_of s after ≡ placed f.stage was) × (answer_is a work ≡ f.answer)
 
+-- the stores as they are lent
+abbrev pub stores_in : Areas → Stores
+stores_in x = stores x.store.now x.lengths.now
+
+-- the areas stay where they are, whatever is written to them
+abbrev pub Kept : Areas → Areas → Type 0
+Kept x y = (y.store.ghost_name ≡ x.store.ghost_name) × (y.lengths.ghost_name ≡ x.lengths.ghost_name) × (y.work.ghost_name ≡ x.work.ghost_name)
+
 -- A LINE IS ANSWERED AS f SAYS OF THE PLACE BEFORE IT
-abbrev pub Answers : (f : Place → Feed.Answered) → Standing → (before : Stores) → Standing → Answer → (after : Stores) → (work : List ℕ) → Type 0
-Answers f s before s' a after work = Told (f (place_of s before)) (place_of s before) s' a after work
+abbrev pub Answers : (f : Place → Feed.Answered) → Standing → (before : Areas) → Standing → Answer → (after : Areas) → Type 0
+Answers f s before s' a after = Told (f (place_of s (stores_in before))) (place_of s (stores_in before)) s' a (stores_in after) after.work.now
 
 -- (a first line: by its own words alone, and whatever stands in `work`)
-abbrev pub AnswersFirst : Feed.Answered → Standing → (before : Stores) → Standing → Answer → (after : Stores) → Type 0
-AnswersFirst f s before s' a after = (work : List ℕ) → Told f (place_of s before) s' a after work
+abbrev pub AnswersFirst : Feed.Answered → Standing → (before : Areas) → Standing → Answer → (after : Areas) → Type 0
+AnswersFirst f s before s' a after = (work : List ℕ) → Told f (place_of s (stores_in before)) s' a (stores_in after) work
 
 -- (whatever stands in the stores, which are not lent and stay, and in `work`)
 abbrev pub AnswersAny : (f : Place → Feed.Answered) → Standing → Standing → Answer → Type 0
-AnswersAny f s s' a = (x : Stores) (work : List ℕ) → Answers f s x s' a x work
+AnswersAny f s s' a = (x : Stores) (work : List ℕ) → Told (f (place_of s x)) (place_of s x) s' a x work
 
--- what open made, from its reply
+-- a line that is refused, and the stage from then on
+abbrev pub bad_at : Stages.Stage → Place → Feed.Answered
+bad_at x p = Feed.bad (stage_is x p.state)
+
+-- what open makes of the first line's words
+abbrev pub noted : Openings.Opening → Stores → After (Unit {0})
+noted o x = Calls.«open» o.key o.limits o.timers o.now x.bytes x.lengths
+
+-- what it made, from its reply
 abbrev pub opened_as : Result (Unit {0}) Refusal → Runner → Feed.Answered
 opened_as (Ok tt) r = record { stage = Feed.Running (state_of r (zeros 65536) (zeros 1024)); answer = Account.Ok }
 opened_as (Err x) r = record { stage = Feed.Over; answer = replied (Err x) }

@@ -10,9 +10,9 @@ use Rattle.making.proofs.output.Goals as goal
 pub returns : goal.returns
 returns c =
     let a = c.args in
-    let t = ap (λ (k : ℕ). take k a.work.now) c.smaller-k.ensures ∙ take_min a.n a.work.now in
+    let t = ap (λ (k : ℕ). take k a.work.now) c.min-k.ensures ∙ take_min a.n a.work.now in
     let e = c.output-taking.ensures ∙ ap (λ (b : List ℕ). Runs.output a.runner.now a.stream b a.store.now) t in (
       ap (λ (x : OutputAfter). output_moved a.runner.now x.taking.runner) e ∙ sym (output_kept a.runner.now a.stream _ a.store.now),
       ap (λ (x : OutputAfter). x.bytes) e,
-      λ w. c.taken.ensures w ∙ ap (λ (x : OutputAfter). took x.taking.taken) e,
+      λ w. c.taken.ensures w ∙ ap (λ (x : OutputAfter). took x.taking.answer) e,
     )

@@ -3,6 +3,6 @@ use Rattle.std.proofs.lemmas.Bool.{lt-leb}
 use Rattle.grammar.specs.Feed.{answer_of}
 use Rattle.standing.proofs.Standing.answer.Goals as goal
 
-pub returns : goal.returns
+pub returns-clause-answer : goal.returns-clause-answer
 unfolding answer_of
-returns c = rw (lt-leb _ _ c.if-line-le65535.false) (c.too_long.ensures _ _)
+returns-clause-answer c = rw (lt-leb _ _ c.if-line-le65535.false) (c.too_long.ensures _ _)

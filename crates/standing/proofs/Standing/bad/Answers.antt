@@ -1,0 +1,8 @@
+-- The stage is the one that is named.
+use Rattle.std.proofs.Common.{refl}
+use Rattle.standing.specs.Standing.{place_of}
+use Rattle.standing.proofs.Lines.{placed_at}
+use Rattle.standing.proofs.Standing.bad.Goals as goal
+
+pub returns : goal.returns
+returns c x w = (placed_at c.args.stage (place_of c.args.self.now x), refl)
