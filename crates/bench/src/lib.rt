@@ -4,7 +4,9 @@
 // An exported loop opens a runner over the lent stores, makes the calls of a turn `turns` times, with `steps` steps of
 // arithmetic after each turn, and returns the sum of the answers and of the arithmetic. It is proved safe and to end, and
 // promises nothing else. What is lent has a fixed length, so that nothing has to be known of it after a turn; chunk, window and
-// timeout are given, so that the compiler does not know them.
+// timeout are given, so that the compiler does not know them. The parameters are flat, as C hands them over (bench/src/ours.rs).
+// Each loop is written out: one generic loop over a closure moved what is measured (input of 64 bytes from 201 to 138 instructions,
+// tick from 156 to 127, frames from 110 to 126; with the runner handed on by value input still to 186).
 // A loop's runner is a copy of the one that `running` hands over, so that its own address is handed to no function: the
 // compiler takes a local apart into its fields only then, and it was measured to matter.
 #![tactic(auto)]
@@ -24,73 +26,73 @@ pub fn work(start: u64, steps: u64) -> u64 {
     x
 }
 
-pub fn add(a: u64, b: u64) -> u64 {
-    std::num::wrapping_add_u64(a, b)
+// The sum of the answers, with one more.
+pub fn add<T: Counted>(sum: u64, answer: T) -> u64 {
+    sum.wrapping_add(answer.count())
 }
 
 // What an answer adds to the sum.
-
-pub fn of_received(received: Result<Receipt, Refusal>) -> u64 {
-    match received {
-        Ok(receipt) => match receipt {
-            Receipt::Applied => 1,
-            Receipt::Stale => 2,
-            Receipt::Late => 3,
-        },
-        Err(_) => 4,
-    }
+pub trait Counted: Copy {
+    fn count(self) -> u64;
 }
 
-pub fn of_reply(reply: Result<(), Refusal>) -> u64 {
-    match reply {
-        Ok(()) => 1,
-        Err(_) => 4,
-    }
-}
-
-pub fn of_taken(taken: Result<usize, Refusal>) -> u64 {
-    match taken {
-        Ok(n) => n as u64,
-        Err(_) => 4,
-    }
-}
-
-pub fn of_message(message: Message) -> u64 {
-    match message {
-        Message::Credit(units) => units as u64,
-        Message::Started => 5,
-        Message::Output(_, n) => n as u64,
-        Message::End(_) => 6,
-        Message::InputClosed => 7,
-        Message::Terminal(_) => 8,
-    }
-}
-
-pub fn of_said(said: Result<Option<Message>, Refusal>) -> u64 {
-    match said {
-        Ok(None) => 1,
-        Ok(Some(message)) => of_message(message),
-        Err(_) => 4,
-    }
-}
-
-// Whether a deadline is the one expected.
-fn of_deadline(deadline: Option<u64>, due: u64) -> u64 {
-    match deadline {
-        None => 2,
-        Some(at) => {
-            if at == due {
-                return 1;
-            }
-            3
+impl<T: Counted> Counted for Result<T, Refusal> {
+    fn count(self) -> u64 {
+        match self {
+            Ok(given) => given.count(),
+            Err(_) => 4,
         }
     }
 }
 
-pub fn of_when(when: Result<Option<u64>, Refusal>, due: u64) -> u64 {
-    match when {
-        Ok(deadline) => of_deadline(deadline, due),
-        Err(_) => 4,
+impl Counted for () {
+    fn count(self) -> u64 {
+        1
+    }
+}
+
+impl Counted for Receipt {
+    fn count(self) -> u64 {
+        match self {
+            Receipt::Applied => 1,
+            Receipt::Stale => 2,
+            Receipt::Late => 3,
+        }
+    }
+}
+
+impl Counted for u64 {
+    fn count(self) -> u64 {
+        self
+    }
+}
+
+impl Counted for usize {
+    fn count(self) -> u64 {
+        self as u64
+    }
+}
+
+impl Counted for Option<Message> {
+    fn count(self) -> u64 {
+        match self {
+            None => 1,
+            Some(Message::Credit(units)) => u64::from(units),
+            Some(Message::Started) => 5,
+            Some(Message::Output(_, n)) => n as u64,
+            Some(Message::End(_)) => 6,
+            Some(Message::InputClosed) => 7,
+            Some(Message::Terminal(_)) => 8,
+        }
+    }
+}
+
+// Whether a deadline is the one expected.
+pub fn of_deadline(deadline: Option<u64>, due: u64) -> u64 {
+    match deadline {
+        None => 2,
+        Some(at) if at == due => 1,
+        Some(_) => 3,
     }
 }
 
@@ -105,21 +107,16 @@ pub fn running(limits: Limits, timeout: u64, store: &[u8], lengths: &[u32], unit
     let mut r = Runner::open(key(), limits, timers, 0, store, lengths).runner;
     r = r.launched(Ok(())).runner;
     r.flags.started_message = false;
-    let agreed = limits.input;
-    let granted = Granted {
-        open: agreed.size,
+    r.input.window = Granted {
+        open: limits.input.size,
         returnable: 0,
     };
-    let mut input = r.input;
-    input.window = granted;
-    r.input = input;
-    let window = limits.output;
+    let window = limits.output.size;
     let stdout = Credit {
-        window: window.size,
+        window,
         available: units,
     };
-    let stderr = Credit::new(window.size);
-    let credits = [stdout, stderr];
+    let credits = [stdout, Credit::new(window)];
     r.credits = credits;
     r
 }
@@ -128,16 +125,11 @@ pub fn in_bytes(chunk: u32, window: u32) -> Limits {
     Limits::of(chunk, Window::bytes(window), Window::bytes(u32::MAX), false)
 }
 
-pub fn in_frames(chunk: u32, window: u32) -> Limits {
-    Limits::of(chunk, Window::frames(window), Window::frames(window), false)
-}
-
 // The other calls that tick, once each: with them `fire` has several callers, as in any adapter, and is a part of none. A
 // library whose loop ticks exports it beside the loop.
-pub fn rest(r: Runner, now: u64) -> u64 {
+pub fn rest(store: &[u8], lengths: &[u32], chunk: u32, window: u32, now: u64) -> u64 {
+    let r = running(in_bytes(chunk, window), now, store, lengths, u32::MAX);
     let cancelled = r.cancel(now, key(), Cause::Cancelled).runner;
     let exited = cancelled.exited(now, None).runner;
-    let noting = exited.disconnect(now);
-    let reply = noting.reply;
-    of_reply(reply)
+    exited.disconnect(now).answer.count()
 }

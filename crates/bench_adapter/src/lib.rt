@@ -1,10 +1,8 @@
 // A turn of an adapter, with all calls of its loop, each with this one caller: see crate bench.
 #![tactic(auto)]
 
-use bench::{
-    add, in_bytes, key, of_received, of_reply, of_said, of_taken, of_when, rest, running, work,
-};
-use exec::{Pool, Refusal, Stream};
+use bench::{add, in_bytes, key, of_deadline, rest, running, work};
+use exec::{Pool, Stream};
 
 // Time, input that the workload takes, output that it writes, the messages until none waits (Credit, Output, none), the peer's
 // credit for that output, and the next deadline.
@@ -26,43 +24,32 @@ pub extern "C" fn bench_adapter(
     let mut other = 1;
     for i in 0..turns {
         let noting = r.tick(i % 64);
-        let reply = noting.reply;
-        sum = add(sum, of_reply(reply));
+        sum = add(sum, noting.answer);
         r = noting.runner;
         let hearing = r.input(key(), store, lengths, bytes);
-        let received = hearing.received;
-        sum = add(sum, of_received(received));
+        sum = add(sum, hearing.answer);
         r = hearing.runner;
         let waiting = r.pending_input(store).map_or(0, |bytes| bytes.len());
-        sum = add(sum, waiting as u64);
+        sum = add(sum, waiting);
         r = r.input_written(lengths, waiting).runner;
         let taking = r.output(Stream::Stdout, store, bytes);
-        let taken = taking.taken;
-        sum = add(sum, of_taken(taken));
+        let taken = taking.answer;
+        sum = add(sum, taken);
         r = taking.runner;
         for _ in 0..3u64 {
             let saying = r.next_message(store, buffer);
-            let said = saying.said;
-            sum = add(sum, of_said(said));
+            sum = add(sum, saying.answer);
             r = saying.runner;
         }
-        let granting = r.credit(key(), Pool::Stdout, spent(taken));
-        let granted = granting.received;
-        sum = add(sum, of_received(granted));
+        // The units of stdout's window that the output took.
+        let spent = taken.map_or(0, |n| (n % 4294967296) as u32);
+        let granting = r.credit(key(), Pool::Stdout, spent);
+        sum = add(sum, granting.answer);
         r = granting.runner;
-        let when = r.deadline();
-        sum = add(sum, of_when(when, timeout));
+        sum = add(sum, r.deadline().map(|at| of_deadline(at, timeout)));
         other = work(other, steps);
     }
-    add(sum, other)
-}
-
-// The units of stdout's window that a turn's output takes.
-fn spent(taken: Result<usize, Refusal>) -> u32 {
-    match taken {
-        Ok(n) => (n % 4294967296) as u32,
-        Err(_) => 0,
-    }
+    sum.wrapping_add(other)
 }
 
 // The other calls that tick.
@@ -74,8 +61,5 @@ pub extern "C" fn bench_adapter_rest(
     window: u32,
     now: u64,
 ) -> u64 {
-    rest(
-        running(in_bytes(chunk, window), now, store, lengths, u32::MAX),
-        now,
-    )
+    rest(store, lengths, chunk, window, now)
 }

@@ -1,7 +1,7 @@
 // The loops of one call a turn: see crate bench.
 #![tactic(auto)]
 
-use bench::{add, in_bytes, key, of_received, of_reply, of_said, of_when, rest, running, work};
+use bench::{add, in_bytes, key, of_deadline, rest, running, work};
 use exec::Pool;
 use runner::runner::Runner;
 
@@ -33,12 +33,11 @@ pub extern "C" fn bench_tick(
     let mut other = 1;
     for i in 0..turns {
         let noting = r.tick(i % 64);
-        let reply = noting.reply;
-        sum = add(sum, of_reply(reply));
+        sum = add(sum, noting.answer);
         r = noting.runner;
         other = work(other, steps);
     }
-    add(sum, other)
+    sum.wrapping_add(other)
 }
 
 // credit of one unit.
@@ -59,15 +58,15 @@ pub extern "C" fn bench_credit(
     let mut other = 1;
     for _ in 0..turns {
         let hearing = r.credit(key(), Pool::Stdout, 1);
-        let received = hearing.received;
-        sum = add(sum, of_received(received));
+        sum = add(sum, hearing.answer);
         r = hearing.runner;
         other = work(other, steps);
     }
-    add(sum, other)
+    sum.wrapping_add(other)
 }
 
-// next_message, with nothing waiting, of four runners by turns: of one alone the compiler would ask once.
+// next_message, with nothing waiting, of four runners by turns: of one alone the compiler would ask once. The turn's number
+// says which.
 #[unsafe(no_mangle)]
 pub extern "C" fn bench_idle(
     store: &mut [u8; 49152],
@@ -85,10 +84,10 @@ pub extern "C" fn bench_idle(
     for i in 0..turns {
         let at = ((i / 3) % 4) as usize;
         let saying = all[at].next_message(store, buffer);
-        sum = add(sum, of_said(saying.said));
+        sum = add(sum, saying.answer);
         other = work(other, steps);
     }
-    add(sum, other)
+    sum.wrapping_add(other)
 }
 
 // deadline, likewise.
@@ -111,10 +110,10 @@ pub extern "C" fn bench_deadline(
         let at = k as usize;
         let r = all[at];
         let when = r.deadline();
-        sum = add(sum, of_when(when, 1000 + 1000 * k));
+        sum = add(sum, when.map(|at| of_deadline(at, 1000 + 1000 * k)));
         other = work(other, steps);
     }
-    add(sum, other)
+    sum.wrapping_add(other)
 }
 
 fn four(r: Runner) -> [Runner; 4] {
@@ -127,9 +126,7 @@ fn four(r: Runner) -> [Runner; 4] {
 }
 
 fn due_at(mut runner: Runner, at: u64) -> Runner {
-    let clocks = runner.clocks;
-    let next = clocks.set_timeout_at(Some(at));
-    runner.clocks = next;
+    runner.clocks.timeout_at = Some(at);
     runner
 }
 
@@ -141,8 +138,5 @@ pub extern "C" fn bench_rest(
     window: u32,
     now: u64,
 ) -> u64 {
-    rest(
-        running(in_bytes(chunk, window), now, store, lengths, u32::MAX),
-        now,
-    )
+    rest(store, lengths, chunk, window, now)
 }

@@ -1,7 +1,8 @@
 // The loop of crate bench_input, with 1,024 messages a turn in a window of frames.
 #![tactic(auto)]
 
-use bench::{add, in_frames, key, of_received, of_said, running, work};
+use bench::{add, key, running, work};
+use exec::{Limits, Window};
 
 #[unsafe(no_mangle)]
 pub extern "C" fn bench_frames(
@@ -15,25 +16,25 @@ pub extern "C" fn bench_frames(
     turns: u64,
     steps: u64,
 ) -> u64 {
-    let first = running(in_frames(chunk, window), timeout, store, lengths, 1024);
+    let frames = Window::frames(window);
+    let limits = Limits::of(chunk, frames, frames, false);
+    let first = running(limits, timeout, store, lengths, 1024);
     let mut r = first;
     let mut sum = 0;
     let mut other = 1;
     for _ in 0..turns {
         for _ in 0..1024u64 {
             let hearing = r.input(key(), store, lengths, bytes);
-            let received = hearing.received;
-            sum = add(sum, of_received(received));
+            sum = add(sum, hearing.answer);
             r = hearing.runner;
         }
         let waiting = r.pending_input(store).map_or(0, |bytes| bytes.len());
-        sum = add(sum, waiting as u64);
+        sum = add(sum, waiting);
         let written = r.input_written(lengths, waiting).runner;
         let saying = written.next_message(store, buffer);
-        let said = saying.said;
-        sum = add(sum, of_said(said));
+        sum = add(sum, saying.answer);
         r = saying.runner;
         other = work(other, steps);
     }
-    add(sum, other)
+    sum.wrapping_add(other)
 }

@@ -1,7 +1,7 @@
 // The loop of input, pending_input, input_written and next_message, each with this one caller: see crate bench.
 #![tactic(auto)]
 
-use bench::{add, in_bytes, key, of_received, of_said, running, work};
+use bench::{add, in_bytes, key, running, work};
 
 // A message in, all that waits written, and next_message, which grants the units again.
 #[unsafe(no_mangle)]
@@ -22,17 +22,15 @@ pub extern "C" fn bench_input(
     let mut other = 1;
     for _ in 0..turns {
         let hearing = r.input(key(), store, lengths, bytes);
-        let received = hearing.received;
-        sum = add(sum, of_received(received));
+        sum = add(sum, hearing.answer);
         r = hearing.runner;
         let waiting = r.pending_input(store).map_or(0, |bytes| bytes.len());
-        sum = add(sum, waiting as u64);
+        sum = add(sum, waiting);
         let written = r.input_written(lengths, waiting).runner;
         let saying = written.next_message(store, buffer);
-        let said = saying.said;
-        sum = add(sum, of_said(said));
+        sum = add(sum, saying.answer);
         r = saying.runner;
         other = work(other, steps);
     }
-    add(sum, other)
+    sum.wrapping_add(other)
 }

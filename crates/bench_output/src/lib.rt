@@ -1,7 +1,7 @@
 // The loop of output and next_message, each with this one caller: see crate bench.
 #![tactic(auto)]
 
-use bench::{add, in_bytes, of_said, of_taken, running, work};
+use bench::{add, in_bytes, running, work};
 use exec::Stream;
 
 // output and next_message, which hands the bytes on.
@@ -23,14 +23,12 @@ pub extern "C" fn bench_output(
     let mut other = 1;
     for _ in 0..turns {
         let taking = r.output(Stream::Stdout, store, bytes);
-        let taken = taking.taken;
-        sum = add(sum, of_taken(taken));
+        sum = add(sum, taking.answer);
         r = taking.runner;
         let saying = r.next_message(store, buffer);
-        let said = saying.said;
-        sum = add(sum, of_said(said));
+        sum = add(sum, saying.answer);
         r = saying.runner;
         other = work(other, steps);
     }
-    add(sum, other)
+    sum.wrapping_add(other)
 }

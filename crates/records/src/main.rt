@@ -7,7 +7,7 @@ mod exit;
 mod openssh;
 mod other;
 mod print;
-mod step;
+mod session;
 
 use std::io;
 

@@ -1,5 +1,5 @@
 // A runner that is no channel, as one of its windows counts frames: it reads and writes no record.
-use crate::step::{open, read, write};
+use crate::session::Session;
 use exec::{Limits, Window};
 use std::io;
 use std::io::Write;
@@ -8,9 +8,7 @@ use std::io::Write;
 pub(crate) fn run(to: &mut impl Write) -> io::Result<()> {
     let limits = Limits::of(4, Window::frames(2), Window::bytes(8), true);
     let mut store = [0u8; 16];
-    let mut buffer = [0u8; 16];
-    let opened = open(to, limits, &store)?;
-    let unread = read(to, opened, 5, b"", &mut store)?;
-    write(to, unread, 5, &store, &mut buffer)?;
-    Ok(())
+    let mut session = Session::open(to, limits, 5, 5, &mut store)?;
+    session.read(b"")?;
+    session.write(&mut [0u8; 16])
 }
