@@ -93,6 +93,11 @@ abbrev pub freed_by : Units.Unit → (size n : ℕ) → Inbox → List ℕ → �
 freed_by Bytes size n b lengths = n
 freed_by Frames size n b lengths = (popped b.frames size b.first n lengths).freed
 
+-- the frames that n bytes come to: in Bytes there are none
+abbrev pub came_by : Units.Unit → (size n : ℕ) → Inbox → List ℕ → ℕ
+came_by Bytes size n b lengths = 0
+came_by Frames size n b lengths = (popped b.frames size b.first n lengths).came
+
 abbrev pub lengths_popped : Units.Unit → (size n : ℕ) → Inbox → List ℕ → List ℕ
 lengths_popped Bytes size n b lengths = lengths
 lengths_popped Frames size n b lengths = (popped b.frames size b.first n lengths).lengths
@@ -114,12 +119,17 @@ pop_units w b n lengths =
         frames = frames_popped w.unit f b.frames;
       };
       freed = f;
+      came = came_by w.unit w.size n b lengths;
     })
     (lengths_popped w.unit w.size n b lengths)
 
--- a pop of count bytes, at most of those that wait: the units that it frees, and what it leaves of the inbox and of the lengths
+-- a pop of count bytes, at most of those that wait: the units that it frees, the frames that it came to with bytes still to take, and
+-- what it leaves of the inbox and of the lengths
 abbrev pub pop_freed : Limits → Inbox → (count : ℕ) → List ℕ → ℕ
 pop_freed l b count lengths = freed_by l.input.unit l.input.size (min count b.length) b lengths
+
+abbrev pub pop_came : Limits → Inbox → (count : ℕ) → List ℕ → ℕ
+pop_came l b count lengths = came_by l.input.unit l.input.size (min count b.length) b lengths
 
 abbrev pub pop_inbox : Limits → Inbox → (count : ℕ) → List ℕ → Inbox
 pop_inbox l b count lengths = record {
@@ -134,4 +144,6 @@ pop_lengths l b count lengths = lengths_popped l.input.unit l.input.size (min co
 
 unfoldable pub pop : Limits → Inbox → (count : ℕ) → List ℕ → PopAfter
 pop l b count lengths =
-    pop_after (record { inbox = pop_inbox l b count lengths; freed = pop_freed l b count lengths }) (pop_lengths l b count lengths)
+    pop_after
+    (record { inbox = pop_inbox l b count lengths; freed = pop_freed l b count lengths; came = pop_came l b count lengths })
+    (pop_lengths l b count lengths)

@@ -33,11 +33,12 @@ pub struct Inbox {
     pub frames: u32,
 }
 
-// What a pop leaves, and the units that it frees.
+// What a pop leaves, the units that it frees, and the frames that it came to with bytes still to take.
 #[derive(Clone, Copy)]
 pub struct Popping {
     pub inbox: Inbox,
     pub freed: u32,
+    pub came: u32,
 }
 
 // Whether a ring's start is below its size, or 0 where the size is 0.
@@ -127,7 +128,7 @@ impl Inbox {
         popping
     }
 
-    // The units that n bytes free, the frames that they finish removed.
+    // The units that n bytes free, the frames that they finish removed. In Bytes there is no frame to come to.
     #[tactic(auto, using(ring::specs::AreaLaws::popped_part), unfolding(crate::specs::Inbox::pop_units))]
     fn pop_units(mut self, window: Window, lengths: &mut [u32], n: usize) -> Popping
         requires { Slots window self n lengths.old }
@@ -137,17 +138,19 @@ impl Inbox {
             Unit::Bytes => Popping {
                 inbox: self,
                 freed: n as u32,
+                came: 0,
             },
             Unit::Frames => {
                 let size = window.size as usize;
                 let first = self.first as usize;
                 let frames = self.frames as usize;
-                let freed = ring::pop_frames(&mut lengths[..size], first, frames, n);
-                self.first = ring::advance(size, first, freed) as u32;
-                self.frames = (frames - freed) as u32;
+                let turns = ring::pop_frames(&mut lengths[..size], first, frames, n);
+                self.first = ring::advance(size, first, turns.freed) as u32;
+                self.frames = (frames - turns.freed) as u32;
                 Popping {
                     inbox: self,
-                    freed: freed as u32,
+                    freed: turns.freed as u32,
+                    came: turns.came as u32,
                 }
             }
         }

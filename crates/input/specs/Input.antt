@@ -6,13 +6,14 @@ use Rattle.exec.specs.declared.Refusal.{Refusal}
 use Rattle.exec.specs.declared.Limits.{Limits}
 use Rattle.exec.specs.declared.Receipt.TheVariants.{Applied, Stale, Late}
 use Rattle.exec.specs.Limits.{cost, off_chunk}
-use Rattle.inbox.specs.Inbox.{new_inbox, pushed, bytes_pushed, lengths_pushed, front, pop_freed, pop_inbox, pop_lengths}
+use Rattle.inbox.specs.Inbox.{new_inbox, pushed, bytes_pushed, lengths_pushed, front, pop_freed, pop_came, pop_inbox, pop_lengths}
 use Rattle.inbox.specs.Need.{byte_need, length_need}
 use Rattle.inbox.specs.RangeLaws.{InRange}
 use Rattle.inbox.specs.Receiver.{new_granted, opened, freed}
 use Rattle.input.specs.declared.Crediting.{Crediting}
 use Rattle.input.specs.declared.Input.{Input}
 use Rattle.input.specs.declared.Receiving.{Receiving}
+use Rattle.input.specs.declared.Writing.{Writing}
 use Rattle.input.specs.Setters.{set_inbox, set_window, set_peer_ended, set_input_closed, set_close_requested, set_closed_message}
 
 abbrev pub new_input : ℕ → Input
@@ -178,20 +179,27 @@ pop_in l count lengths i =
 unfoldable pub written_input : Limits → Input → ℕ → List ℕ → Input
 written_input l i count lengths = cond i.closed i (close_when_taken (pop_in l count lengths i))
 
+-- the frames that it comes to with bytes still to take: a closed input is not popped
+unfoldable pub written_came : Limits → Input → ℕ → List ℕ → ℕ
+written_came l i count lengths = cond i.closed 0 (pop_came l i.inbox count lengths)
+
 unfoldable pub written_lengths : Limits → Input → ℕ → List ℕ → List ℕ
 written_lengths l i count lengths =
     cond i.closed lengths (pop_lengths l i.inbox count lengths)
 
--- what is left: the input, and the length store
+-- what is left: the input with the frames come to, and the length store
 pub record WrittenAfter : Type 0 where
-  pub input : Input
+  pub writing : Writing
   pub lengths : List ℕ
 
-abbrev pub written_after : Input → List ℕ → WrittenAfter
-written_after i lengths = record { input = i; lengths = lengths }
+abbrev pub written_after : Writing → List ℕ → WrittenAfter
+written_after w lengths = record { writing = w; lengths = lengths }
 
 abbrev pub written : Limits → Input → ℕ → List ℕ → WrittenAfter
-written l i count lengths = written_after (written_input l i count lengths) (written_lengths l i count lengths)
+written l i count lengths =
+    written_after
+    (record { input = written_input l i count lengths; came = written_came l i count lengths })
+    (written_lengths l i count lengths)
 
 pub record Writable (l : Limits) (i : Input) (lengths : List ℕ) : Type 0 where
   pub range : InRange l i.window i.inbox

@@ -59,6 +59,13 @@ pub struct Crediting {
     pub units: u32,
 }
 
+// What is left once the workload took bytes, and the frames that this came to with bytes still to take.
+#[derive(Clone, Copy)]
+pub struct Writing {
+    pub input: Input,
+    pub came: u32,
+}
+
 impl Input {
     pub fn new(size: u32) -> Self
         ensures { result ≡ new_input size }
@@ -203,19 +210,25 @@ impl Input {
         self.inbox.front(limits, store)
     }
 
-    // Notes how many of the waiting bytes the workload took, whose units are granted again.
-    #[tactic(auto, unfolding(crate::specs::Input::written_input, crate::specs::Input::written_lengths, inbox::specs::Inbox::pop))]
-    pub fn written(mut self, limits: Limits, lengths: &mut [u32], count: usize) -> Input
+    // Notes how many of the waiting bytes the workload took, whose units are granted again. A closed input is not asked.
+    #[tactic(auto, unfolding(crate::specs::Input::written_input, crate::specs::Input::written_came, crate::specs::Input::written_lengths, inbox::specs::Inbox::pop))]
+    pub fn written(mut self, limits: Limits, lengths: &mut [u32], count: usize) -> Writing
         requires { Writable limits self lengths.old }
         ensures { written_after result lengths.new ≡ written limits self count lengths.old }
     {
         if self.closed {
-            return self;
+            return Writing {
+                input: self,
+                came: 0,
+            };
         }
         let popping = self.inbox.pop(limits, lengths, count);
         self.inbox = popping.inbox;
         self.window = self.window.free(popping.freed);
-        self.close_when_taken()
+        Writing {
+            input: self.close_when_taken(),
+            came: popping.came,
+        }
     }
 
     // The message that the input closed was returned.

@@ -102,7 +102,7 @@ pushed_part size start frames len s area begins room =
 
 -- what is popped, with q behind the lengths
 abbrev pub behind : List ℕ → Popped → Popped
-behind q p = stop p.freed (p.lengths ++ q)
+behind q p = stop p.freed p.came (p.lengths ++ q)
 
 pop_behind : (k size start left done : ℕ) (a q : List ℕ) → size ≤ length a → start ≤ size → done + k ≤ size
     → pop_from k size start left done (a ++ q) ≡ behind q (pop_from k size start left done a)

@@ -9,7 +9,7 @@ use Rattle.std.proofs.Math.Decide.{dec_lt}
 use Rattle.ring.specs.Runs.{copied, copied_zero, copied_one}
 use Rattle.ring.specs.Ring.{wrap, first_run, ring_read, ring_from, ring_write}
 use Rattle.ring.specs.RingLaws.{wrap_below, wrap_le, wrap_lt, wrap_wrap, wrap_apart, ring_at, read_length, read_at, read_past, read_is, read_none, read_wrapped, write_read}
-use Rattle.ring.specs.Frames.{freed_of, rest_of, sum, Popped, stop, pop_from, popped}
+use Rattle.ring.specs.Frames.{freed_of, rest_of, came_of, sum, Popped, stop, pop_from, popped}
 
 -- ---- a plain list
 
@@ -55,6 +55,12 @@ unfolding freed_of
 freed_all [] n some = λ h. absurd (omega arith)
 freed_all (f ∷ fs) n some = grind (arith, nat_tests, some 0, freed_all fs (n - f) (λ i l. some (suc i) (omega arith)))
 
+-- it comes to each frame that it finishes, and to one more at most: the one that it leaves unfinished
+pub came_finished : (fs : List ℕ) (n : ℕ) → (freed_of fs n ≤ came_of fs n) × (came_of fs n ≤ freed_of fs n + 1) × (came_of fs n ≤ length fs)
+unfolding freed_of came_of
+came_finished [] n = (omega arith, omega arith, omega arith)
+came_finished (f ∷ fs) n = let h = came_finished fs (n - f) in (grind (arith, nat_tests, h.0), grind (arith, nat_tests, h.1), grind (arith, nat_tests, h.2))
+
 -- ---- the ring of lengths: a push
 
 module _ (size start frames len : ℕ) (s : List ℕ) (area : size ≤ length s) (begins : start ≤ size) (room : frames < size) where
@@ -82,17 +88,17 @@ module _ (size start frames len : ℕ) (s : List ℕ) (area : size ≤ length s)
 -- ---- the ring of lengths: a pop
 
 -- a turn of the code: no byte to take, no frame left, a frame taken in part, a frame finished
-pub pop_used : (k size start left done : ℕ) (s : List ℕ) → left ≡ 0 → pop_from k size start left done s ≡ stop done s
+pub pop_used : (k size start left done : ℕ) (s : List ℕ) → left ≡ 0 → pop_from k size start left done s ≡ stop done done s
 unfolding pop_from
 pop_used zero size start left done s h = refl
 pop_used (suc k) size start left done s h = grind (arith, nat_tests)
 
-pub pop_none : (k size start left done : ℕ) (s : List ℕ) → k ≡ 0 → pop_from k size start left done s ≡ stop done s
+pub pop_none : (k size start left done : ℕ) (s : List ℕ) → k ≡ 0 → pop_from k size start left done s ≡ stop done done s
 unfolding pop_from
 pop_none k size start left done s h = rw h
 
 pub pop_part : (k size start left done at : ℕ) (s : List ℕ) → at ≡ wrap size (start + done) → 0 < k → (left ≡ 0 → ⊥) → left < get_or s at 0
-    → pop_from k size start left done s ≡ stop done (set s at (get_or s at 0 - left))
+    → pop_from k size start left done s ≡ stop done (done + 1) (set s at (get_or s at 0 - left))
 unfolding pop_from
 pop_part zero size start left done at s e h n l = absurd (omega arith)
 pop_part (suc k) size start left done at s e h n l = rw (← e) (grind (arith, nat_tests))
@@ -111,6 +117,15 @@ pop_length zero size start left done s = refl
 pop_length (suc k) size start left done s =
     let f = get_or s (wrap size (start + done)) 0 in
     grind (arith, nat_tests, length-set {A = ℕ}, pop_length k size start (left - f) (done + 1) s)
+
+-- no more frames are freed than it comes to, and at most one fewer; and it comes to none past the last: of any store, place and count
+pub came_within : (k size start left done : ℕ) (s : List ℕ)
+    → (let q = pop_from k size start left done s in (q.freed ≤ q.came) × (q.came ≤ q.freed + 1) × (q.came ≤ done + k))
+unfolding pop_from
+came_within zero size start left done s = (omega arith, omega arith, omega arith)
+came_within (suc k) size start left done s =
+    let h = came_within k size start (left - get_or s (wrap size (start + done)) 0) (done + 1) s in
+    (grind (arith, nat_tests, h.0), grind (arith, nat_tests, h.1), grind (arith, nat_tests, h.2))
 
 -- k + 1 frames from place x on, which may be past the end of the area
 module _ (size x k : ℕ) (s : List ℕ) (area : size ≤ length s) (twice : x + k < size + size) (room : k < size) where
@@ -150,18 +165,19 @@ module _ (size x k : ℕ) (s : List ℕ) (area : size ≤ length s) (twice : x +
       (let apart = wrap_apart size x (1 + i) (omega arith) (omega arith) (omega arith) in λ q. apart (omega arith))
       ∙ sym (read_at 0 size (wrap size (x + 1)) k s (omega arith) next (omega arith) i h))
 
--- q, which began with `done` frames finished and k more, has x of these finished and leaves the frames fs
-record Leaves (k size start done : ℕ) (q : Popped) (x : ℕ) (fs : List ℕ) : Type 0 where
+-- q, which began with `done` frames finished and k more, has x of these finished, came to y of them and leaves the frames fs
+record Leaves (k size start done : ℕ) (q : Popped) (x y : ℕ) (fs : List ℕ) : Type 0 where
   freed : q.freed ≡ done + x
+  came : q.came ≡ done + y
   rest : ring_read 0 size (wrap size (start + q.freed)) (done + k - q.freed) q.lengths ≡ fs
 
 leaves : (k size start left done : ℕ) (s : List ℕ) → size ≤ length s → start ≤ size → done + k ≤ size
-    → (let fs = ring_read 0 size (wrap size (start + done)) k s in Leaves k size start done (pop_from k size start left done s) (freed_of fs left) (rest_of fs left))
-unfolding pop_from freed_of rest_of
+    → (let fs = ring_read 0 size (wrap size (start + done)) k s in Leaves k size start done (pop_from k size start left done s) (freed_of fs left) (came_of fs left) (rest_of fs left))
+unfolding pop_from freed_of came_of rest_of
 leaves zero size start left done s area begins room =
     let none : done + 0 - done ≡ 0 = omega arith in
     let empty = read_none 0 size (wrap size (start + done)) s in
-    rw empty (record { freed = omega arith; rest = rw none empty })
+    rw empty (record { freed = omega arith; came = omega arith; rest = rw none empty })
 leaves (suc k) size start left done s area begins room =
     let x = start + done in
     let at = wrap size x in
@@ -170,23 +186,24 @@ leaves (suc k) size start left done s area begins room =
     let cons = read_cons size x k s area (omega arith) (omega arith) in
     rw cons
     (elim (way f left) [
-      | used z e ↦ rw e (record { freed = omega arith; rest = rw all cons })
+      | used z e ↦ rw e (record { freed = omega arith; came = omega arith; rest = rw all cons })
       | part l e t ↦
           let same = get_or-set_same s at (f - left) 0 (omega (arith, here size x k s area (omega arith) (omega arith))) in
           let behind = read_behind size x k s area (omega arith) (omega arith) (f - left) in
           rw (e, t)
           (record {
             freed = omega arith;
+            came = omega arith;
             rest = rw all (read_cons size x k (set s at (f - left)) (simp length-set area) (omega arith) (omega arith) ∙ rw (same, behind) refl);
           })
       | whole l e t ↦
           let on : start + (done + 1) ≡ x + 1 = omega arith in
           let more : done + 1 + k ≡ done + suc k = omega arith in
           let r = rw on at (leaves k size start (left - f) (done + 1) s area begins (omega arith)) in
-          rw (e, t) (record { freed = r.freed ∙ omega arith; rest = rw more at r.rest })
+          rw (e, t) (record { freed = r.freed ∙ omega arith; came = r.came ∙ omega arith; rest = rw more at r.rest })
     ])
 
--- popping from the ring is popping from the list of its frames: the same units are freed, and the same frames are left
+-- popping from the ring is popping from the list of its frames: the same units are freed, the same frames come to, and the same are left
 module _ (frames size start count : ℕ) (s : List ℕ) (area : size ≤ length s) (begins : start ≤ size) (room : frames ≤ size) where
   abbrev waiting : List ℕ
   waiting = ring_read 0 size start frames s
@@ -194,13 +211,16 @@ module _ (frames size start count : ℕ) (s : List ℕ) (area : size ≤ length 
   abbrev after : Popped
   after = popped frames size start count s
 
-  both : Leaves frames size start 0 after (freed_of waiting count) (rest_of waiting count)
+  both : Leaves frames size start 0 after (freed_of waiting count) (came_of waiting count) (rest_of waiting count)
   both =
       let none : start + 0 ≡ start = omega arith in
       rw (none, ← read_wrapped 0 size start frames s (omega arith) begins room) at (leaves frames size start count 0 s area begins (omega arith))
 
   pub pop_freed : after.freed ≡ freed_of waiting count
   pop_freed = both.freed ∙ omega arith
+
+  pub pop_came : after.came ≡ came_of waiting count
+  pop_came = both.came ∙ omega arith
 
   pub pop_rest : ring_read 0 size (wrap size (start + after.freed)) (frames - after.freed) after.lengths ≡ rest_of waiting count
   pop_rest = let all : 0 + frames ≡ frames = omega arith in rw all at both.rest

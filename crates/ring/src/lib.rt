@@ -76,32 +76,48 @@ pub fn push_length(lengths: &mut [u32], start: usize, frames: usize, len: u32)
     lengths[at] = len;
 }
 
-// Takes count bytes from the `frames` frames in the ring of lengths, and returns the units that this frees: one for each
-// frame finished. The length of a frame left unfinished is lowered in place. Lengths may be any, 0 among them. (A loop that is left
-// by break, with the units that it frees: the scope's own form.)
+// What a pop of frames comes to: the units that it frees, one for each frame finished, and the frames that it came to with bytes
+// still to take, the last of which it may have left unfinished.
+#[derive(Clone, Copy)]
+pub struct Turns {
+    pub freed: usize,
+    pub came: usize,
+}
+
+// Takes count bytes from the `frames` frames in the ring of lengths. The length of a frame left unfinished is lowered in place.
+// Lengths may be any, 0 among them. (A loop that is left by break, with the units that it frees: the scope's own form.)
 #[tactic(auto, using(crate::specs::RingLaws::wrap_lt, crate::specs::FrameLaws::pop_used, crate::specs::FrameLaws::pop_none, crate::specs::FrameLaws::pop_part))]
-pub fn pop_frames(lengths: &mut [u32], start: usize, frames: usize, count: usize) -> usize
+pub fn pop_frames(lengths: &mut [u32], start: usize, frames: usize, count: usize) -> Turns
     requires { (start ≤ length lengths.old) × (frames ≤ length lengths.old) }
-    ensures { (popped frames (length lengths.old) start count lengths.old ≡ stop result lengths.new) × (result ≤ frames) }
+    ensures { (popped frames (length lengths.old) start count lengths.old ≡ stop result.freed result.came lengths.new) × (result.freed ≤ frames) × (result.came ≤ frames) }
 {
     let size = lengths.len();
     let mut left = count;
     let mut done: usize = 0;
-    let freed = loop {
+    let turns = loop {
         if left == 0 {
-            break done;
+            break Turns {
+                freed: done,
+                came: done,
+            };
         }
         if done == frames {
-            break done;
+            break Turns {
+                freed: done,
+                came: done, // no frame is left to come to
+            };
         }
         let at = advance(size, start, done);
         let len = lengths[at] as usize;
         if left < len {
             lengths[at] = (len - left) as u32;
-            break done; // unfinished: it keeps its unit
+            break Turns {
+                freed: done, // unfinished: it keeps its unit
+                came: done + 1,
+            };
         }
         left -= len;
         done += 1;
     };
-    freed
+    turns
 }

@@ -28,7 +28,7 @@ use Rattle.runner.specs.Life.{close_runner_input, cancel_answer, cancel_next, la
 use Rattle.runner.specs.Message.{choose, effect, buffer_after, said_for, MessageAfter, message_after, wish, wish_effect}
 use Rattle.runner.specs.Range.{bytes_do, lengths_do, stop, open_stop, fresh}
 use Rattle.runner.specs.State as State
-use Rattle.runner.specs.Streams.{OutputAfter, output_after, output_took, InputAfter, input_after, received, read_allowance_of, discarded_next, closed_next, failed_next, hung_up_next, credit_answer, credit_next, end_answer, end_next, pending_of, written_next, written_lengths}
+use Rattle.runner.specs.Streams.{OutputAfter, output_after, output_took, InputAfter, input_after, received, read_allowance_of, discarded_next, closed_next, failed_next, hung_up_next, credit_answer, credit_next, end_answer, end_next, pending_of, written_next, written_came, written_lengths}
 
 -- ---- answers: what a call gives that meets no stop, or the refusal, which leaves the runner as it was
 
@@ -135,17 +135,19 @@ lent (Err x) = Err x
 unfoldable pub pending_input : Runner → List ℕ → Result (List ℕ) Refusal
 pending_input r store = unless (stop r (bytes_do r.limits store)) (pending_of r store)
 
--- what input_written leaves: its answer with the state, and the length store
+-- what input_written leaves: its answer, the frames come to, with the state, and the length store
 pub record WrittenAfter : Type 0 where
-  pub noting : After (Unit {0})
+  pub counting : After ℕ
   pub lengths : List ℕ
 
-abbrev pub written_after : After (Unit {0}) → List ℕ → WrittenAfter
-written_after n lengths = record { noting = n; lengths = lengths }
+abbrev pub written_after : After ℕ → List ℕ → WrittenAfter
+written_after n lengths = record { counting = n; lengths = lengths }
 
 abbrev pub written_by : Result (Unit {0}) Refusal → Runner → ℕ → List ℕ → WrittenAfter
 written_by (Ok tt) r count lengths =
-    written_after (record { runner = written_next r count lengths; answer = (Ok tt) }) (written_lengths r count lengths)
+    written_after
+    (record { runner = written_next r count lengths; answer = Ok (written_came r count lengths) })
+    (written_lengths r count lengths)
 written_by (Err x) r count lengths = written_after (record { runner = r; answer = Err x }) lengths
 
 unfoldable pub input_written : Runner → ℕ → List ℕ → WrittenAfter

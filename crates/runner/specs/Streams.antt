@@ -185,5 +185,8 @@ pending_of r store = Input.pending_input r.limits r.input store
 unfoldable pub written_next : Runner → ℕ → List ℕ → Runner
 written_next r count lengths = with_input (Input.written_input r.limits r.input count lengths) r
 
+unfoldable pub written_came : Runner → ℕ → List ℕ → ℕ
+written_came r count lengths = Input.written_came r.limits r.input count lengths
+
 unfoldable pub written_lengths : Runner → ℕ → List ℕ → List ℕ
 written_lengths r count lengths = Input.written_lengths r.limits r.input count lengths

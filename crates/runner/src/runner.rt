@@ -314,17 +314,20 @@ impl Runner {
         Ok(self.input.pending(self.limits, store))
     }
 
-    // The workload took so many bytes of its input.
-    #[tactic(auto, unfolding(crate::specs::Calls::input_written, crate::specs::Streams::written_next, crate::specs::Streams::written_lengths, crate::specs::RangeLaws::stop_if), using(crate::proofs::Guards::tested_stop))]
-    pub fn input_written(mut self, lengths: &mut [u32], bytes: usize) -> After<()>
+    // The workload took so many bytes of its input. It answers how many frames of the input this came to with bytes still to take.
+    #[tactic(auto, unfolding(crate::specs::Calls::input_written, crate::specs::Streams::written_next, crate::specs::Streams::written_came, crate::specs::Streams::written_lengths), using(crate::proofs::Guards::tested_stop))]
+    pub fn input_written(mut self, lengths: &mut [u32], bytes: usize) -> After<usize>
         ensures { written_after result lengths.new ≡ input_written self bytes lengths.old }
     {
         let enough = lengths_do(self.limits, lengths.len());
         let good = self.agrees(enough) & self.stands();
-        let answer = self.reply(good);
-        if good {
-            self.input = self.input.written(self.limits, lengths, bytes);
-        }
+        let answer = if good {
+            let writing = self.input.written(self.limits, lengths, bytes);
+            self.input = writing.input;
+            Ok(writing.came as usize)
+        } else {
+            Err(self.stopped())
+        };
         After {
             runner: self,
             answer,
