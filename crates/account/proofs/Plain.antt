@@ -15,7 +15,7 @@ use Rattle.runner.specs.Life.{close_runner_input, cancel_answer, cancel_next, la
 use Rattle.runner.specs.Message.{choose, effect, payload, wish, wish_effect}
 use Rattle.runner.specs.Range.{bytes_do, lengths_do, fresh}
 use Rattle.runner.specs.State.{buffered}
-use Rattle.runner.specs.Streams.{output_taken, output_next, output_store, read_allowance_of, discarded_next, closed_next, failed_next, hung_up_next, credit_answer, credit_next, input_answer, input_next, input_store, input_lengths, end_answer, end_next, pending_of, written_next, written_lengths}
+use Rattle.runner.specs.Streams.{output_taken, output_next, output_store, read_allowance_of, discarded_next, closed_next, failed_next, hung_up_next, credit_answer, credit_next, input_answer, input_next, input_store, input_lengths, end_answer, end_next, pending_of, written_next, written_came, written_lengths}
 use Rattle.calls.specs.Call as Call
 use Rattle.calls.specs.Call.{Conf, Call, Answer, Done}
 use Rattle.account.specs.Step.{State, received_as, asks, on_runner}
@@ -77,7 +77,7 @@ answer s (Call.discarded x n) = Call.Ok
 answer s (Call.output_closed x) = Call.Ok
 answer s (Call.output_failed x) = Call.Ok
 answer s (Call.output_hung_up x) = Call.Ok
-answer s (Call.input_written n) = Call.Ok
+answer s (Call.input_written n) = Call.Came (written_came s.runner n s.lengths)
 answer s Call.input_closed = Call.Ok
 answer s (Call.exited now x) = Call.Ok
 answer s (Call.settled x) = Call.Ok

@@ -8,7 +8,7 @@ use Rattle.exec.specs.declared.Stream.{Stream}
 use Rattle.exec.specs.Each.{Each, one, on_one, alike, both, every}
 use Rattle.exec.specs.Key.{admits}
 use Rattle.exec.specs.Time.{after, then, earliest, due, timeout_at}
-use Rattle.calls.specs.Call.{Conf, Done, Call, key, limits, credit, input, end_input, cancel, launched, read_allowance, output, discarded, output_closed, output_failed, output_hung_up, pending_input, input_written, input_closed, exited, settled, dropped, reset, disconnect, tick, deadline, next_request, next_message, is_finished, is_detached, awaits_settlement, memory_bound, buffered, high_water, Answer, Ok, Applied, Stale, Late, Refused, Taken, Pending, Value, Time, Truth, Asks, Says, IsKey, AreLimits, Nothing, is_refused, count, Message, Credit, Started, Output, End, InputClosed, Terminal}
+use Rattle.calls.specs.Call.{Conf, Done, Call, key, limits, credit, input, end_input, cancel, launched, read_allowance, output, discarded, output_closed, output_failed, output_hung_up, pending_input, input_written, input_closed, exited, settled, dropped, reset, disconnect, tick, deadline, next_request, next_message, is_finished, is_detached, awaits_settlement, memory_bound, buffered, high_water, Answer, Ok, Applied, Stale, Late, Refused, Taken, Came, Pending, Value, Time, Truth, Asks, Says, IsKey, AreLimits, Nothing, is_refused, count, Message, Credit, Started, Output, End, InputClosed, Terminal}
 
 -- Where the settlement stands, by what was reported and what time has passed.
 pub data Settling : Type 0 where
@@ -283,6 +283,7 @@ hear Stale a = a
 hear Late a = a
 hear (Refused n) a = a
 hear (Taken n) a = a
+hear (Came n) a = a
 hear (Pending b) a = a
 hear (Value n) a = a
 hear (Time d) a = a

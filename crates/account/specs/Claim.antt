@@ -6,7 +6,7 @@ use Rattle.exec.specs.declared.Outcome.{Outcome}
 use Rattle.exec.specs.declared.Stream.{Stream}
 use Rattle.exec.specs.Outcome.{is_truncated}
 use Rattle.runner.specs.Calls as Calls
-use Rattle.calls.specs.Call.{Conf, Done, Call, key, limits, credit, input, end_input, cancel, launched, read_allowance, output, discarded, output_closed, output_failed, output_hung_up, pending_input, input_written, input_closed, exited, settled, dropped, reset, disconnect, tick, deadline, next_request, next_message, is_finished, is_detached, awaits_settlement, memory_bound, buffered, high_water, Answer, Ok, Applied, Stale, Late, Refused, Taken, Pending, Value, Time, Truth, Asks, Says, IsKey, AreLimits, Nothing, Message, Credit, Started, Output, End, InputClosed, Terminal}
+use Rattle.calls.specs.Call.{Conf, Done, Call, key, limits, credit, input, end_input, cancel, launched, read_allowance, output, discarded, output_closed, output_failed, output_hung_up, pending_input, input_written, input_closed, exited, settled, dropped, reset, disconnect, tick, deadline, next_request, next_message, is_finished, is_detached, awaits_settlement, memory_bound, buffered, high_water, Answer, Ok, Applied, Stale, Late, Refused, Taken, Came, Pending, Value, Time, Truth, Asks, Says, IsKey, AreLimits, Nothing, Message, Credit, Started, Output, End, InputClosed, Terminal}
 use Rattle.account.specs.Step.{next, answer, opened, after, run}
 use Rattle.account.specs.Account.{Account, start, account, tally_of, cut, tick_a}
 
@@ -24,6 +24,7 @@ is_message Stale = false
 is_message Late = false
 is_message (Refused n) = false
 is_message (Taken n) = false
+is_message (Came n) = false
 is_message (Pending b) = false
 is_message (Value n) = false
 is_message (Time d) = false
@@ -49,6 +50,7 @@ is_terminal Stale = false
 is_terminal Late = false
 is_terminal (Refused n) = false
 is_terminal (Taken n) = false
+is_terminal (Came n) = false
 is_terminal (Pending b) = false
 is_terminal (Value n) = false
 is_terminal (Time d) = false
@@ -113,6 +115,7 @@ is_stop Stale = false
 is_stop Late = false
 is_stop (Refused n) = (eqb n 10 || eqb n 11) || eqb n 12
 is_stop (Taken n) = false
+is_stop (Came n) = false
 is_stop (Pending b) = false
 is_stop (Value n) = false
 is_stop (Time d) = false

@@ -7,7 +7,7 @@ use Rattle.exec.specs.Limits.{input_bytes}
 use Rattle.ring.specs.Ring.{ring_read}
 use Rattle.inbox.specs.Inbox.{inbox_base}
 use Rattle.input.specs.declared.Input.{Input}
-use Rattle.calls.specs.Call.{Conf, Done, Call, key, limits, credit, input, end_input, cancel, launched, read_allowance, output, discarded, output_closed, output_failed, output_hung_up, pending_input, input_written, input_closed, exited, settled, dropped, reset, disconnect, tick, deadline, next_request, next_message, is_finished, is_detached, awaits_settlement, memory_bound, buffered, high_water, Answer, Ok, Applied, Stale, Late, Refused, Taken, Pending, Value, Time, Truth, Asks, Says, IsKey, AreLimits, Nothing}
+use Rattle.calls.specs.Call.{Conf, Done, Call, key, limits, credit, input, end_input, cancel, launched, read_allowance, output, discarded, output_closed, output_failed, output_hung_up, pending_input, input_written, input_closed, exited, settled, dropped, reset, disconnect, tick, deadline, next_request, next_message, is_finished, is_detached, awaits_settlement, memory_bound, buffered, high_water, Answer, Ok, Applied, Stale, Late, Refused, Taken, Came, Pending, Value, Time, Truth, Asks, Says, IsKey, AreLimits, Nothing}
 use Rattle.account.specs.Step.{State, next, answer, opened}
 use Rattle.account.specs.Claim.{IsPrefix}
 use Rattle.account.specs.Records.{Entry, after_entries, run_entries, calls_of, dones_of}
@@ -19,6 +19,7 @@ is_applied Stale = false
 is_applied Late = false
 is_applied (Refused n) = false
 is_applied (Taken n) = false
+is_applied (Came n) = false
 is_applied (Pending b) = false
 is_applied (Value n) = false
 is_applied (Time d) = false

@@ -106,6 +106,7 @@ is_untaken Call.Stale = false
 is_untaken Call.Late = false
 is_untaken (Call.Refused n) = eqb n 40
 is_untaken (Call.Taken n) = false
+is_untaken (Call.Came n) = false
 is_untaken (Call.Pending b) = false
 is_untaken (Call.Value n) = false
 is_untaken (Call.Time d) = false

@@ -41,6 +41,10 @@ received_as = answered receipt_of
 abbrev pub took : Result ℕ Refusal → Answer
 took = answered Call.Taken
 
+-- of input_written: the frames come to
+abbrev pub came : Result ℕ Refusal → Answer
+came = answered Call.Came
+
 abbrev pub counts : Result ℕ Refusal → Answer
 counts = answered Call.Value
 
@@ -117,7 +121,7 @@ next s (Call.output_failed x) = on_runner (Calls.output_failed s.runner x).runne
 next s (Call.output_hung_up x) = on_runner (Calls.output_hung_up s.runner x).runner s
 next s Call.pending_input = s
 next s (Call.input_written n) = record {
-  runner = (Calls.input_written s.runner n s.lengths).noting.runner;
+  runner = (Calls.input_written s.runner n s.lengths).counting.runner;
   bytes = s.bytes;
   lengths = (Calls.input_written s.runner n s.lengths).lengths;
 }
@@ -153,7 +157,7 @@ answer s (Call.output_closed x) = replied (Calls.output_closed s.runner x).answe
 answer s (Call.output_failed x) = replied (Calls.output_failed s.runner x).answer
 answer s (Call.output_hung_up x) = replied (Calls.output_hung_up s.runner x).answer
 answer s Call.pending_input = waits (Calls.pending_input s.runner s.bytes)
-answer s (Call.input_written n) = replied (Calls.input_written s.runner n s.lengths).noting.answer
+answer s (Call.input_written n) = came (Calls.input_written s.runner n s.lengths).counting.answer
 answer s Call.input_closed = replied (Calls.input_closed s.runner).answer
 answer s (Call.exited now x) = replied (Calls.exited s.runner now x).answer
 answer s (Call.settled x) = replied (Calls.settled s.runner x).answer

@@ -7,7 +7,7 @@ use Rattle.exec.specs.Limits.{cost}
 use Rattle.inbox.specs.Inbox.{inbox_held}
 use Rattle.input.specs.declared.Input.{Input}
 use Rattle.runner.specs.declared.runner.Runner.{Runner}
-use Rattle.calls.specs.Call.{Conf, Call, key, limits, credit, input, end_input, cancel, launched, read_allowance, output, discarded, output_closed, output_failed, output_hung_up, pending_input, input_written, input_closed, exited, settled, dropped, reset, disconnect, tick, deadline, next_request, next_message, is_finished, is_detached, awaits_settlement, memory_bound, buffered, high_water, Answer, Ok, Applied, Stale, Late, Refused, Taken, Pending, Value, Time, Truth, Asks, Says, IsKey, AreLimits, Nothing}
+use Rattle.calls.specs.Call.{Conf, Call, key, limits, credit, input, end_input, cancel, launched, read_allowance, output, discarded, output_closed, output_failed, output_hung_up, pending_input, input_written, input_closed, exited, settled, dropped, reset, disconnect, tick, deadline, next_request, next_message, is_finished, is_detached, awaits_settlement, memory_bound, buffered, high_water, Answer, Ok, Applied, Stale, Late, Refused, Taken, Came, Pending, Value, Time, Truth, Asks, Says, IsKey, AreLimits, Nothing}
 use Rattle.account.specs.Step.{State, next, answer, opened}
 use Rattle.account.specs.Claim.{is_terminal}
 use Rattle.account.specs.Records.{Entry, after_entries, run_entries, calls_of}
@@ -23,6 +23,7 @@ is_late Stale = false
 is_late Late = true
 is_late (Refused n) = false
 is_late (Taken n) = false
+is_late (Came n) = false
 is_late (Pending b) = false
 is_late (Value n) = false
 is_late (Time d) = false

@@ -16,6 +16,7 @@ answer_is Answer.Stale work = Call.Stale
 answer_is Answer.Late work = Call.Late
 answer_is (Answer.Refused x) work = Call.Refused (number x)
 answer_is (Answer.Taken n) work = Call.Taken n
+answer_is (Answer.Came n) work = Call.Came n
 answer_is (Answer.Pending n) work = Call.Pending (take n work)
 answer_is (Answer.Value n) work = Call.Value n
 answer_is (Answer.Time d) work = Call.Time d

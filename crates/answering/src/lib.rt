@@ -7,6 +7,7 @@ ghost use Rattle.account.specs.Step.{
   answered,
   receipt_of,
   took,
+  came,
   request_of,
   maybe_request_of,
   message_of,
@@ -31,6 +32,7 @@ pub enum Answer {
     // (No Err: a refused line is answered as any other, and the session goes on.)
     Refused(Refusal),
     Taken(usize),
+    Came(usize),
     Pending(usize),
     Value(usize),
     Time(Option<u64>),
@@ -129,14 +131,17 @@ impl<T: IntoAnswer> From<Result<T, Refusal>> for Answer {
     }
 }
 
-// (Not by the trait: there a number is a value.)
+// Of output and of input_written. (Not by the trait: there a number is a value.)
 pub fn taken(taken: Result<usize, Refusal>) -> Answer
     ensures { AnswerIs result (λ w. took taken) }
 {
-    match taken {
-        Ok(n) => Answer::Taken(n),
-        Err(x) => Answer::Refused(x),
-    }
+    taken.map_or_else(Answer::Refused, Answer::Taken)
+}
+
+pub fn came(frames: Result<usize, Refusal>) -> Answer
+    ensures { AnswerIs result (λ w. came frames) }
+{
+    frames.map_or_else(Answer::Refused, Answer::Came)
 }
 
 // ---- an answer
@@ -181,6 +186,7 @@ fn put_answer(answer: Answer, work: &[u8], out: &mut Text<'_>)
         Answer::Late => out.alone(b"Late"),
         Answer::Refused(x) => out.with(b"refused", x.number()),
         Answer::Taken(n) => out.with(b"taken", n),
+        Answer::Came(n) => out.with(b"ok", n),
         Answer::Pending(n) => out.with_bytes(b"pending", first(work, n)),
         Answer::Value(n) => out.with(b"value", n),
         Answer::Time(None) => out.alone(b"none"),

@@ -108,6 +108,7 @@ pub data Answer : Type 0 where
   Late : Answer
   Refused : (number : ℕ) → Answer
   Taken : (count : ℕ) → Answer
+  Came : (frames : ℕ) → Answer
   Pending : (bytes : List ℕ) → Answer
   Value : ℕ → Answer
   Time : Option ℕ → Answer
@@ -126,6 +127,7 @@ is_refused Stale = false
 is_refused Late = false
 is_refused (Refused n) = true
 is_refused (Taken n) = false
+is_refused (Came n) = false
 is_refused (Pending b) = false
 is_refused (Value n) = false
 is_refused (Time d) = false
@@ -144,6 +146,7 @@ refused_is Stale e = absurd (false≢true e)
 refused_is Late e = absurd (false≢true e)
 refused_is (Refused n) e = (n, refl)
 refused_is (Taken n) e = absurd (false≢true e)
+refused_is (Came n) e = absurd (false≢true e)
 refused_is (Pending b) e = absurd (false≢true e)
 refused_is (Value n) e = absurd (false≢true e)
 refused_is (Time d) e = absurd (false≢true e)
@@ -162,6 +165,7 @@ count Stale = 0
 count Late = 0
 count (Refused n) = 0
 count (Taken n) = n
+count (Came n) = 0
 count (Pending b) = 0
 count (Value n) = 0
 count (Time d) = 0

@@ -147,7 +147,7 @@ edge5 : (closed.input.window.open ≡ 8)
 unfolding closed sent
 edge5 = (refl, refl, refl)
 
--- (6) "Frames of 3 and 2 bytes, pop 4: 1 freed, 1 byte left"
+-- (6) "Frames of 3 and 2 bytes, pop 4: 1 freed, 1 byte left"; it came to both frames
 abbrev frame3 : InputAfter
 frame3 = sent (granted in_frames) (1 ∷ 2 ∷ 3 ∷ [])
 
@@ -155,14 +155,15 @@ abbrev frame2 : InputAfter
 frame2 = Calls.input frame3.hearing.runner own (4 ∷ 5 ∷ []) frame3.bytes frame3.lengths
 
 written : WrittenAfter
-unfolding sent Calls.input_written Streams.written_next Streams.written_lengths Input.written_input Input.written_lengths pop_from
+unfolding sent Calls.input_written Streams.written_next Streams.written_came Streams.written_lengths Input.written_input Input.written_came Input.written_lengths pop_from
 written = Calls.input_written frame2.hearing.runner 4 frame2.lengths
 
 edge6 : (frame2.hearing.runner.input.window.returnable ≡ 0)
-    × (written.noting.runner.input.window.returnable ≡ 1)
-    × (Calls.pending_input written.noting.runner frame2.bytes ≡ Ok (5 ∷ []))
+    × (written.counting.runner.input.window.returnable ≡ 1)
+    × (written.counting.answer ≡ Ok 2)
+    × (Calls.pending_input written.counting.runner frame2.bytes ≡ Ok (5 ∷ []))
 unfolding written Calls.pending_input Streams.pending_of Input.pending_input front
-edge6 = (refl, refl, refl)
+edge6 = (refl, refl, refl, refl)
 
 -- (7) "Shared: Stdout is Pool"
 edge7 : credited (opened (shared_output in_bytes)) Stdout 3 ≡ heard (opened (shared_output in_bytes)) (Err Refusal.Pool)
@@ -225,10 +226,10 @@ abbrev overwritten : WrittenAfter
 overwritten = Calls.input_written frame44.hearing.runner 2 (1 ∷ 4 ∷ [])
 
 abbrev beyond : Runner
-beyond = overwritten.noting.runner
+beyond = overwritten.counting.runner
 
 foreign : (frame44.lengths ≡ 4 ∷ 4 ∷ [])
-    × (overwritten.noting.answer ≡ Ok tt)
+    × (overwritten.counting.answer ≡ Ok 2)
     × (beyond.input.inbox.frames ≡ 1)
     × (beyond.input.inbox.length ≡ 6)
     × (Calls.tick beyond 0 ≡ record { runner = beyond; answer = Err Refusal.StateOutOfRange })

@@ -31,10 +31,10 @@ use Rattle.runner.specs.Life.{awaits_launch, is_cleaned_up, close_runner_input, 
 use Rattle.runner.specs.Message.{MessageAfter, sendable_of, choose, output_paid, output_sent, effect, payload, buffer_after, said_for, wish, wish_effect}
 use Rattle.runner.specs.Range.{in_range, stop, bytes_do, lengths_do}
 use Rattle.runner.specs.State.{at, out_of}
-use Rattle.runner.specs.Streams.{InputAfter, is_shut, room, received, output_took, output_taken, output_next, output_store, read_allowance_of, discarded_next, closed_next, failed_next, hung_up_next, credit_in, credit_answer, credit_next, input_answer, input_next, input_store, input_lengths, end_answer, end_next, pending_of, written_next, written_lengths}
+use Rattle.runner.specs.Streams.{InputAfter, is_shut, room, received, output_took, output_taken, output_next, output_store, read_allowance_of, discarded_next, closed_next, failed_next, hung_up_next, credit_in, credit_answer, credit_next, input_answer, input_next, input_store, input_lengths, end_answer, end_next, pending_of, written_next, written_came, written_lengths}
 use Rattle.calls.specs.Call as Call
 use Rattle.calls.specs.Call.{Call, Answer}
-use Rattle.account.specs.Step.{State, on_runner, next, answer, replied, received_as, took, asks, fires, waits}
+use Rattle.account.specs.Step.{State, on_runner, next, answer, replied, received_as, took, came, asks, fires, waits}
 use Rattle.idle.proofs.Calm.{Sees, unless, abandon_shown, calm, calm_s, plain, still, clean_awaits, moot_awaits, put_clean, put_moot, settle_sees}
 use Rattle.idle.proofs.Passes.{tick_sees, cancel_sees, cancel_shows, exited_sees, detach_sees}
 
@@ -204,8 +204,8 @@ module _ (s : State) where
   taken (Err z) x b = getting (Call.Refused _)
 
   handed_over : (p : Result (Unit {0}) Refusal) (n : ℕ) → (let y = written_by p (calm r) n s.lengths in let z = written_by p r n s.lengths in
-      Alike (record { runner = y.noting.runner; bytes = s.bytes; lengths = y.lengths }) (replied y.noting.answer) (record { runner = z.noting.runner; bytes = s.bytes; lengths = z.lengths }) (replied z.noting.answer))
-  unfolding written_next written_lengths
+      Alike (record { runner = y.counting.runner; bytes = s.bytes; lengths = y.lengths }) (came y.counting.answer) (record { runner = z.counting.runner; bytes = s.bytes; lengths = z.lengths }) (came z.counting.answer))
+  unfolding written_next written_came written_lengths
   handed_over (Ok tt) n = record {
     left = ap (λ (z : Runner). record { runner = z; bytes = s.bytes; lengths = written_lengths r n s.lengths }) (plain r (written_next r n s.lengths) refl refl (λ e. e) (λ e. e));
     answered = refl;

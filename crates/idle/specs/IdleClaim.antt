@@ -46,6 +46,7 @@ deadline_in Call.Stale = None
 deadline_in Call.Late = None
 deadline_in (Call.Refused n) = None
 deadline_in (Call.Taken n) = None
+deadline_in (Call.Came n) = None
 deadline_in (Call.Pending b) = None
 deadline_in (Call.Value n) = None
 deadline_in (Call.Time d) = d

@@ -4,4 +4,5 @@ pub mod Inbox
 pub mod Range
 pub mod Need
 pub mod RangeLaws
+pub mod PopLaws
 pub mod Edges

@@ -58,11 +58,11 @@ output_kept r x bytes store = by (stop r (bytes_do r.limits store))
     by (Ok tt) = refl
     by (Err z) = refl
 
-pub written_kept : (r : Runner) (count : ℕ) (lengths : List ℕ) → (input_written r count lengths).noting.runner ≡ with_input (input_written r count lengths).noting.runner.input r
+pub written_kept : (r : Runner) (count : ℕ) (lengths : List ℕ) → (input_written r count lengths).counting.runner ≡ with_input (input_written r count lengths).counting.runner.input r
 unfolding input_written written_next
 written_kept r count lengths = by (stop r (lengths_do r.limits lengths))
   where
-    by : (x : Result (Unit {0}) Refusal) → (written_by x r count lengths).noting.runner ≡ with_input (written_by x r count lengths).noting.runner.input r
+    by : (x : Result (Unit {0}) Refusal) → (written_by x r count lengths).counting.runner ≡ with_input (written_by x r count lengths).counting.runner.input r
     by (Ok tt) = refl
     by (Err x) = refl
 

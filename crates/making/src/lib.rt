@@ -83,10 +83,10 @@ fn output(runner: &mut Runner, stream: Stream, n: usize, store: &mut [u8], work:
 fn input_written(runner: &mut Runner, lengths: &mut [u32], n: usize) -> Answer
     ensures { (bytes work : List ℕ) → Made (state_of runner.old bytes lengths.old) (Calls.input_written n) runner.new result bytes lengths.new work }
 {
-    let noting = runner.input_written(lengths, n);
-    let next = noting.runner;
+    let counting = runner.input_written(lengths, n);
+    let next = counting.runner;
     runner.input = next.input;
-    noting.answer.into()
+    answering::came(counting.answer)
 }
 
 // n zeros at the start of work.

@@ -77,6 +77,7 @@ answer_text Call.Stale = word (bytes "Stale")
 answer_text Call.Late = word (bytes "Late")
 answer_text (Call.Refused n) = counted (bytes "refused") n
 answer_text (Call.Taken n) = counted (bytes "taken") n
+answer_text (Call.Came n) = counted (bytes "ok") n
 answer_text (Call.Pending bs) = filled (bytes "pending") bs
 answer_text (Call.Value n) = counted (bytes "value") n
 answer_text (Call.Time d) = time_text d

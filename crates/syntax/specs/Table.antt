@@ -67,8 +67,10 @@ other_prints : (prints 2 Call.Stale ≡ bytes "2,Stale,-,-\n")
     × (prints 12 (Call.Asks (Call.Discard Stderr)) ≡ bytes "12,Discard,Stderr,-\n")
     × (prints 13 (Call.Asks Call.CloseInput) ≡ bytes "13,CloseInput,-,-\n")
     × (prints 14 (Call.Asks Call.Settle) ≡ bytes "14,Settle,-,-\n")
+    × (prints 15 (Call.Came 2) ≡ bytes "15,ok,2,-\n")
+    × (prints 16 (Call.Came 0) ≡ bytes "16,ok,0,-\n")
 unfolding prints
-other_prints = (refl, refl, refl, refl, refl, refl, refl, refl, refl, refl, refl, refl, refl)
+other_prints = (refl, refl, refl, refl, refl, refl, refl, refl, refl, refl, refl, refl, refl, refl, refl)
 
 -- no lines of the card: a leading blank, a plus, a trailing comma, an uppercase or odd hexadecimal, a missing or empty number, one
 -- past its type, a name in other letters, a message too long, the names that the card does not have
