@@ -39,7 +39,7 @@ impl Session {
         }
         Ok(Self {
             runner: Runner::new(open.key, limits, timers(&open), at(open.now)),
-            ring: Ring::new(area as usize),
+            ring: Ring::new(area as usize, lengths > 0),
             as_ring,
         })
     }
@@ -76,8 +76,9 @@ impl Session {
             Call::OutputHungUp(stream) => ok(runner.output_hung_up(stream), answers),
             Call::PendingInput => self.pending(answers),
             Call::InputWritten(count) => {
-                self.ring.pop(count);
-                ok(runner.input_written(count), answers);
+                let came = self.ring.pop(count);
+                runner.input_written(count);
+                counted("ok,", came, answers);
             }
             Call::InputClosed => ok(runner.input_closed(), answers),
             Call::Exited(now, status) => ok(runner.exited(at(now), status), answers),
