@@ -16,7 +16,7 @@ pub record Turns (u : Units.Unit) (size n : ℕ) (b : Inbox) (lengths : List ℕ
   pub most : came_by u size n b lengths ≤ freed_by u size n b lengths + 1
   pub least : u ≡ Frames → freed_by u size n b lengths ≤ came_by u size n b lengths
   -- and so of the frames that are left
-  pub left : came_by u size n b lengths + frames_popped u (freed_by u size n b lengths) b.frames ≤ b.frames + 1
+  pub left : came_by u size n b lengths + frames_popped u (freed_by u size n b lengths) b.frames ≤ b.frames + min (came_by u size n b lengths) 1
 
 pub turns : (u : Units.Unit) (size n : ℕ) (b : Inbox) (lengths : List ℕ) → Turns u size n b lengths
 turns Bytes size n b lengths = record { none = λ e. refl; frames = omega arith; most = omega arith; least = λ e. cc; left = omega arith }

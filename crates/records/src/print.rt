@@ -83,6 +83,16 @@ impl Given for usize {
 }
 
 // How many bytes, and the bytes.
+// The frames that a write of the input came to: no bytes that were taken.
+#[derive(Clone, Copy)]
+pub(crate) struct Came(pub(crate) usize);
+
+impl Given for Came {
+    fn put<W: fmt::Write>(&self, f: &mut fmt::Formatter<W>) -> fmt::Result {
+        write!(f, "ok {}", self.0)
+    }
+}
+
 impl Given for &[u8] {
     fn put<W: fmt::Write>(&self, f: &mut fmt::Formatter<W>) -> fmt::Result {
         write!(f, "{},{}", self.len(), Hex(self))

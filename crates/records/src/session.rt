@@ -1,5 +1,5 @@
 // The steps of a session: each makes one call and writes it as a line.
-use crate::print::{Answer, Ended, Given, Hex};
+use crate::print::{Answer, Came, Ended, Given, Hex};
 use channel::calls::{read_record, write_record};
 use codec::Record;
 use exec::{Key, Limits, Settlement, Status, Stream, Timers, Window};
@@ -122,9 +122,12 @@ impl<'a, W: Write> Session<'a, W> {
         let waiting = self.runner.pending_input(store);
         writeln!(self.to, "pending,{}", Answer(waiting))?;
         let mut lengths = [0u32; 2];
-        self.step(
-            "input_written,2",
-            self.runner.input_written(&mut lengths, 2),
+        let counting = self.runner.input_written(&mut lengths, 2);
+        self.runner = counting.runner;
+        writeln!(
+            self.to,
+            "input_written,2,{}",
+            Answer(counting.answer.map(Came))
         )
     }
 

@@ -61,6 +61,19 @@ unfolding freed_of came_of
 came_finished [] n = (omega arith, omega arith, omega arith)
 came_finished (f ∷ fs) n = let h = came_finished fs (n - f) in (grind (arith, nat_tests, h.0), grind (arith, nat_tests, h.1), grind (arith, nat_tests, h.2))
 
+-- and it comes to a frame exactly where the frames before it hold fewer bytes than are to be taken: some are left when it is there
+pub came_before : (fs : List ℕ) (n i : ℕ) → i < came_of fs n → sum (take i fs) < n
+unfolding came_of
+came_before [] n i h = absurd (omega arith)
+came_before (f ∷ fs) n zero h = grind (arith, nat_tests, h)
+came_before (f ∷ fs) n (suc i) h = grind (arith, nat_tests, h, came_before fs (n - f) i)
+
+pub came_all : (fs : List ℕ) (n i : ℕ) → i < length fs → sum (take i fs) < n → i < came_of fs n
+unfolding came_of
+came_all [] n i l h = absurd (omega arith)
+came_all (f ∷ fs) n zero l h = grind (arith, nat_tests, h)
+came_all (f ∷ fs) n (suc i) l h = grind (arith, nat_tests, h, came_all fs (n - f) i (omega arith))
+
 -- ---- the ring of lengths: a push
 
 module _ (size start frames len : ℕ) (s : List ℕ) (area : size ≤ length s) (begins : start ≤ size) (room : frames < size) where

@@ -1,0 +1,4 @@
+-- Why a pop comes to no more frames than is claimed, and sessions that are computed.
+pub mod Writes
+pub mod Sums
+pub mod Session

@@ -1,0 +1,63 @@
+-- What a write of the workload's input costs: how many frames its pop comes to with bytes still to take, in one call, whatever the
+-- state, and over every list of calls and records.
+use Rattle.std.specs.Prelude.{true, cond, ◌≡◌, List, [], ◌∷◌, ℕ, ◌+◌, ◌-◌, ◌≤◌, eqb}
+use Rattle.exec.specs.declared.Unit.TheVariants.{Bytes, Frames}
+use Rattle.inbox.specs.Inbox.{pop_came}
+use Rattle.calls.specs.Call.{Conf, Done, Call, input, input_written, Answer, Came}
+use Rattle.account.specs.Step.{State, next, answer, opened}
+use Rattle.account.specs.InputClaim.{is_applied}
+use Rattle.account.specs.Records.{Entry, after_entries, run_entries, dones_of}
+
+-- ONE CALL, of any state and store of lengths, foreign ones too: n bytes written, answered by m
+pub record Write (s : State) (n m : ℕ) : Type 0 where
+  -- 0 for a count of 0, a byte window, or a closed input
+  pub none : n ≡ 0 → m ≡ 0
+  pub bytes : s.runner.limits.input.unit ≡ Bytes → m ≡ 0
+  pub closed : s.runner.input.closed ≡ true → m ≡ 0
+  -- never above the units that it frees plus 1; in frames it comes to each that it frees
+  pub freed : (f : ℕ) × ((next s (input_written n)).runner.input.window.returnable ≡ s.runner.input.window.returnable + f)
+      × (m ≤ f + 1) × (s.runner.limits.input.unit ≡ Frames → f ≤ m)
+  -- nor above the frames that wait
+  pub frames : m ≤ s.runner.input.inbox.frames
+
+abbrev pub Writes : Type 0
+Writes = (s : State) (n m : ℕ) → answer s (input_written n) ≡ Came m → Write s n m
+
+-- ---- over a list, by its calls and their answers
+
+-- the frames that a call came to
+abbrev pub came_of : Answer → ℕ
+came_of (Came n) = n
+came_of _ = 0
+
+-- one for a message of input that is applied
+abbrev pub frame_of : Call → Answer → ℕ
+frame_of (input k b) a = cond (is_applied a) 1 0
+frame_of _ a = 0
+
+-- one for a write that came to a frame
+abbrev pub write_of : Answer → ℕ
+write_of a = cond (eqb (came_of a) 0) 0 1
+
+abbrev pub came : List Done → ℕ
+came [] = 0
+came (d ∷ ds) = came_of d.answer + came ds
+
+abbrev pub frames : List Done → ℕ
+frames [] = 0
+frames (d ∷ ds) = frame_of d.call d.answer + frames ds
+
+abbrev pub writes : List Done → ℕ
+writes [] = 0
+writes (d ∷ ds) = write_of d.answer + writes ds
+
+-- THE BUDGET, for a runner that open answered ok, stores of any content, and every list of calls and records
+pub record Budget (conf : Conf) (now : ℕ) (bytes lengths : List ℕ) : Type 0 where
+  -- a closed input holds no byte, so that a pop of it would come to no frame, whatever its count
+  pub emptied : (es : List Entry) → let r = (after_entries (opened conf now bytes lengths) es).runner in
+      r.input.closed ≡ true → r.input.inbox.length ≡ 0
+  pub nothing : (es : List Entry) (count : ℕ) → let s = after_entries (opened conf now bytes lengths) es in
+      s.runner.input.closed ≡ true → pop_came s.runner.limits s.runner.input.inbox count s.lengths ≡ 0
+  -- all writes together come to no more frames than were applied, and one more for each write that came to one, but the first
+  pub all : (es : List Entry) → let ds = dones_of conf (run_entries (opened conf now bytes lengths) es) in
+      came ds ≤ frames ds + (writes ds - 1)

@@ -1,0 +1,2 @@
+-- What a write of the workload's input costs.
+pub mod BudgetClaim
