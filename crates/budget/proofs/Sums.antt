@@ -15,7 +15,7 @@ use Rattle.exec.specs.declared.Unit as Units
 use Rattle.exec.specs.declared.Unit.TheVariants.{Bytes, Frames}
 use Rattle.exec.specs.Key.{admits}
 use Rattle.inbox.specs.Inbox.{frames_pushed}
-use Rattle.inbox.specs.PopLaws.{came_none}
+use Rattle.inbox.specs.PopLaws.{popped}
 use Rattle.input.specs.declared.Input.{Input}
 use Rattle.input.specs.Input as In
 use Rattle.input.specs.Input.{receive_answer, receive_input, off_window, close_when_taken, is_used_up, peer_ends, end_input, written_input, written_came}
@@ -140,7 +140,7 @@ written_goes : (l : Limits) (i : Input) (n : ℕ) (lengths : List ℕ) → Goes 
 unfolding written_input
 written_goes l i n lengths =
     let w = written l i n lengths in
-    record { most = w.frames; left = omega (arith, w.left); emptied = emptied_if i (In.pop_in l n lengths i) i.closed refl refl }
+    record { most = w.write.frames; left = omega (arith, w.left); emptied = emptied_if i (In.pop_in l n lengths i) i.closed refl refl }
 
 -- ---- messages and requests
 
@@ -212,6 +212,6 @@ module _ (conf : Conf) (now : ℕ) (bytes lengths : List ℕ) (op : Opens conf n
   pub budget : Budget conf now bytes lengths
   budget = record {
     emptied = emptied_at;
-    nothing = λ es count c. (let s = after_entries o es in came_none s.runner.limits s.runner.input.inbox count s.lengths (omega (arith, emptied_at es c)));
+    nothing = λ es count c. (let s = after_entries o es in (popped s.runner.limits s.runner.input.inbox count s.lengths).none (omega (arith, emptied_at es c)));
     all = λ es. rw (same_dones conf es o (good_open conf now bytes lengths op)) (come_calls (calls_of conf (run_entries o es)));
   }

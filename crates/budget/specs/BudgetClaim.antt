@@ -1,27 +1,31 @@
 -- What a write of the workload's input costs: how many frames its pop comes to with bytes still to take, in one call, whatever the
 -- state, and over every list of calls and records.
 use Rattle.std.specs.Prelude.{true, cond, ◌≡◌, List, [], ◌∷◌, ℕ, ◌+◌, ◌-◌, ◌≤◌, eqb}
+use Rattle.exec.specs.declared.Limits.{Limits}
 use Rattle.exec.specs.declared.Unit.TheVariants.{Bytes, Frames}
 use Rattle.inbox.specs.Inbox.{pop_came}
+use Rattle.input.specs.declared.Input.{Input}
 use Rattle.calls.specs.Call.{Conf, Done, Call, input, input_written, Answer, Came}
 use Rattle.account.specs.Step.{State, next, answer, opened}
 use Rattle.account.specs.InputClaim.{is_applied}
 use Rattle.account.specs.Records.{Entry, after_entries, run_entries, dones_of}
 
--- ONE CALL, of any state and store of lengths, foreign ones too: n bytes written, answered by m
-pub record Write (s : State) (n m : ℕ) : Type 0 where
+-- what holds of a write of n bytes that is answered by m, and leaves the input i'
+pub record Write (l : Limits) (i i' : Input) (n m : ℕ) : Type 0 where
   -- 0 for a count of 0, a byte window, or a closed input
   pub none : n ≡ 0 → m ≡ 0
-  pub bytes : s.runner.limits.input.unit ≡ Bytes → m ≡ 0
-  pub closed : s.runner.input.closed ≡ true → m ≡ 0
+  pub bytes : l.input.unit ≡ Bytes → m ≡ 0
+  pub closed : i.closed ≡ true → m ≡ 0
   -- never above the units that it frees plus 1; in frames it comes to each that it frees
-  pub freed : (f : ℕ) × ((next s (input_written n)).runner.input.window.returnable ≡ s.runner.input.window.returnable + f)
-      × (m ≤ f + 1) × (s.runner.limits.input.unit ≡ Frames → f ≤ m)
+  pub freed : (f : ℕ) × (i'.window.returnable ≡ i.window.returnable + f) × (m ≤ f + 1) × (l.input.unit ≡ Frames → f ≤ m)
   -- nor above the frames that wait
-  pub frames : m ≤ s.runner.input.inbox.frames
+  pub frames : m ≤ i.inbox.frames
 
+-- ONE CALL, of any state and store of lengths, foreign ones too
 abbrev pub Writes : Type 0
-Writes = (s : State) (n m : ℕ) → answer s (input_written n) ≡ Came m → Write s n m
+Writes =
+    (s : State) (n m : ℕ) → answer s (input_written n) ≡ Came m
+    → Write s.runner.limits s.runner.input (next s (input_written n)).runner.input n m
 
 -- ---- over a list, by its calls and their answers
 

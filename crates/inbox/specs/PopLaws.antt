@@ -7,11 +7,12 @@ use Rattle.exec.specs.declared.Unit.TheVariants.{Bytes, Frames}
 use Rattle.ring.specs.Frames.{Popped}
 use Rattle.ring.specs.FrameLaws.{pop_used, came_within}
 use Rattle.inbox.specs.declared.Inbox.{Inbox}
-use Rattle.inbox.specs.Inbox.{freed_by, came_by, frames_popped, pop_freed, pop_came}
+use Rattle.inbox.specs.Inbox.{freed_by, came_by, frames_popped}
 
--- by the unit: n bytes free no more frames than they come to, and at most one fewer, the one that they leave unfinished
+-- n bytes, by the unit: they come to no frame that does not wait, to each that they finish, and to at most one that they leave
 pub record Turns (u : Units.Unit) (size n : ℕ) (b : Inbox) (lengths : List ℕ) : Type 0 where
   pub none : n ≡ 0 → came_by u size n b lengths ≡ 0
+  pub bytes : u ≡ Bytes → came_by u size n b lengths ≡ 0
   pub frames : came_by u size n b lengths ≤ b.frames
   pub most : came_by u size n b lengths ≤ freed_by u size n b lengths + 1
   pub least : u ≡ Frames → freed_by u size n b lengths ≤ came_by u size n b lengths
@@ -19,27 +20,17 @@ pub record Turns (u : Units.Unit) (size n : ℕ) (b : Inbox) (lengths : List ℕ
   pub left : came_by u size n b lengths + frames_popped u (freed_by u size n b lengths) b.frames ≤ b.frames + min (came_by u size n b lengths) 1
 
 pub turns : (u : Units.Unit) (size n : ℕ) (b : Inbox) (lengths : List ℕ) → Turns u size n b lengths
-turns Bytes size n b lengths = record { none = λ e. refl; frames = omega arith; most = omega arith; least = λ e. cc; left = omega arith }
+turns Bytes size n b lengths = record { none = λ e. refl; bytes = λ e. refl; frames = omega arith; most = omega arith; least = λ e. cc; left = omega arith }
 turns Frames size n b lengths =
     let h = came_within b.frames size b.first n 0 lengths in record {
       none = λ e. ap (λ (q : Popped). q.came) (pop_used b.frames size b.first n 0 lengths e);
+      bytes = λ e. cc;
       frames = omega (arith, h.2);
       most = h.1;
       least = λ e. h.0;
       left = omega (arith, h);
     }
 
--- of a pop
-module _ (l : Limits) (b : Inbox) (count : ℕ) (lengths : List ℕ) where
-  pub popped : Turns l.input.unit l.input.size (min count b.length) b lengths
-  popped = turns l.input.unit l.input.size (min count b.length) b lengths
-
-  pub came_bytes : l.input.unit ≡ Bytes → pop_came l b count lengths ≡ 0
-  came_bytes e = rw e refl
-
-  -- a count of 0, or nothing that waits
-  pub came_none : min count b.length ≡ 0 → pop_came l b count lengths ≡ 0
-  came_none = popped.none
-
-  pub came_most : pop_came l b count lengths ≤ pop_freed l b count lengths + 1
-  came_most = popped.most
+-- and so a pop of `count`
+pub popped : (l : Limits) (b : Inbox) (count : ℕ) (lengths : List ℕ) → Turns l.input.unit l.input.size (min count b.length) b lengths
+popped l b count lengths = turns l.input.unit l.input.size (min count b.length) b lengths
