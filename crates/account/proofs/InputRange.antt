@@ -10,7 +10,7 @@ use native.Mathlib.Omega.{arith}
 use native.Mathlib.Nat.{mul-le-mul_right, suc-mul, zero-mul}
 use lib.Dec.{ltb, eqb}
 use lib.ListN.{length, set, length-set}
-use borrow.Author.Tests.{ltb-false}
+use borrow.Author.Tests.{ltb-true, ltb-false}
 use Rattle.exec.specs.declared.Limits.{Limits}
 use Rattle.exec.specs.declared.Unit as units
 use Rattle.exec.specs.declared.Unit.TheVariants.{Bytes, Frames}
@@ -22,33 +22,34 @@ use Rattle.ring.specs.FrameLaws.{rest_sum, pop_rest, pop_most, pop_length, push_
 use Rattle.inbox.specs.Inbox.{frames_pushed, frames_popped, lengths_pushed, freed_by, lengths_popped, first_after, pushed}
 use Rattle.input.specs.declared.Input.{Input}
 use Rattle.input.specs.Input.{close_input, receive_answer, is_receipt, is_applied, receive_input, receive_lengths, is_paid, passed, end_input, written_input, written_lengths, close_when_taken, peer_ends, pop_in}
-use Rattle.input.proofs.Receives.{chunk_fits}
+use Rattle.input.proofs.Receives.{chunk_some, chunk_fits}
 use Rattle.account.proofs.Flags.{either}
 
 -- ---- frames: the bytes they hold, and what a pop leaves
 
+-- from 1 to n bytes each
 pub data All (n : ℕ) : List ℕ → Type 0 where
   none : All n []
-  more : {f : ℕ} {fs : List ℕ} → f ≤ n → All n fs → All n (f ∷ fs)
+  more : {f : ℕ} {fs : List ℕ} → 0 < f → f ≤ n → All n fs → All n (f ∷ fs)
 
 pub sum_most : (n : ℕ) (fs : List ℕ) → All n fs → sum fs ≤ length fs * n
 sum_most n [] a = rw zero-mul (omega arith)
-sum_most n (f ∷ fs) (more l a) = let z = sum_most n fs a in rw suc-mul (omega arith)
+sum_most n (f ∷ fs) (more s l a) = let z = sum_most n fs a in rw suc-mul (omega arith)
 
-rest_small : (n m f : ℕ) (fs : List ℕ) (b1 b2 : Bool) → f ≤ n → All n fs → All n (rest_of fs (m - f))
+rest_small : (n m f : ℕ) (fs : List ℕ) (b1 b2 : Bool) → ltb m f ≡ b2 → 0 < f → f ≤ n → All n fs → All n (rest_of fs (m - f))
     → All n (cond b1 (f ∷ fs) (cond b2 ((f - m) ∷ fs) (rest_of fs (m - f))))
-rest_small n m f fs true b2 h a r = more h a
-rest_small n m f fs false true h a r = more {f = f - m} (omega arith) a
-rest_small n m f fs false false h a r = r
+rest_small n m f fs true b2 e s h a r = more s h a
+rest_small n m f fs false true e s h a r = more {f = f - m} (omega (arith, ltb-true m f e)) (omega arith) a
+rest_small n m f fs false false e s h a r = r
 
 all_rest : (n m : ℕ) (fs : List ℕ) → All n fs → All n (rest_of fs m)
 unfolding rest_of
 all_rest n m [] a = none
-all_rest n m (f ∷ fs) (more h a) = rest_small n m f fs (eqb m 0) (ltb m f) h a (all_rest n (m - f) fs a)
+all_rest n m (f ∷ fs) (more s h a) = rest_small n m f fs (eqb m 0) (ltb m f) refl s h a (all_rest n (m - f) fs a)
 
 all_append : (n : ℕ) (a b : List ℕ) → All n a → All n b → All n (a ++ b)
 all_append n [] b p q = q
-all_append n (x ∷ a) b (more h p) q = more h (all_append n a b p q)
+all_append n (x ∷ a) b (more s h p) q = more s h (all_append n a b p q)
 
 sum_append : (a b : List ℕ) → sum (a ++ b) ≡ sum a + sum b
 sum_append [] b = omega arith
@@ -149,11 +150,11 @@ written_range l lengths n i h = go i.closed
         (pop_by l.input.unit l lengths i m k h.0, wrap_lt (input_bytes l) (i.inbox.start + m) (omega arith))
 
 -- a message that is paid for, kept: its length goes behind the others
-push_by : (u : units.Unit) (l : Limits) (lengths : List ℕ) (n : ℕ) (i : Input) → n ≤ l.chunk → cost u n ≤ i.window.open → HeldIn u l lengths i
+push_by : (u : units.Unit) (l : Limits) (lengths : List ℕ) (n : ℕ) (i : Input) → 0 < n → n ≤ l.chunk → cost u n ≤ i.window.open → HeldIn u l lengths i
     → Held u l (lengths_pushed u l.input.size n i.inbox lengths) (i.window.open - cost u n) i.window.returnable (i.inbox.length + n) i.inbox.first (frames_pushed u i.inbox.frames)
 unfolding cost
-push_by Bytes l lengths n i m k h = let z = h.0 in (omega arith, h.1, h.2)
-push_by Frames l lengths n i m k h =
+push_by Bytes l lengths n i p m k h = let z = h.0 in (omega arith, h.1, h.2)
+push_by Frames l lengths n i p m k h =
     let size : ℕ = l.input.size in let first : ℕ = i.inbox.first in let frames : ℕ = i.inbox.frames in
     let z = h.0 in let z1 = h.1 in let z3 = h.3 in let z4 = h.4 in
     let less : frames < size = omega arith in
@@ -163,7 +164,7 @@ push_by Frames l lengths n i m k h =
     let ls = length-set lengths (wrap size (first + frames)) n in (
       omega arith,
       rw (e, sum_append (waiting lengths size first frames) (n ∷ [])) (omega arith),
-      rw e (all_append l.chunk (waiting lengths size first frames) (n ∷ []) h.2 (more m none)),
+      rw e (all_append l.chunk (waiting lengths size first frames) (n ∷ []) h.2 (more p m none)),
       z3,
       omega arith,
     )
@@ -176,13 +177,14 @@ pay_by Frames l lengths n i h = let z = h.0 in (omega arith, h.1, h.2, h.3, h.4)
 
 -- what an input that is paid for has passed
 pub record Paid (l : Limits) (n : ℕ) (i : Input) : Type 0 where
+  pub some : 0 < n
   pub small : n ≤ l.chunk
   pub enough : cost l.input.unit n ≤ i.window.open
 
 pub paid : (l : Limits) (i : Input) (n : ℕ) → is_paid l i n ≡ true → Paid l n i
 paid l i n e =
     let p = passed l i n e in
-    record { small = chunk_fits l n p.chunk; enough = ltb-false i.window.open (cost l.input.unit n) p.window }
+    record { some = chunk_some l n p.chunk; small = chunk_fits l n p.chunk; enough = ltb-false i.window.open (cost l.input.unit n) p.window }
 
 -- the input by whether the message is paid for, and kept
 abbrev received_if : Bool → Bool → Limits → ℕ → Input → Input
@@ -201,7 +203,7 @@ received_if pays keeps l n i = record {
 received_if_lem : (x : Result Receipt Refusal) (l : Limits) (lengths : List ℕ) (n : ℕ) (i : Input) → (is_receipt x ≡ true → Paid l n i) → InRange l lengths i
     → InRange l (cond (is_applied x) (lengths_pushed l.input.unit l.input.size n i.inbox lengths) lengths) (received_if (is_receipt x) (is_applied x) l n i)
 received_if_lem (Err y) l lengths n i p h = h
-received_if_lem (Ok Receipt.Applied) l lengths n i p h = let q = p refl in (push_by l.input.unit l lengths n i q.small q.enough h.0, h.1)
+received_if_lem (Ok Receipt.Applied) l lengths n i p h = let q = p refl in (push_by l.input.unit l lengths n i q.some q.small q.enough h.0, h.1)
 received_if_lem _ l lengths n i p h = (pay_by l.input.unit l lengths n i h.0, h.1)
 
 pub input_if : (b : Bool) (l : Limits) (lengths : List ℕ) (n : ℕ) (i : Input) → InRange l lengths i

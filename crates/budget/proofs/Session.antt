@@ -86,6 +86,12 @@ one_by_one : (answers in_frames byte_by_byte ≡ Call.Says (Call.Credit 2) ∷ C
 unfolding done
 one_by_one = (refl, refl, refl, refl)
 
+-- frames of a byte each: as many as the bytes that are written
+single_bytes : answers in_frames (Call.input own (97 ∷ []) ∷ Call.input own (98 ∷ []) ∷ Call.input_written 2 ∷ [])
+    ≡ Call.Says (Call.Credit 2) ∷ Call.Applied ∷ Call.Applied ∷ Call.Came 2 ∷ []
+unfolding done
+single_bytes = refl
+
 -- a window of bytes has no frames
 bytes_come_to_none : answers in_bytes (three ∷ Call.input_written 2 ∷ []) ≡ Call.Says (Call.Credit 8) ∷ Call.Applied ∷ Call.Came 0 ∷ []
 unfolding done

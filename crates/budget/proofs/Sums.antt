@@ -29,7 +29,7 @@ use Rattle.runner.specs.Message.{choose, effect, output_sent, output_paid, wish,
 use Rattle.runner.specs.Range.{fresh}
 use Rattle.runner.specs.Streams as Streams
 use Rattle.runner.specs.Streams.{output_next, discarded_next, closed_next, failed_next, hung_up_next, credit_next, input_answer, input_next, end_next, written_next}
-use Rattle.calls.specs.Call.{Conf, Call, Answer, Done}
+use Rattle.calls.specs.Call.{Conf, Call, Answer, Came, Done}
 use Rattle.account.specs.Claim.{Opens}
 use Rattle.account.specs.Step as Step
 use Rattle.account.specs.Step.{State, received_as, asks}
@@ -37,10 +37,11 @@ use Rattle.account.specs.InputClaim.{is_applied}
 use Rattle.account.specs.Records.{Entry, after_entries, run_entries, calls_of}
 use Rattle.account.proofs.Plain.{said, next, answer, begun, after_all, run}
 use Rattle.account.proofs.Demand.{same_after, same_run}
-use Rattle.account.proofs.Records.{same_dones, good_open, to_calls}
+use Rattle.account.proofs.Records.{same_dones, good_open, good_at, to_calls}
 use Rattle.account.proofs.InputMoves.{Moves, same, shut, close, ticks, launches, exits, detaches, cancels}
 use Rattle.budget.specs.BudgetClaim.{came_of, frame_of, write_of, came, frames, writes, Budget}
-use Rattle.budget.proofs.Writes.{written}
+use Rattle.budget.proofs.Writes.{written, told}
+use Rattle.budget.proofs.Few.{few}
 
 -- ---- a call, by what it does to the input
 
@@ -209,9 +210,16 @@ module _ (conf : Conf) (now : ℕ) (bytes lengths : List ℕ) (op : Opens conf n
       let none : (begun conf now bytes lengths).runner.input.inbox.frames ≡ 0 = refl in
       rw (same_run conf now bytes lengths op cs) (omega (arith, none, come cs (begun conf now bytes lengths)))
 
+  few_at : (es : List Entry) (n m : ℕ) → Step.answer (after_entries o es) (Call.input_written n) ≡ Came m → m ≤ n
+  few_at es n m e =
+      let s = after_entries o es in
+      let held = (good_at conf now bytes lengths op es).fine.sound.ranged.2.0 in
+      omega (arith, told s n m e, few s.runner.limits s.runner.input n s.lengths held)
+
   pub budget : Budget conf now bytes lengths
   budget = record {
     emptied = emptied_at;
+    few = few_at;
     nothing = λ es count c. (let s = after_entries o es in (popped s.runner.limits s.runner.input.inbox count s.lengths).none (omega (arith, emptied_at es c)));
     all = λ es. rw (same_dones conf es o (good_open conf now bytes lengths op)) (come_calls (calls_of conf (run_entries o es)));
   }

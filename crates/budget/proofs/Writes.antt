@@ -12,7 +12,7 @@ use Rattle.runner.specs.Calls as Calls
 use Rattle.runner.specs.Range.{lengths_do, stop}
 use Rattle.runner.specs.Streams as Streams
 use Rattle.calls.specs.Call as Call
-use Rattle.account.specs.Step.{next, answer, came}
+use Rattle.account.specs.Step.{State, next, answer, came}
 use Rattle.budget.specs.BudgetClaim.{came_of, Write, Writes}
 
 module _ (l : Limits) (i : Input) (n : ℕ) (lengths : List ℕ) where
@@ -42,7 +42,16 @@ module _ (l : Limits) (i : Input) (n : ℕ) (lengths : List ℕ) where
   unfolding written_input written_came
   written = by_closed i.closed refl
 
--- a call that is answered by a number was not refused
+-- a call that is answered by a number was not refused: it is what the write comes to
+pub told : (s : State) (n m : ℕ) → answer s (Call.input_written n) ≡ Call.Came m → written_came s.runner.limits s.runner.input n s.lengths ≡ m
+unfolding answer Calls.input_written Streams.written_came
+told s n m e = by (stop s.runner (lengths_do s.runner.limits s.lengths)) e
+  where
+    by : (x : Result (Unit {0}) Refusal) → came (Calls.written_by x s.runner n s.lengths).counting.answer ≡ Call.Came m
+        → written_came s.runner.limits s.runner.input n s.lengths ≡ m
+    by (Ok tt) h = ap came_of h
+    by (Err x) h = cc
+
 pub one : Writes
 unfolding next answer Calls.input_written Streams.written_came Streams.written_next
 one s n m e = by (stop s.runner (lengths_do s.runner.limits s.lengths)) e

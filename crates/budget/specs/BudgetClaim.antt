@@ -62,6 +62,8 @@ pub record Budget (conf : Conf) (now : ℕ) (bytes lengths : List ℕ) : Type 0 
       r.input.closed ≡ true → r.input.inbox.length ≡ 0
   pub nothing : (es : List Entry) (count : ℕ) → let s = after_entries (opened conf now bytes lengths) es in
       s.runner.input.closed ≡ true → pop_came s.runner.limits s.runner.input.inbox count s.lengths ≡ 0
+  -- a write of n bytes comes to n frames at most: each that waits has a byte
+  pub few : (es : List Entry) (n m : ℕ) → answer (after_entries (opened conf now bytes lengths) es) (input_written n) ≡ Came m → m ≤ n
   -- all writes together come to no more frames than were applied, and one more for each write that came to one, but the first
   pub all : (es : List Entry) → let ds = dones_of conf (run_entries (opened conf now bytes lengths) es) in
       came ds ≤ frames ds + (writes ds - 1)
