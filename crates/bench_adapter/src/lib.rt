@@ -31,7 +31,9 @@ pub extern "C" fn bench_adapter(
         r = hearing.runner;
         let waiting = r.pending_input(store).map_or(0, |bytes| bytes.len());
         sum = add(sum, waiting);
-        r = r.input_written(lengths, waiting).runner;
+        let counting = r.input_written(lengths, waiting);
+        sum = add(sum, counting.answer);
+        r = counting.runner;
         let taking = r.output(Stream::Stdout, store, bytes);
         let taken = taking.answer;
         sum = add(sum, taken);

@@ -30,8 +30,9 @@ pub extern "C" fn bench_frames(
         }
         let waiting = r.pending_input(store).map_or(0, |bytes| bytes.len());
         sum = add(sum, waiting);
-        let written = r.input_written(lengths, waiting).runner;
-        let saying = written.next_message(store, buffer);
+        let counting = r.input_written(lengths, waiting);
+        sum = add(sum, counting.answer);
+        let saying = counting.runner.next_message(store, buffer);
         sum = add(sum, saying.answer);
         r = saying.runner;
         other = work(other, steps);
