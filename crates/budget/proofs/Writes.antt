@@ -23,7 +23,7 @@ module _ (l : Limits) (i : Input) (n : ℕ) (lengths : List ℕ) where
 
   by_closed : (c : Bool) → i.closed ≡ c → Written (cond c i (close_when_taken (pop_in l n lengths i))) (cond c 0 (pop_came l i.inbox n lengths))
   by_closed true e = record {
-    write = record { none = λ z. refl; bytes = λ z. refl; closed = λ z. refl; freed = (0, omega arith, omega arith, λ u. omega arith); frames = omega arith };
+    write = record { none = λ z. refl; bytes = λ z. refl; closed = λ z. refl; freed = (0, omega arith, omega arith, λ u. (omega arith, omega arith)); frames = omega arith };
     left = omega arith;
   }
   by_closed false e =
@@ -32,7 +32,7 @@ module _ (l : Limits) (i : Input) (n : ℕ) (lengths : List ℕ) where
           none = λ z. p.none (omega arith);
           bytes = p.bytes;
           closed = λ z. absurd (false≢true (sym e ∙ z));
-          freed = (pop_freed l i.inbox n lengths, refl, p.most, p.least);
+          freed = (pop_freed l i.inbox n lengths, refl, p.most, λ u. (p.gone u, p.least u));
           frames = p.frames;
         };
         left = p.left;

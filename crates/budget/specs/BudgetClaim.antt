@@ -16,8 +16,9 @@ pub record Write (l : Limits) (i i' : Input) (n m : ℕ) : Type 0 where
   pub none : n ≡ 0 → m ≡ 0
   pub bytes : l.input.unit ≡ Bytes → m ≡ 0
   pub closed : i.closed ≡ true → m ≡ 0
-  -- never above the units that it frees plus 1; in frames it comes to each that it frees
-  pub freed : (f : ℕ) × (i'.window.returnable ≡ i.window.returnable + f) × (m ≤ f + 1) × (l.input.unit ≡ Frames → f ≤ m)
+  -- never above the units that it frees plus 1; in frames these are the frames that are gone, and it comes to each of them
+  pub freed : (f : ℕ) × (i'.window.returnable ≡ i.window.returnable + f) × (m ≤ f + 1)
+      × (l.input.unit ≡ Frames → (i'.inbox.frames + f ≡ i.inbox.frames) × (f ≤ m))
   -- nor above the frames that wait
   pub frames : m ≤ i.inbox.frames
 

@@ -16,11 +16,13 @@ pub record Turns (u : Units.Unit) (size n : ℕ) (b : Inbox) (lengths : List ℕ
   pub frames : came_by u size n b lengths ≤ b.frames
   pub most : came_by u size n b lengths ≤ freed_by u size n b lengths + 1
   pub least : u ≡ Frames → freed_by u size n b lengths ≤ came_by u size n b lengths
+  -- each that they free is gone, and no other
+  pub gone : u ≡ Frames → frames_popped u (freed_by u size n b lengths) b.frames + freed_by u size n b lengths ≡ b.frames
   -- and so of the frames that are left
   pub left : came_by u size n b lengths + frames_popped u (freed_by u size n b lengths) b.frames ≤ b.frames + min (came_by u size n b lengths) 1
 
 pub turns : (u : Units.Unit) (size n : ℕ) (b : Inbox) (lengths : List ℕ) → Turns u size n b lengths
-turns Bytes size n b lengths = record { none = λ e. refl; bytes = λ e. refl; frames = omega arith; most = omega arith; least = λ e. cc; left = omega arith }
+turns Bytes size n b lengths = record { none = λ e. refl; bytes = λ e. refl; frames = omega arith; most = omega arith; least = λ e. cc; gone = λ e. cc; left = omega arith }
 turns Frames size n b lengths =
     let h = came_within b.frames size b.first n 0 lengths in record {
       none = λ e. ap (λ (q : Popped). q.came) (pop_used b.frames size b.first n 0 lengths e);
@@ -28,6 +30,7 @@ turns Frames size n b lengths =
       frames = omega (arith, h.2);
       most = h.1;
       least = λ e. h.0;
+      gone = λ e. omega (arith, h);
       left = omega (arith, h);
     }
 
