@@ -44,7 +44,7 @@ store = 0 ∷ 0 ∷ 0 ∷ 0 ∷ 0 ∷ 0 ∷ 0 ∷ 0 ∷ 0 ∷ 0 ∷ 0 ∷ 0 ∷ 
 -- opened at 0
 begins : Conf → State
 unfolding Calls.«open» Range.fresh bytes_with
-begins conf = opened conf 0 store (0 ∷ 0 ∷ [])
+begins conf = opened conf 0 store (0 ∷ 0 ∷ 0 ∷ 0 ∷ [])
 
 -- Credit is told, and then these calls
 abbrev list : List Call → List Entry
@@ -86,6 +86,15 @@ one_by_one : (answers in_frames byte_by_byte ≡ Call.Says (Call.Credit 2) ∷ C
 unfolding done
 one_by_one = (refl, refl, refl, refl)
 
+-- a write that just finishes a frame does not come to the one behind it; and one that finishes two and leaves the third comes to three
+abbrev edges : List Call
+edges = two ∷ two ∷ Call.input_written 2 ∷ Call.input own (97 ∷ []) ∷ two ∷ Call.input_written 4 ∷ []
+
+at_the_edges : answers (conf_of (limits_for 2 (frames_window 4) (bytes_window 8) false)) edges
+    ≡ Call.Says (Call.Credit 4) ∷ Call.Applied ∷ Call.Applied ∷ Call.Came 1 ∷ Call.Applied ∷ Call.Applied ∷ Call.Came 3 ∷ []
+unfolding done
+at_the_edges = refl
+
 -- frames of a byte each: as many as the bytes that are written
 single_bytes : answers in_frames (Call.input own (97 ∷ []) ∷ Call.input own (98 ∷ []) ∷ Call.input_written 2 ∷ [])
     ≡ Call.Says (Call.Credit 2) ∷ Call.Applied ∷ Call.Applied ∷ Call.Came 2 ∷ []
@@ -118,6 +127,6 @@ unfolding waiting
 foreign = (refl, refl)
 
 -- open is answered ok, so that the claims are not of runners that cannot be
-opens : (Opens in_frames 0 store (0 ∷ 0 ∷ [])) × (Opens in_bytes 0 store (0 ∷ 0 ∷ []))
+opens : (Opens in_frames 0 store (0 ∷ 0 ∷ 0 ∷ 0 ∷ [])) × (Opens in_bytes 0 store (0 ∷ 0 ∷ 0 ∷ 0 ∷ []))
 unfolding Calls.«open» bytes_with
 opens = (refl, refl)

@@ -1,8 +1,9 @@
--- Over a list: each write comes to frames that were applied, and leaves all but the last of them finished; and a closed input holds
--- no byte.
+-- Over a list: what a write comes to and what it leaves is no more than what waited, and one frame; a closed input holds no byte; and
+-- the claim put together.
 use Rattle.std.specs.Prelude.{Option, Result, Some, Ok, Err}
 use Rattle.std.specs.Prelude.{◌≡◌, refl, Bool, true, false, cond, List, [], ◌∷◌, ℕ, ◌+◌, ◌-◌, ◌≤◌, min, length}
 use Rattle.std.proofs.Common.{sym, ap, ◌∙◌, arith}
+use mathlib.Core.Path.{subst⁻¹}
 use Rattle.std.proofs.lemmas.Bool.{false≢true}
 use Rattle.std.proofs.lemmas.Bool.Decides.{nat_tests}
 use Rattle.exec.specs.declared.Admission.TheVariants.{Own}
@@ -34,14 +35,17 @@ use Rattle.account.specs.Claim.{Opens}
 use Rattle.account.specs.Step as Step
 use Rattle.account.specs.Step.{State, received_as, asks}
 use Rattle.account.specs.InputClaim.{is_applied}
-use Rattle.account.specs.Records.{Entry, after_entries, run_entries, calls_of}
+use Rattle.account.specs.Records.{Entry, after_entries, run_entries, calls_of, dones_of}
 use Rattle.account.proofs.Plain.{said, next, answer, begun, after_all, run}
-use Rattle.account.proofs.Demand.{same_after, same_run}
+use Rattle.account.proofs.Range.{lent}
+use Rattle.account.proofs.Demand.{opens_by, same_after, same_run}
 use Rattle.account.proofs.Records.{same_dones, good_open, good_at, to_calls}
 use Rattle.account.proofs.InputMoves.{Moves, same, shut, close, ticks, launches, exits, detaches, cancels}
-use Rattle.budget.specs.BudgetClaim.{came_of, frame_of, write_of, came, frames, writes, Budget}
+use Rattle.ring.specs.Frames.{came_of, sum}
+use Rattle.budget.specs.BudgetClaim.{left, told_of, frame_of, write_of, came, frames, writes, Budget}
 use Rattle.budget.proofs.Writes.{written, told}
 use Rattle.budget.proofs.Few.{few}
+use Rattle.budget.proofs.Exact.{exactly}
 
 -- ---- a call, by what it does to the input
 
@@ -66,7 +70,7 @@ moved i i' (shut w b o c) = record { most = omega arith; left = rw b (omega arit
 quiet : (i i' : Input) (a : ℕ) → a ≡ 0 → Goes i i' 0 0 → Goes i i' a 0
 quiet i i' a e g = rw e g
 
-received_none : (x : Result Receipt Refusal) → came_of (received_as x) ≡ 0
+received_none : (x : Result Receipt Refusal) → told_of (received_as x) ≡ 0
 received_none (Ok Receipt.Applied) = refl
 received_none (Ok Receipt.Stale) = refl
 received_none (Ok Receipt.Late) = refl
@@ -90,7 +94,7 @@ closed_late l i n e = rw e (by i.peer_ended (off_chunk l n) (off_window l i n))
     by false false false = refl
 
 receive_goes : (l : Limits) (i : Input) (n : ℕ) (x : Result Receipt Refusal) → receive_answer l i n ≡ x
-    → Goes i (receive_input l i n) (came_of (received_as x)) (cond (is_applied (received_as x)) 1 0)
+    → Goes i (receive_input l i n) (told_of (received_as x)) (cond (is_applied (received_as x)) 1 0)
 unfolding receive_input
 receive_goes l i n (Ok Receipt.Applied) e =
     rw e (record {
@@ -103,7 +107,7 @@ receive_goes l i n (Ok Receipt.Late) e = rw e (kept i _ refl refl)
 receive_goes l i n (Err x) e = rw e (kept i _ refl refl)
 
 input_goes : (a : Result Admission Refusal) (r : Runner) (n : ℕ) (f : Bool) → r.flags.finished ≡ f
-    → Goes r.input (input_next a r n).input (came_of (received_as (input_answer a r n))) (cond (is_applied (received_as (input_answer a r n))) 1 0)
+    → Goes r.input (input_next a r n).input (told_of (received_as (input_answer a r n))) (cond (is_applied (received_as (input_answer a r n))) 1 0)
 unfolding input_next input_answer
 input_goes (Ok Own) r n true e = rw e (kept r.input r.input refl refl)
 input_goes (Ok Own) r n false e = rw e (receive_goes r.limits r.input n (receive_answer r.limits r.input n) refl)
@@ -145,19 +149,19 @@ written_goes l i n lengths =
 
 -- ---- messages and requests
 
-said_goes : (c : Choice) (r : Runner) (bytes : List ℕ) → Goes r.input (effect c r).input (came_of (said c r bytes)) 0
+said_goes : (c : Choice) (r : Runner) (bytes : List ℕ) → Goes r.input (effect c r).input (told_of (said c r bytes)) 0
 unfolding effect output_sent output_paid said
 said_goes (Choice.End x) r bytes = kept r.input _ refl refl
 said_goes _ r bytes = kept r.input _ refl refl
 
-asked_goes : (w : Option Request) (r : Runner) → Goes r.input (wish_effect w r).input (came_of (asks (asked_for w))) 0
+asked_goes : (w : Option Request) (r : Runner) → Goes r.input (wish_effect w r).input (told_of (asks (asked_for w))) 0
 unfolding wish_effect
 asked_goes (Some (Request.Terminate c)) r = kept r.input _ refl refl
 asked_goes _ r = kept r.input _ refl refl
 
 -- ---- a call, and a list of calls
 
-goes : (c : Call) (s : State) → Goes s.runner.input (next s c).runner.input (came_of (answer s c)) (frame_of c (answer s c))
+goes : (c : Call) (s : State) → Goes s.runner.input (next s c).runner.input (told_of (answer s c)) (frame_of c (answer s c))
 unfolding next answer credit_next output_next discarded_next closed_next failed_next hung_up_next settled_next written_next Streams.written_came
 goes (Call.credit k p u) s = quiet s.runner.input _ _ (received_none _) (kept s.runner.input _ refl refl)
 goes (Call.input k b) s = input_goes (admits s.runner.key k) s.runner (length b) s.runner.flags.finished refl
@@ -179,7 +183,7 @@ emptied_all : (cs : List Call) (s : State) → Emptied s.runner.input → Emptie
 emptied_all [] s h = h
 emptied_all (c ∷ cs) s h = emptied_all cs (next s c) ((goes c s).emptied h)
 
-write_is : (a : Answer) → write_of a ≡ min (came_of a) 1
+write_is : (a : Answer) → write_of a ≡ min (told_of a) 1
 write_is a = grind (arith, nat_tests)
 
 -- where all come to a frame, a write does
@@ -216,8 +220,21 @@ module _ (conf : Conf) (now : ℕ) (bytes lengths : List ℕ) (op : Opens conf n
       let held = (good_at conf now bytes lengths op es).fine.sound.ranged.2.0 in
       omega (arith, told s n m e, few s.runner.limits s.runner.input n s.lengths held)
 
+  exact_at : (es : List Entry) (n m : ℕ) → let s = after_entries o es in let fs = left [] (dones_of conf (run_entries o es)) in
+      conf.limits.input.unit ≡ Frames → s.runner.input.closed ≡ false → Step.answer s (Call.input_written n) ≡ Came m → m ≡ came_of fs (min n (sum fs))
+  exact_at es n m u z e =
+      let cs = calls_of conf (run_entries o es) in
+      let same = to_calls conf now bytes lengths op es ∙ same_after conf now bytes lengths op cs in
+      let done = same_dones conf es o (good_open conf now bytes lengths op) ∙ same_run conf now bytes lengths op cs in
+      let all = exactly conf now bytes lengths (lent conf.limits bytes lengths (opens_by conf now bytes lengths op)) cs n u in
+      sym (told (after_entries o es) n m e)
+      ∙ subst⁻¹ (λ (s : State). s.runner.input.closed ≡ false → written_came s.runner.limits s.runner.input n s.lengths
+      ≡ came_of (left [] (run (begun conf now bytes lengths) cs)) (min n (sum (left [] (run (begun conf now bytes lengths) cs))))) same all z
+      ∙ ap (λ (ds : List Done). came_of (left [] ds) (min n (sum (left [] ds)))) (sym done)
+
   pub budget : Budget conf now bytes lengths
   budget = record {
+    exact = exact_at;
     emptied = emptied_at;
     few = few_at;
     nothing = λ es count c. (let s = after_entries o es in (popped s.runner.limits s.runner.input.inbox count s.lengths).none (omega (arith, emptied_at es c)));

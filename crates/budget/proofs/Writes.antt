@@ -13,7 +13,7 @@ use Rattle.runner.specs.Range.{lengths_do, stop}
 use Rattle.runner.specs.Streams as Streams
 use Rattle.calls.specs.Call as Call
 use Rattle.account.specs.Step.{State, next, answer, came}
-use Rattle.budget.specs.BudgetClaim.{came_of, Write, Writes}
+use Rattle.budget.specs.BudgetClaim.{told_of, Write, Writes}
 
 module _ (l : Limits) (i : Input) (n : ℕ) (lengths : List ℕ) where
   -- the call's own claim, and the frames that are left
@@ -49,7 +49,7 @@ told s n m e = by (stop s.runner (lengths_do s.runner.limits s.lengths)) e
   where
     by : (x : Result (Unit {0}) Refusal) → came (Calls.written_by x s.runner n s.lengths).counting.answer ≡ Call.Came m
         → written_came s.runner.limits s.runner.input n s.lengths ≡ m
-    by (Ok tt) h = ap came_of h
+    by (Ok tt) h = ap told_of h
     by (Err x) h = cc
 
 pub one : Writes
@@ -60,5 +60,5 @@ one s n m e = by (stop s.runner (lengths_do s.runner.limits s.lengths)) e
         → Write s.runner.limits s.runner.input (Calls.written_by x s.runner n s.lengths).counting.runner.input n m
     by (Ok tt) h =
         let r = s.runner in
-        subst (Write r.limits r.input (written_input r.limits r.input n s.lengths) n) (ap came_of h) (written r.limits r.input n s.lengths).write
+        subst (Write r.limits r.input (written_input r.limits r.input n s.lengths) n) (ap told_of h) (written r.limits r.input n s.lengths).write
     by (Err x) h = cc

@@ -9,7 +9,7 @@ use Rattle.ring.specs.FrameLaws.{pop_used, came_within}
 use Rattle.inbox.specs.declared.Inbox.{Inbox}
 use Rattle.inbox.specs.Inbox.{freed_by, came_by, frames_popped}
 
--- n bytes, by the unit: they come to no frame that does not wait, to each that they finish, and to at most one that they leave
+-- of n bytes, by the unit, how the frames come to stand to those freed and those that wait (which they are: `pop_came` of the ring)
 pub record Turns (u : Units.Unit) (size n : ℕ) (b : Inbox) (lengths : List ℕ) : Type 0 where
   pub none : n ≡ 0 → came_by u size n b lengths ≡ 0
   pub bytes : u ≡ Bytes → came_by u size n b lengths ≡ 0
