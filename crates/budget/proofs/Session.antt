@@ -3,7 +3,7 @@ use Rattle.std.specs.Prelude.{◌≡◌, refl, true, false, List, [], ◌∷◌,
 use Rattle.exec.specs.declared.Limits.{Limits}
 use Rattle.exec.specs.declared.Key.{Key}
 use Rattle.exec.specs.Key.{new_key, admits}
-use Rattle.exec.specs.Limits.{bytes_window, frames_window, limits_for, cost, bytes_with}
+use Rattle.exec.specs.Limits.{no_limits, bytes_window, frames_window, limits_for, cost, bytes_with}
 use Rattle.ring.specs.Frames.{pop_from}
 use Rattle.ring.specs.Ring.{wrap, ring_from, ring_write}
 use Rattle.ring.specs.Runs.{copied}
@@ -16,7 +16,8 @@ use Rattle.runner.specs.Calls as Calls
 use Rattle.runner.specs.Life as Life
 use Rattle.runner.specs.Message as Message
 use Rattle.runner.specs.Range as Range
-use Rattle.runner.specs.State.{with_input}
+use Rattle.runner.specs.declared.runner.Runner.{Runner}
+use Rattle.runner.specs.State.{with_flow, with_input}
 use Rattle.runner.specs.Streams as Streams
 use Rattle.calls.specs.Call as Call
 use Rattle.calls.specs.Call.{Conf, Call, Answer, Done}
@@ -125,6 +126,17 @@ shut = on_runner (with_input (set_input_closed true waiting.runner.input) waitin
 foreign : (pop_came shut.runner.limits shut.runner.input.inbox 4 shut.lengths ≡ 2) × (answer shut (Call.input_written 4) ≡ Call.Came 0)
 unfolding waiting
 foreign = (refl, refl)
+
+-- ---- a write that is refused tells its number, and no frames: a state out of range, no limits, a store of lengths that is short
+
+abbrev on : Runner → List ℕ → State
+on r lengths = record { runner = r; bytes = store; lengths = lengths }
+
+refused : (answer (on (with_flow waiting.runner.credits 2 waiting.runner.flags 0 waiting.runner) waiting.lengths) (Call.input_written 1) ≡ Call.Refused 12)
+    × (answer (on (begins (conf_of no_limits)).runner waiting.lengths) (Call.input_written 1) ≡ Call.Refused 10)
+    × (answer (on waiting.runner (0 ∷ [])) (Call.input_written 1) ≡ Call.Refused 11)
+unfolding waiting
+refused = (refl, refl, refl)
 
 -- open is answered ok, so that the claims are not of runners that cannot be
 opens : (Opens in_frames 0 store (0 ∷ 0 ∷ 0 ∷ 0 ∷ [])) × (Opens in_bytes 0 store (0 ∷ 0 ∷ 0 ∷ 0 ∷ []))
