@@ -407,7 +407,8 @@ fn known(fields: &[&str]) -> bool {
         ] => true,
         ["CloseInput" | "Settle", "-", "-"] => true,
         ["refused", number, "-"] => REFUSALS.contains(&number),
-        ["taken" | "value" | "Credit", number, "-"] => is_number(number),
+        // (An ok with a number is that of input_written.)
+        ["taken" | "value" | "Credit" | "ok", number, "-"] => is_number(number),
         ["pending" | "Stdout" | "Stderr", number, hex] => {
             let lower = |byte| matches!(byte, b'0'..=b'9' | b'a'..=b'f');
             number == (hex.len() / 2).to_string() && hex.len() % 2 == 0 && hex.bytes().all(lower)
