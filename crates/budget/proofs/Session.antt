@@ -4,7 +4,7 @@ use Rattle.exec.specs.declared.Limits.{Limits}
 use Rattle.exec.specs.declared.Key.{Key}
 use Rattle.exec.specs.Key.{new_key, admits}
 use Rattle.exec.specs.Limits.{no_limits, bytes_window, frames_window, limits_for, cost, bytes_with}
-use Rattle.ring.specs.Frames.{pop_from}
+use Rattle.ring.specs.Frames.{pop_from, rest_of}
 use Rattle.ring.specs.Ring.{wrap, ring_from, ring_write}
 use Rattle.ring.specs.Runs.{copied}
 use Rattle.inbox.specs.Inbox.{pop_came}
@@ -24,7 +24,7 @@ use Rattle.calls.specs.Call.{Conf, Call, Answer, Done}
 use Rattle.account.specs.Claim.{Opens}
 use Rattle.account.specs.Step.{State, next, answer, opened, on_runner}
 use Rattle.account.specs.Records.{Entry, call, next_entry, answer_entry, after_entries, run_entries, made, dones_of}
-use Rattle.budget.specs.BudgetClaim.{came, frames, writes}
+use Rattle.budget.specs.BudgetClaim.{came, frames, writes, left}
 
 abbrev own : Key
 own = new_key 7 2
@@ -77,6 +77,13 @@ in_two = refl
 in_two_sum : (came (done in_frames writing) ≡ 3) × (frames (done in_frames writing) ≡ 2) × (writes (done in_frames writing) ≡ 2)
 unfolding done
 in_two_sum = (refl, refl, refl)
+
+-- the frames that wait, as calls and answers tell: both, then a byte of the second, then none
+in_two_left : (left [] (done in_frames (three ∷ two ∷ [])) ≡ 3 ∷ 2 ∷ [])
+    × (left [] (done in_frames (three ∷ two ∷ Call.input_written 4 ∷ [])) ≡ 1 ∷ [])
+    × (left [] (done in_frames writing) ≡ [])
+unfolding done rest_of
+in_two_left = (refl, refl, refl)
 
 -- and so of one frame that is written byte by byte: 3 is 1 + 2
 abbrev byte_by_byte : List Call
