@@ -1,6 +1,5 @@
--- Why a pop comes to no more frames than is claimed, and sessions that are computed.
+-- What one write does, what one call does to the input, and so over lists; and sessions that are computed.
 pub mod Writes
-pub mod Few
-pub mod Exact
-pub mod Sums
+pub mod Goes
+pub mod Lists
 pub mod Session

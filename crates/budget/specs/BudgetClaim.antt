@@ -70,7 +70,8 @@ left fs (d ∷ ds) = left (left_by d.call d.answer fs) ds
 
 -- THE BUDGET, for a runner that open answered ok, stores of any content, and every list of calls and records
 pub record Budget (conf : Conf) (now : ℕ) (bytes lengths : List ℕ) : Type 0 where
-  -- EXACTLY: of an open input in frames, a write comes to as many of those that wait as it comes to with bytes still to take
+  -- EXACTLY: of an open input in frames, the number is `came_of` the frames that wait, for the bytes taken, n or all that wait: how many
+  -- of them have fewer bytes than these before them (`came_before` and `came_all` of the ring)
   pub exact : (es : List Entry) (n m : ℕ) → let s = after_entries (opened conf now bytes lengths) es in
       let fs = left [] (dones_of conf (run_entries (opened conf now bytes lengths) es)) in
       conf.limits.input.unit ≡ Frames → s.runner.input.closed ≡ false → answer s (input_written n) ≡ Came m → m ≡ came_of fs (min n (sum fs))

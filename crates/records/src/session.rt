@@ -123,12 +123,11 @@ impl<'a, W: Write> Session<'a, W> {
         writeln!(self.to, "pending,{}", Answer(waiting))?;
         let mut lengths = [0u32; 2];
         let counting = self.runner.input_written(&mut lengths, 2);
-        self.runner = counting.runner;
-        writeln!(
-            self.to,
-            "input_written,2,{}",
-            Answer(counting.answer.map(Came))
-        )
+        let came = After {
+            runner: counting.runner,
+            answer: counting.answer.map(Came),
+        };
+        self.step("input_written,2", came)
     }
 
     // The workload's streams close; it exits with a status, if that is known, and settles, once the input's end was asked for.
