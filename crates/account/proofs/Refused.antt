@@ -22,7 +22,8 @@ use Rattle.runner.specs.Range.{in_range, bytes_do, lengths_do, stop, open_stop, 
 use Rattle.output.specs.Output.{output_fits}
 use Rattle.codec.specs.declared.Record.{Record}
 use Rattle.codec.specs.Codec as Codec
-use Rattle.codec.specs.Codec.{start, size, WrittenAfter, written_after}
+use Rattle.exec.specs.Written.{WrittenAfter, written_after}
+use Rattle.codec.specs.Codec.{start, size}
 use Rattle.exits.specs.Exit as Exit
 use Rattle.exits.specs.Exit.{is_untold, is_told, request, is_mine, guess}
 use Rattle.octets.specs.Text.{same}

@@ -10,7 +10,7 @@ use Rattle.runner.specs.Calls as Calls
 use Rattle.runner.specs.Range.{bytes_do, lengths_do}
 use Rattle.codec.specs.declared.Record.{Record}
 use Rattle.codec.specs.Codec as Codec
-use Rattle.codec.specs.Codec.{WrittenAfter}
+use Rattle.exec.specs.Written.{WrittenAfter}
 use Rattle.exits.specs.Exit as Exit
 use Rattle.channel.specs.Calls as Channel
 use Rattle.calls.specs.Call as Call

@@ -1,6 +1,7 @@
 -- The records of an open channel, by RFC 4254, 5.2 and 5.3: kind, channel, and what the kind has behind them.
 use Rattle.std.specs.Prelude.{Bool, true, cond, List, ◌∷◌, ◌++◌, ℕ, ◌+◌, ◌^◌, ◌<◌, eqb, leb, length, take, drop, get_or, Option, Some, None, Result, Ok, Err}
 use Rattle.exec.specs.declared.Refusal.{Refusal}
+use Rattle.exec.specs.Written.{WrittenAfter, written_after}
 use Rattle.exec.specs.declared.Refusal.TheVariants.{BadLength, UnknownKind, OtherChannel, BadType, BufferShort}
 use Rattle.codec.specs.declared.Record.{Record}
 use Rattle.codec.specs.declared.Record.TheVariants.{Adjust, Data, Extended, Eof, Close}
@@ -97,14 +98,6 @@ read channel s =
     cond (eqb (length s) 0) (Err BadLength) (checked channel s (kinded (get_or s 0 0) s))
 
 -- ---- writing: 25, then 20 for a payload that has not the record's length
-
--- what write leaves: its answer, and the buffer
-pub record WrittenAfter : Type 0 where
-  pub answer : Result ℕ Refusal
-  pub buffer : List ℕ
-
-abbrev pub written_after : Result ℕ Refusal → List ℕ → WrittenAfter
-written_after answer buffer = record { answer = answer; buffer = buffer }
 
 -- the record at the buffer's start; nothing else is written
 unfoldable pub write : (channel : ℕ) → Record → (payload buffer : List ℕ) → WrittenAfter

@@ -16,7 +16,8 @@ use Rattle.codec.specs.declared.Record.{Record}
 use Rattle.codec.specs.declared.Record.TheVariants.{Adjust, Data, Extended, Eof, Close}
 use Rattle.octets.specs.Bytes.{be32, number_at, number_within}
 use Rattle.octets.specs.BytesLaws.{number_written, number_fits, within_some, within_none, peel}
-use Rattle.codec.specs.Codec.{header, start, size, Fits, bytes_of, kinded, numbered, spelled, is_typed, fitting, checked, read, written_after, write, laid_record, lay}
+use Rattle.exec.specs.Written.{written_after}
+use Rattle.codec.specs.Codec.{header, start, size, Fits, bytes_of, kinded, numbered, spelled, is_typed, fitting, checked, read, write, laid_record, lay}
 
 pub header_length : (channel : ℕ) (rec : Record) → length (header channel rec) ≡ start rec
 unfolding header

@@ -5,7 +5,8 @@ use Rattle.std.proofs.Common.{arith, ne_eqb}
 use Rattle.exec.specs.declared.Refusal.TheVariants.{UnknownKind, BufferShort}
 use Rattle.exec.specs.Refusal.{number}
 use Rattle.codec.specs.declared.Record.TheVariants.{Data, Extended, Eof, Close}
-use Rattle.codec.specs.Codec.{header, bytes_of, kinded, checked, read, written_after, laid_record, lay}
+use Rattle.exec.specs.Written.{written_after}
+use Rattle.codec.specs.Codec.{header, bytes_of, kinded, checked, read, laid_record, lay}
 
 -- twelve bytes
 abbrev twelve : List ℕ

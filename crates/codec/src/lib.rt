@@ -4,6 +4,7 @@
 ghost use Rattle.std.specs.Prelude.{◌≡◌, nat_eq, ◌∷◌, ◌++◌, ◌+◌, ◌*◌, ◌≤◌, length, drop};
 ghost use Rattle.std.specs.List.{flat_map};
 ghost use Rattle.octets.specs.Bytes.{be32, number_at};
+ghost use Rattle.exec.specs.Written.{written_after};
 ghost use Rattle.codec.specs.Codec.{
   start,
   size,
@@ -11,7 +12,6 @@ ghost use Rattle.codec.specs.Codec.{
   spelled,
   fitting,
   read,
-  written_after,
   write,
   laid_record,
   lay,

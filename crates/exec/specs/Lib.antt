@@ -7,4 +7,5 @@ pub mod Pair
 pub mod Limits
 pub mod Time
 pub mod Outcome
+pub mod Written
 pub mod Edges

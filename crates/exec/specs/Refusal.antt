@@ -2,7 +2,7 @@
 use Rattle.std.specs.Prelude.{ℕ, ◌≡◌, refl, Bool, true, false, cond, List, [], ◌∷◌, eqb, Option, Some, None}
 use Rattle.std.proofs.Common.{arith, eqb-true}
 use Rattle.exec.specs.declared.Refusal.{Refusal}
-use Rattle.exec.specs.declared.Refusal.TheVariants.{Key, Pool, Credit, Chunk, Window, Ended, NoLimits, StoreShort, StateOutOfRange, NotAChannel, BadLength, UnknownKind, OtherChannel, BadType, NotInbound, BufferShort, BadLine, UntoldStatus, BadRequest}
+use Rattle.exec.specs.declared.Refusal.TheVariants.{Key, Pool, Credit, Chunk, Window, Ended, NoLimits, StoreShort, StateOutOfRange, NotAChannel, BadLength, UnknownKind, OtherChannel, BadType, NotInbound, BufferShort, BadLine, UntoldStatus, BadRequest, NotFramed, BadFrame, PaddedFrame}
 
 abbrev pub number : Refusal → ℕ
 number Key = 1
@@ -24,12 +24,16 @@ number BufferShort = 25
 number BadLine = 30
 number UntoldStatus = 40
 number BadRequest = 41
+number NotFramed = 42
+number BadFrame = 43
+number PaddedFrame = 44
 
 -- every refusal, in the order of the table
 abbrev pub stops : List Refusal
 stops =
     Key ∷ Pool ∷ Credit ∷ Chunk ∷ Window ∷ Ended ∷ NoLimits ∷ StoreShort ∷ StateOutOfRange ∷ NotAChannel ∷ BadLength ∷ UnknownKind
-    ∷ OtherChannel ∷ BadType ∷ NotInbound ∷ BufferShort ∷ BadLine ∷ UntoldStatus ∷ BadRequest ∷ []
+    ∷ OtherChannel ∷ BadType ∷ NotInbound ∷ BufferShort ∷ BadLine ∷ UntoldStatus ∷ BadRequest ∷ NotFramed ∷ BadFrame
+    ∷ PaddedFrame ∷ []
 
 unfoldable pub find : ℕ → List Refusal → Option Refusal
 find n [] = None
@@ -60,6 +64,9 @@ refusal_number BufferShort = refl
 refusal_number BadLine = refl
 refusal_number UntoldStatus = refl
 refusal_number BadRequest = refl
+refusal_number NotFramed = refl
+refusal_number BadFrame = refl
+refusal_number PaddedFrame = refl
 
 -- a refusal that was found, at the head of a list or behind it, has the number
 found : (b : Bool) (n : ℕ) (x y : Refusal) (rest : Option Refusal) → eqb (number y) n ≡ b → (rest ≡ Some x → number x ≡ n)

@@ -457,6 +457,9 @@ pub enum Refusal {
     BadLine = 30,
     UntoldStatus = 40,
     BadRequest = 41,
+    NotFramed = 42,
+    BadFrame = 43,
+    PaddedFrame = 44,
 }
 
 impl Refusal {
@@ -490,6 +493,9 @@ impl fmt::Display for Refusal {
             Refusal::BadLine => "the line is no call",
             Refusal::UntoldStatus => "no request tells the status",
             Refusal::BadRequest => "the request tells no status",
+            Refusal::NotFramed => "the limits or the stream are not those of frames",
+            Refusal::BadFrame => "the frame is none that a peer sends on these streams",
+            Refusal::PaddedFrame => "the frame is padded",
         })
     }
 }

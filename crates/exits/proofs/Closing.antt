@@ -10,7 +10,8 @@ use lib.ListN.{length, take, drop, length-append, length-take, length-drop}
 use lib.Seq.{take_at, drop_at, take_all, drop-drop, drop-length}
 use borrow.Author.Tests.{le-leb}
 use Rattle.codec.specs.declared.Record.TheVariants.{Close}
-use Rattle.codec.specs.Codec.{header, bytes_of, WrittenAfter, written_after, write}
+use Rattle.exec.specs.Written.{WrittenAfter, written_after}
+use Rattle.codec.specs.Codec.{header, bytes_of, write}
 use Rattle.exec.specs.declared.Refusal.TheVariants.{UntoldStatus}
 use Rattle.exits.specs.Exit.{request, is_told, told, is_untold, ending, closed, close}
 use Rattle.exits.specs.ExitLaws.{ending_length, close_roomy}

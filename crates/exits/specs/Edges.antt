@@ -13,7 +13,8 @@ use Rattle.exec.specs.Refusal.{number}
 use Rattle.ring.specs.Flags.{and_r}
 use Rattle.octets.specs.Bytes.{be32_at, number_at}
 use Rattle.octets.specs.Text.{bytes, same, same_is}
-use Rattle.codec.specs.Codec.{header, bytes_of, WrittenAfter, written_after}
+use Rattle.exec.specs.Written.{WrittenAfter, written_after}
+use Rattle.codec.specs.Codec.{header, bytes_of}
 use Rattle.exits.specs.Signals.{name_of, number_of}
 use Rattle.exits.specs.SignalLaws.{named_any}
 use Rattle.exits.specs.RoundTrip.{guess_told}

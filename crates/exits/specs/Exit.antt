@@ -8,7 +8,8 @@ use Rattle.exec.specs.declared.Status.TheVariants.{Exited, Signaled}
 use Rattle.octets.specs.Bytes.{be32, number_at}
 use Rattle.octets.specs.Text.{bytes, same}
 use Rattle.codec.specs.declared.Record.TheVariants.{Close}
-use Rattle.codec.specs.Codec.{bytes_of, WrittenAfter, written_after}
+use Rattle.exec.specs.Written.{WrittenAfter, written_after}
+use Rattle.codec.specs.Codec.{bytes_of}
 use Rattle.exits.specs.Signals.{name_of, number_of}
 
 -- ---- the request of a status

@@ -5,7 +5,7 @@ ghost use Rattle.std.specs.Prelude.{◌≡◌, ◌&&◌, ◌++◌, ◌+◌, ◌�
 ghost use Rattle.std.specs.Option.{option_map};
 ghost use Rattle.octets.specs.Bytes.{be32};
 ghost use Rattle.octets.specs.Text.{bytes, same};
-ghost use Rattle.codec.specs.Codec.{written_after};
+ghost use Rattle.exec.specs.Written.{written_after};
 ghost use Rattle.exits.specs.Exit.{
   string,
   head,

@@ -1,9 +1,9 @@
-// Numbers in bytes: a u32 read and written as four of them, the most significant first.
+// Numbers in bytes: a u32 read and written as four of them, or read as three, the most significant first.
 #![tactic(auto)]
 
 ghost use Rattle.std.specs.Prelude.{◌≡◌, ◌+◌, ◌≤◌, length};
 ghost use Rattle.ring.specs.Runs.{copied};
-ghost use Rattle.octets.specs.Bytes.{be32, number_within};
+ghost use Rattle.octets.specs.Bytes.{be32, number_within, number24_within};
 
 // The number whose four bytes stand at index at, if the bytes do not end before.
 #[tactic(auto, unfolding(crate::specs::Bytes::number_within, crate::specs::Bytes::be32_at))]
@@ -21,4 +21,13 @@ pub fn put_be32(buffer: &mut [u8], at: usize, v: u32)
     ensures { buffer.new ≡ copied buffer.old at (be32 v) 0 4 }
 {
     buffer[at..at + 4].copy_from_slice(&v.to_be_bytes());
+}
+
+// The number whose three bytes stand at index at, if the bytes do not end before.
+#[tactic(auto, unfolding(crate::specs::Bytes::number24_within, crate::specs::Bytes::be24_at))]
+pub fn number24_at(s: &[u8], at: usize) -> Option<u32>
+    ensures { result ≡ number24_within s.now at }
+{
+    let three: &[u8; 3] = s.get(at..)?.first_chunk()?;
+    Some(u32::from_be_bytes([0, three[0], three[1], three[2]]))
 }
