@@ -1,0 +1,4 @@
+-- What records and frames do alike on a runner.
+pub mod Carrier
+pub mod CarrierLaws
+pub mod SaidLaws
