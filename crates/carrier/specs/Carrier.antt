@@ -1,10 +1,10 @@
 -- What carries a runner's messages over a wire, and a peer's calls to it: a channel's records (crate channel), or frames (crate
 -- frames). What both do alike: what is met first, the answer of the call that is made, and where a message is asked for.
-use Rattle.std.specs.Prelude.{Bool, cond, List, ◌++◌, ℕ, ◌+◌, max, take, drop, Option, Result, Some, None, Ok, Err}
+use Rattle.std.specs.Prelude.{Bool, cond, List, ◌++◌, ℕ, ◌+◌, max, leb, length, take, drop, Option, Result, Some, None, Ok, Err}
 use Rattle.exec.specs.declared.Limits.{Limits}
 use Rattle.exec.specs.declared.Receipt.{Receipt}
 use Rattle.exec.specs.declared.Refusal.{Refusal}
-use Rattle.exec.specs.declared.Refusal.TheVariants.{BufferShort}
+use Rattle.exec.specs.declared.Refusal.TheVariants.{BufferShort, UntoldStatus}
 use Rattle.exec.specs.declared.Unit as Units
 use Rattle.exec.specs.declared.Unit.TheVariants.{Bytes, Frames}
 use Rattle.runner.specs.declared.answer.After.{After}
@@ -12,7 +12,7 @@ use Rattle.runner.specs.declared.answer.Message.{Message}
 use Rattle.runner.specs.declared.runner.Runner.{Runner}
 use Rattle.runner.specs.Calls as Calls
 use Rattle.runner.specs.Message.{MessageAfter, message_after}
-use Rattle.runner.specs.Range.{stop}
+use Rattle.runner.specs.Range.{bytes_do, stop}
 use Rattle.std.proofs.Math.Bool.{true, false}
 
 -- ---- what is met first: 12, 10, 11, and then, where the carrier is not for the runner, a refusal of its own
@@ -116,3 +116,22 @@ wrote_buffer w (Err x) buffer = buffer
 unfoldable pub told : Laying → MessageAfter → WriteAfter
 told w x =
     write_after (record { runner = x.saying.runner; answer = wrote w x.saying.answer }) (wrote_buffer w x.saying.answer x.buffer)
+
+-- how a carrier takes the next message: from where on it is asked for, whether the carrier is for the runner, and by what it refuses
+-- any other, whether the message is left, as it cannot be told, and how it is laid
+pub record Carriage : Type 0 where
+  pub at : ℕ
+  pub carries : Bool
+  pub own : Refusal
+  pub left : Bool
+  pub laying : Laying
+
+-- 40, and nothing changes; else the message is taken and told
+unfoldable pub sent : Carriage → Runner → (store buffer : List ℕ) → WriteAfter
+sent k r store buffer =
+    cond k.left (write_after (unwritten UntoldStatus r) buffer) (told k.laying (asked k.at r store buffer))
+
+-- the next message, written
+unfoldable pub write : Carriage → Runner → (store buffer : List ℕ) → WriteAfter
+write k r store buffer =
+    written (readied (admitted r (bytes_do r.limits store) k.carries k.own) (leb (room r.limits) (length buffer))) (sent k r store buffer) r buffer

@@ -2,3 +2,4 @@
 pub mod Carrier
 pub mod CarrierLaws
 pub mod SaidLaws
+pub mod Writes

@@ -15,7 +15,7 @@ use Rattle.runner.specs.MessageLaws.{chosen, least, payload_length}
 use Rattle.runner.specs.Range.{bytes_do, stop}
 use Rattle.runner.specs.RangeLaws.{is_good_lem}
 use Rattle.runner.specs.State.{out_of, credit_at}
-use Rattle.carrier.specs.Carrier.{WriteAfter, written, part_back, asked, Laying, wrote, wrote_buffer, told}
+use Rattle.carrier.specs.Carrier.{part_back, asked, Laying, wrote, wrote_buffer, told}
 use Rattle.carrier.specs.CarrierLaws.{part_kept, part_long, part_beyond}
 
 -- ---- of a runner in range with its stores: an Output is of a chunk at most, and Credit of the input's window
@@ -135,10 +135,3 @@ module _ (at : ℕ) (r : Runner) (store b : List ℕ) where
           → wrote_buffer w (message_by met r store lent).saying.answer (part_back at r.limits.chunk b (message_by met r store lent).buffer) ≡ b
       by (Ok tt) e = choice (choose r (length lent)) e
       by (Err x) e = part_kept at r.limits.chunk b
-
--- where no message was written, nothing of the buffer was
-pub none_written : (a : Result (Unit {0}) Refusal) (sent : WriteAfter) (r : Runner) (b : List ℕ) → (sent.writing.answer ≡ Ok None → sent.buffer ≡ b)
-    → (written a sent r b).writing.answer ≡ Ok None → (written a sent r b).buffer ≡ b
-unfolding written
-none_written (Ok tt) sent r b h e = h e
-none_written (Err x) sent r b h e = refl

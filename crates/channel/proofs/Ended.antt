@@ -1,12 +1,15 @@
--- The ways of a write, what the record of a Terminal tells, and that a Terminal that is left stays with the runner.
-use Rattle.std.specs.Prelude.{Bool, cond, not, ◌&&◌, List, ℕ, ◌^◌, ◌<◌, leb, length, take, drop, Result, Some, Ok, Err}
+-- What the record of a Terminal tells, that a Terminal that is left stays with the runner, and what a write keeps of the buffer.
+use Rattle.std.specs.Prelude.{Bool, cond, not, List, ℕ, ◌+◌, ◌^◌, ◌≤◌, ◌<◌, length, take, drop, ◌++◌, Option, Result, Some, None, Ok, Err}
 use Rattle.std.proofs.Math.Bool.{true, false}
 use Rattle.std.proofs.lemmas.Bool.{false≢true}
 use Rattle.std.proofs.Math.Path.{◌≡◌, refl, sym, ap, subst⁻¹}
-use Rattle.std.proofs.Common.{subst, ◌∙◌, arith, leb-true, leb-false}
-use Rattle.exec.specs.declared.Outcome.{Outcome}
+use Rattle.std.proofs.Common.{subst, ◌∙◌, arith, length-append, length-drop, length-take-le}
+use Rattle.exec.specs.declared.Limits.{Limits}
 use Rattle.exec.specs.declared.Refusal.{Refusal}
-use Rattle.exec.specs.declared.Refusal.TheVariants.{NoLimits, StoreShort, StateOutOfRange, NotAChannel, UntoldStatus}
+use Rattle.exec.specs.declared.Refusal.TheVariants.{NoLimits, StoreShort, StateOutOfRange, UntoldStatus}
+use Rattle.exec.specs.declared.Outcome.{Outcome}
+use Rattle.exec.specs.declared.Status.{Status}
+use Rattle.exec.specs.declared.Stream.TheVariants.{Stdout, Stderr}
 use Rattle.exec.specs.Limits.{is_valid}
 use Rattle.exec.specs.Refusal.{number}
 use Rattle.choice.specs.declared.Choice.{Choice}
@@ -17,32 +20,19 @@ use Rattle.runner.specs.Life.{outcome_of}
 use Rattle.runner.specs.Message.{choose, said_for}
 use Rattle.runner.specs.Range.{in_range, bytes_do, stop}
 use Rattle.runner.specs.TerminalLaws.{still}
+use Rattle.codec.specs.declared.Record.{Record}
+use Rattle.codec.specs.declared.Record.TheVariants.{Adjust, Data, Extended, Eof}
+use Rattle.codec.specs.Codec.{start, size, header, bytes_of, laid_record}
+use Rattle.codec.specs.CodecLaws.{header_length, start_most}
 use Rattle.exits.specs.Exit.{is_untold, ending}
-use Rattle.channel.specs.Calls.{WriteAfter, write_after, is_channel, admitted, has_ended, sent_as, sent_buffer, wrote, wrote_buffer, told, asked, is_left, unwritten, sent, room, roomy_write, admitted_write, write_record}
-use Rattle.exits.proofs.Ended.{ended_reads}
-use Rattle.channel.specs.Ended.{Writes, elsewhere, short, left, taken, number_of, Still, Ending, EndsAs}
-
--- ---- the ways of a write
-
-module _ (r : Runner) (channel : ℕ) (store b : List ℕ) where
-  write_by : (channels roomy isleft : Bool) → is_channel r.limits ≡ channels → leb (room r.limits) (length b) ≡ roomy → is_left (asked r store b).saying.answer ≡ isleft
-      → Writes r channel store b (channels && roomy) (admitted_write (cond channels (Ok tt) (Err NotAChannel)) r channel store b)
-  unfolding admitted_write roomy_write sent
-  write_by false roomy isleft c e u = elsewhere c
-  write_by true false isleft c e u = rw e (short c (leb-false (room r.limits) (length b) e))
-  write_by true true true c e u = rw (e, u) (left u)
-  write_by true true false c e u = rw (e, u) (taken u (leb-true (room r.limits) (length b) e))
-
-  -- of a runner in range with its stores
-  pub writes : stop r (bytes_do r.limits store) ≡ Ok tt
-      → Writes r channel store b (is_channel r.limits && leb (room r.limits) (length b)) (write_record r channel store b)
-  unfolding write_record admitted
-  writes g = rw g (write_by (is_channel r.limits) (leb (room r.limits) (length b)) (is_left (asked r store b).saying.answer) refl refl refl)
-
-  -- and of any other
-  pub stopped : (x : Refusal) → stop r (bytes_do r.limits store) ≡ Err x → write_record r channel store b ≡ write_after (unwritten x r) b
-  unfolding write_record admitted admitted_write
-  stopped x g = rw g refl
+use Rattle.exits.proofs.Ended.{ended_reads, ending_bound}
+use Rattle.carrier.specs.Carrier.{WriteAfter, write_after, unwritten, room, asked, told, wrote, wrote_buffer, Carriage}
+use Rattle.carrier.specs.CarrierLaws.{beyond}
+use Rattle.carrier.specs.SaidLaws.{Within, Keeps}
+use Rattle.carrier.specs.Writes as Writes
+use Rattle.carrier.specs.Writes.{Writes, elsewhere, short, left, taken, writes, stopped}
+use Rattle.channel.specs.Calls.{has_ended, sent_as, sent_buffer, laying, is_left, carriage, write_record}
+use Rattle.channel.specs.Ended.{number_of, Still, Ending, EndsAs}
 
 -- ---- a Terminal that is left
 
@@ -57,16 +47,8 @@ choice_left (Choice.End x) r e = absurd (false≢true e)
 choice_left (Choice.Output x n) r e = absurd (false≢true e)
 choice_left Choice.Terminal r e = (refl, e)
 
--- where there is room it is left by 40
-pub write_left : (r : Runner) (channel : ℕ) (store b : List ℕ) (met : Bool) (w : WriteAfter) → Writes r channel store b met w → met ≡ true
-    → is_left (asked r store b).saying.answer ≡ true → w ≡ write_after (unwritten UntoldStatus r) b
-write_left r channel store b met w (elsewhere c) m e = absurd (false≢true m)
-write_left r channel store b met w (short c l) m e = absurd (false≢true m)
-write_left r channel store b met w (left u) m e = refl
-write_left r channel store b met w (taken u l) m e = absurd (false≢true (sym u ∙ e))
-
 -- what is told is no refusal
-said_number : (c : Choice) (r : Runner) (channel : ℕ) (ended : Bool) → number_of (wrote channel ended (said_for c r)) ≡ 0
+said_number : (c : Choice) (r : Runner) (channel : ℕ) (ended : Bool) → number_of (wrote (laying channel ended) (said_for c r)) ≡ 0
 unfolding said_for wrote
 said_number Choice.None r channel ended = refl
 said_number Choice.Credit r channel ended = refl
@@ -85,16 +67,19 @@ stop_number true true false x e = let q : number StoreShort ≡ number x = cc in
 stop_number true true true x e = let z : ◌≡◌ {A = ℕ} 0 1 = cc in absurd (omega arith)
 
 module _ (r : Runner) (channel : ℕ) (store b : List ℕ) where
-  still_left : stop r (bytes_do r.limits store) ≡ Ok tt → is_left (asked r store b).saying.answer ≡ true
+  k : Carriage
+  k = carriage r channel store b
+
+  still_left : stop r (bytes_do r.limits store) ≡ Ok tt → is_left (asked 13 r store b).saying.answer ≡ true
       → write_record r channel store b ≡ write_after (unwritten UntoldStatus r) b → Still r channel store b
   unfolding asked Calls.next_message said_for
   still_left g u e =
       let p = choice_left (choose r (length (take r.limits.chunk (drop 13 b)))) r (rw g at u) in
       record { kept = e; said = λ part. rw (g, still r _ (length part) p.0) refl; untold = p.1 }
 
-  by_writes : stop r (bytes_do r.limits store) ≡ Ok tt → (met : Bool) (w : WriteAfter) → Writes r channel store b met w → write_record r channel store b ≡ w
+  by_writes : stop r (bytes_do r.limits store) ≡ Ok tt → (met : Bool) (w : WriteAfter) → Writes k r store b met w → write_record r channel store b ≡ w
       → number_of w.writing.answer ≡ 40 → Still r channel store b
-  unfolding asked told Calls.next_message
+  unfolding asked told Calls.next_message k
   by_writes g met w (elsewhere c) e h = absurd (omega arith)
   by_writes g met w (short c l) e h = absurd (omega arith)
   by_writes g met w (left u) e h = still_left g u e
@@ -104,50 +89,88 @@ module _ (r : Runner) (channel : ℕ) (store b : List ℕ) where
 
   -- A WRITE REFUSED BY 40 CHANGES NOTHING, AND NEXT_MESSAGE STILL GIVES THE TERMINAL
   pub untold_still : (write_record r channel store b).writing.answer ≡ Err UntoldStatus → Still r channel store b
-  unfolding stop
+  unfolding stop write_record k
   untold_still h = by (stop r (bytes_do r.limits store)) refl
     where
       n : number_of (write_record r channel store b).writing.answer ≡ 40
       n = ap number_of h
 
       by : (met : Result (Unit {0}) Refusal) → stop r (bytes_do r.limits store) ≡ met → Still r channel store b
-      by (Ok tt) g = by_writes g _ _ (writes r channel store b g) refl n
+      by (Ok tt) g = by_writes g _ _ (writes k r store b g) refl n
       by (Err x) g =
-          let z : number x ≡ 40 = sym (ap (λ (w : WriteAfter). number_of w.writing.answer) (stopped r channel store b x g)) ∙ n in
+          let z : number x ≡ 40 = sym (ap (λ (w : WriteAfter). number_of w.writing.answer) (stopped k r store b x g)) ∙ n in
           absurd (omega (arith, stop_number (in_range r) (is_valid r.limits) (bytes_do r.limits store) x g))
 
 -- ---- a Terminal that is told
 
 module _ (r : Runner) (channel : ℕ) (known : channel < 2 ^ 32) where
-  choice_ends : (c : Choice) (ended : Bool) (b : List ℕ) → is_left (said_for c r) ≡ false
-      → EndsAs channel (wrote_buffer channel ended (said_for c r) b) (wrote channel ended (said_for c r))
-  unfolding said_for is_left wrote wrote_buffer sent_as sent_buffer
-  choice_ends Choice.None ended b u = tt
-  choice_ends Choice.Credit ended b u = tt
-  choice_ends Choice.Started ended b u = tt
-  choice_ends Choice.InputClosed ended b u = tt
-  choice_ends (Choice.End x) ended b u = tt
-  choice_ends (Choice.Output x n) ended b u = tt
-  choice_ends Choice.Terminal ended b u =
-      let q = ended_reads channel (outcome_of r).status (drop (length (ending channel (outcome_of r).status)) b) known u in
+  said_ends : (ended : Bool) (b : List ℕ) (said : Result (Option Message) Refusal) → is_left said ≡ false
+      → EndsAs channel (wrote_buffer (laying channel ended) said b) (wrote (laying channel ended) said)
+  unfolding is_left wrote wrote_buffer sent_as sent_buffer
+  said_ends ended b (Ok (Some (Message.Terminal o))) u =
+      let q = ended_reads channel o.status (drop (length (ending channel o.status)) b) known u in
       record { told = u; size = refl; tells = q.0; closes = q.1 }
+  said_ends ended b (Ok (Some (Message.Credit units))) u = tt
+  said_ends ended b (Ok (Some Message.Started)) u = tt
+  said_ends ended b (Ok (Some (Message.Output x n))) u = tt
+  said_ends ended b (Ok (Some (Message.End x))) u = tt
+  said_ends ended b (Ok (Some Message.InputClosed)) u = tt
+  said_ends ended b (Ok None) u = tt
+  said_ends ended b (Err x) u = tt
 
-  ends : (store b : List ℕ) → stop r (bytes_do r.limits store) ≡ Ok tt → (met : Bool) (w : WriteAfter) → Writes r channel store b met w
-      → EndsAs channel w.buffer w.writing.answer
-  unfolding asked told Calls.next_message
-  ends store b g met w (elsewhere c) = tt
-  ends store b g met w (short c l) = tt
-  ends store b g met w (left u) = tt
-  ends store b g met w (taken u l) = rw g (choice_ends (choose r (length (take r.limits.chunk (drop 13 b)))) (has_ended r) _ (rw g at u))
+  ends : (store b : List ℕ) (met : Bool) (w : WriteAfter) → Writes (carriage r channel store b) r store b met w → EndsAs channel w.buffer w.writing.answer
+  unfolding told
+  ends store b met w (elsewhere c) = tt
+  ends store b met w (short c l) = tt
+  ends store b met w (left u) = tt
+  ends store b met w (taken u l) = said_ends (has_ended r) (asked 13 r store b).buffer (asked 13 r store b).saying.answer u
 
   ends_so : (store b : List ℕ) → EndsAs channel (write_record r channel store b).buffer (write_record r channel store b).writing.answer
+  unfolding write_record
   ends_so store b = by (stop r (bytes_do r.limits store)) refl
     where
       by : (met : Result (Unit {0}) Refusal) → stop r (bytes_do r.limits store) ≡ met → EndsAs channel (write_record r channel store b).buffer (write_record r channel store b).writing.answer
-      by (Ok tt) g = ends store b g _ _ (writes r channel store b g)
-      by (Err x) g = subst⁻¹ (λ (w : WriteAfter). EndsAs channel w.buffer w.writing.answer) (stopped r channel store b x g) tt
+      by (Ok tt) g = ends store b _ _ (writes (carriage r channel store b) r store b g)
+      by (Err x) g = subst⁻¹ (λ (w : WriteAfter). EndsAs channel w.buffer w.writing.answer) (stopped (carriage r channel store b) r store b x g) tt
 
   -- THE RECORD OF A TERMINAL TELLS ITS STATUS, AND THEN CLOSES
   pub terminal_reads : (store b : List ℕ) (o : Outcome) (n : ℕ) → (write_record r channel store b).writing.answer ≡ (Ok (Some (Message.Terminal o, n)))
       → Ending channel o n (write_record r channel store b).buffer
   terminal_reads store b o n e = subst (EndsAs channel (write_record r channel store b).buffer) e (ends_so store b)
+
+-- ---- what is kept of the buffer
+
+-- a record whose payload is within the chunk is laid within chunk + 13 bytes, and an ending within 43
+record_beyond : (l : Limits) (channel : ℕ) (rec : Record) (b : List ℕ) → room l ≤ length b → size rec ≤ l.chunk
+    → drop (room l) (laid_record channel rec b) ≡ drop (room l) b
+unfolding laid_record bytes_of
+record_beyond l channel rec b h n =
+    let p : length (take (size rec) (drop 13 b)) ≡ size rec = length-take-le (size rec) (drop 13 b) (simp length-drop (omega arith)) in
+    beyond (header channel rec ++ take (size rec) (drop 13 b)) b (start rec + size rec) (room l)
+    (simp length-append (omega (arith, header_length channel rec, p))) (omega (arith, start_most rec))
+
+ending_beyond : (l : Limits) (channel : ℕ) (status : Option Status) (b : List ℕ)
+    → drop (room l) (ending channel status ++ drop (length (ending channel status)) b) ≡ drop (room l) b
+ending_beyond l channel status b = beyond (ending channel status) b (length (ending channel status)) (room l) refl (omega (arith, ending_bound channel status))
+
+keeps : (l : Limits) (channel : ℕ) (ended : Bool) → Keeps l (laying channel ended) (room l) (room l)
+unfolding Keeps Within sent_as sent_buffer
+keeps l channel ended (Message.Credit units) b k h = record_beyond l channel (Adjust units) b h (omega arith)
+keeps l channel ended Message.Started b k h = refl
+keeps l channel ended (Message.Output Stdout n) b k h = record_beyond l channel (Data n) b h k
+keeps l channel ended (Message.Output Stderr n) b k h = record_beyond l channel (Extended n) b h k
+keeps l channel true (Message.End x) b k h = record_beyond l channel Eof b h (omega arith)
+keeps l channel false (Message.End x) b k h = refl
+keeps l channel ended Message.InputClosed b k h = refl
+keeps l channel ended (Message.Terminal o) b k h = ending_beyond l channel o.status b
+
+module _ (r : Runner) (channel : ℕ) (store b : List ℕ) where
+  -- WHERE NO MESSAGE WAITS, THE WHOLE RECORD BUFFER IS KEPT
+  pub none_kept : (write_record r channel store b).writing.answer ≡ Ok None → (write_record r channel store b).buffer ≡ b
+  unfolding write_record
+  none_kept = Writes.none_kept (carriage r channel store b) r store b
+
+  -- ALL BYTES BEHIND max(chunk + 13, 43) ARE KEPT, WHATEVER IS WRITTEN
+  pub beyond_kept : drop (room r.limits) (write_record r channel store b).buffer ≡ drop (room r.limits) b
+  unfolding write_record
+  beyond_kept = Writes.beyond_kept (carriage r channel store b) r store b (omega arith) (keeps r.limits channel (has_ended r))

@@ -1,4 +1,3 @@
 -- What the proofs of several functions share, and what holds of every write.
 pub mod Steps
 pub mod Ended
-pub mod Kept

@@ -35,7 +35,8 @@ use Rattle.runner.specs.Streams as Streams
 use Rattle.runner.specs.Streams.{InputAfter, input_after}
 use Rattle.codec.specs.declared.Record.TheVariants.{Adjust, Data}
 use Rattle.channel.specs.Calls as Channel
-use Rattle.channel.specs.Calls.{room}
+use Rattle.carrier.specs.Carrier as Carrier
+use Rattle.carrier.specs.Carrier.{room}
 use Rattle.octets.specs.Bytes.{be32_at, number_at}
 use Rattle.codec.specs.Codec.{header, bytes_of, kinded, fitting, checked, read}
 use Rattle.codec.specs.Edges.{kind_over}
@@ -239,13 +240,17 @@ foreign = (refl, refl, refl, refl, refl, refl)
 
 -- ---- what the codec refuses is refused so, of every runner that is not refused before; so 98 inbound is still 21
 
-pub unread : (r : Runner) (at channel : ℕ) (s store lengths : List ℕ) (x : Refusal) → Channel.admitted r (Calls.stores_do r store lengths) ≡ Ok tt
-    → read channel s ≡ Err x → Channel.read_record r at channel s store lengths ≡ Channel.read_after (Channel.unread x r) store lengths
-unfolding Channel.read_record Channel.admitted_read Channel.parsed_read
+-- of a runner in range, on a channel, with its stores
+abbrev admitted : Runner → (store lengths : List ℕ) → Result (Unit {0}) Refusal
+admitted r store lengths = Carrier.admitted r (Calls.stores_do r store lengths) (Channel.is_channel r.limits) Refusal.NotAChannel
+
+pub unread : (r : Runner) (at channel : ℕ) (s store lengths : List ℕ) (x : Refusal) → admitted r store lengths ≡ Ok tt
+    → read channel s ≡ Err x → Channel.read_record r at channel s store lengths ≡ Carrier.read_after (Carrier.unread x r) store lengths
+unfolding Channel.read_record Carrier.accepted Channel.parsed_read
 unread r at channel s store lengths x g e = rw (g, e) refl
 
-pub inbound : (r : Runner) (at channel : ℕ) (s store lengths : List ℕ) → Channel.admitted r (Calls.stores_do r store lengths) ≡ Ok tt
-    → Channel.read_record r at channel (98 ∷ s) store lengths ≡ Channel.read_after (Channel.unread Refusal.UnknownKind r) store lengths
+pub inbound : (r : Runner) (at channel : ℕ) (s store lengths : List ℕ) → admitted r store lengths ≡ Ok tt
+    → Channel.read_record r at channel (98 ∷ s) store lengths ≡ Carrier.read_after (Carrier.unread Refusal.UnknownKind r) store lengths
 inbound r at channel s store lengths g = unread r at channel (98 ∷ s) store lengths Refusal.UnknownKind g (kind_over channel 98 s (omega arith))
 
 -- ---- 02, A1: "25 asks for the larger of chunk + 13 and 43", for every message
@@ -260,7 +265,7 @@ on_channel : Limits
 on_channel = limits_for 4 (bytes_window 8) (bytes_window 8) true
 
 wrotes : (bytes : ℕ) → (Result (Option (Message × ℕ)) Refusal)
-unfolding opened Calls.next_message Message.choose order if_else Message.effect Message.said_for Channel.write_record Channel.admitted Channel.admitted_write Channel.roomy_write Channel.sent Channel.asked Channel.is_left Channel.told Channel.wrote Channel.sent_as on_channel
+unfolding opened Calls.next_message Message.choose order if_else Message.effect Message.said_for Channel.write_record Carrier.write Carrier.admitted Carrier.readied Carrier.written Carrier.sent Carrier.asked Channel.is_left Carrier.told Carrier.wrote Channel.sent_as on_channel
 wrotes bytes = (Channel.write_record (opened on_channel) 5 (zeros 16) (zeros bytes)).writing.answer
 
 short : (wrotes 42 ≡ Err Refusal.BufferShort) × (wrotes 43 ≡ (Ok (Some (Messages.Credit 8, 9)))) × (number Refusal.BufferShort ≡ 25)

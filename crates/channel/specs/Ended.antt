@@ -1,10 +1,10 @@
 -- How a session ends on a channel: what the record of a Terminal tells, and a Terminal that is left with the runner.
-use Rattle.std.specs.Prelude.{Bool, List, ℕ, ◌-◌, ◌≤◌, ◌<◌, length, take, drop, Option, Result, Some, None, Ok, Err}
+use Rattle.std.specs.Prelude.{List, ℕ, ◌-◌, length, take, drop, Option, Result, Some, None, Ok, Err}
 use Rattle.std.proofs.Math.Bool.{true, false}
 use Rattle.std.proofs.Math.Path.{◌≡◌}
 use Rattle.exec.specs.declared.Refusal.{Refusal}
 use Rattle.exec.specs.declared.Outcome.{Outcome}
-use Rattle.exec.specs.declared.Refusal.TheVariants.{NotAChannel, BufferShort, UntoldStatus}
+use Rattle.exec.specs.declared.Refusal.TheVariants.{UntoldStatus}
 use Rattle.exec.specs.Refusal.{number}
 use Rattle.runner.specs.declared.answer.Message.{Message}
 use Rattle.runner.specs.declared.runner.Runner.{Runner}
@@ -14,20 +14,8 @@ use Rattle.codec.specs.declared.Record.TheVariants.{Close}
 use Rattle.codec.specs.Codec.{read}
 use Rattle.exits.specs.Exit.{is_untold, ending}
 use Rattle.exits.specs.RoundTrip.{Tells}
-use Rattle.channel.specs.Calls.{WriteAfter, write_after, is_channel, has_ended, part_back, told, asked, is_left, unwritten, room, write_record}
-
--- ---- the ways of a write
-
--- the message is taken and told
-abbrev pub tells : Runner → (channel : ℕ) (store b : List ℕ) → WriteAfter
-tells r channel store b = told (asked r store b).saying (has_ended r) channel (part_back r.limits.chunk b (asked r store b).buffer)
-
--- what a write leaves, by whether it is for a channel and there is room: it is refused by 13, then by 25, then by 40, or its message is told
-pub data Writes (r : Runner) (channel : ℕ) (store b : List ℕ) : Bool → WriteAfter → Type 0 where
-  elsewhere : is_channel r.limits ≡ false → Writes r channel store b false (write_after (unwritten NotAChannel r) b)
-  short : is_channel r.limits ≡ true → length b < room r.limits → Writes r channel store b false (write_after (unwritten BufferShort r) b)
-  left : is_left (asked r store b).saying.answer ≡ true → Writes r channel store b true (write_after (unwritten UntoldStatus r) b)
-  taken : is_left (asked r store b).saying.answer ≡ false → room r.limits ≤ length b → Writes r channel store b true (tells r channel store b)
+use Rattle.carrier.specs.Carrier.{write_after, unwritten}
+use Rattle.channel.specs.Calls.{write_record}
 
 -- ---- a Terminal that is left
 

@@ -1,26 +1,26 @@
 // The two record calls on a runner: a record read is the call that it stands for, a record written is the next message.
-ghost use Rattle.std.specs.Prelude.{◌≡◌, ◌≤◌, length, Ok, Err, MatchResult, IsOkAnd};
+ghost use Rattle.std.specs.Prelude.{◌≡◌, ◌≤◌, length};
+ghost use Rattle.exec.specs.declared.Refusal.TheVariants.{NotAChannel};
+ghost use Rattle.carrier.specs.Carrier.{read_after, accepted, write_after, room, wrote, wrote_buffer, sent};
+ghost use Rattle.carrier.specs.CarrierLaws.{admitted_by};
 ghost use Rattle.channel.specs.Calls.{
   is_channel,
-  read_after,
   made,
   read_record,
-  write_after,
   output_record,
   sent_as,
   has_ended,
   length_of,
   sent_buffer,
-  wrote,
-  wrote_buffer,
+  laying,
   is_left,
-  sent,
-  room,
+  carriage,
   write_record,
 };
-ghost use Rattle.channel.specs.CallLaws.{admitted_by, accepted, readied, Narrow, Sayable, Roomy};
+ghost use Rattle.channel.specs.CallLaws.{Narrow, Sayable, Roomy};
 ghost use Rattle.codec.specs.Codec.{start, read};
 
+use carrier::{admit, ask, read_as, ready, room};
 use codec::Record;
 use exec::{Limits, Pool, Receipt, Refusal, Status, Stream, Unit};
 use inbox::need;
@@ -45,26 +45,10 @@ fn is_channel(limits: Limits) -> bool
     limits.shared && limits.input.unit == Unit::Bytes && limits.output.unit == Unit::Bytes
 }
 
-// The runner's own limits tell 12 and 10; `enough` is whether the lent stores do. (Both are tests of a runner that the call behind
-// them takes away.)
-#[tactic(auto, unfolding(crate::specs::CallLaws::admitted_by, crate::specs::CallLaws::admitted_limits))]
-fn admit(limits: Result<Limits, Refusal>, enough: bool) -> Result<(), Refusal>
-    ensures { result ≡ admitted_by limits enough }
-{
-    let limits = limits?;
-    if !enough {
-        return Err(Refusal::StoreShort);
-    }
-    if !is_channel(limits) {
-        return Err(Refusal::NotAChannel);
-    }
-    Ok(())
-}
-
 // ---- a record read
 
 // Reads a record for the channel at an instant, and makes the call that it stands for under the runner's own key.
-#[tactic(auto, unfolding(crate::specs::Calls::read_record, crate::specs::Calls::parsed_read), using(crate::proofs::Steps::admitted_by_lem, crate::specs::CallLaws::read_by, crate::specs::CallLaws::accepted_whole))]
+#[tactic(auto, unfolding(crate::specs::Calls::read_record, crate::specs::Calls::parsed_read), using(carrier::specs::CarrierLaws::admitted_by_lem, crate::specs::CallLaws::accepted_whole))]
 pub fn read_record(
     runner: Runner,
     at: u64,
@@ -78,7 +62,7 @@ pub fn read_record(
     let limits = runner.limits;
     let enough = (need::byte_need(limits) <= store.len())
         & (need::length_need(limits) <= lengths.len());
-    match accept(runner.limits(), enough, bytes, channel) {
+    match accept(runner.limits(), enough, is_channel(limits), bytes, channel) {
         Ok(rec) => make(rec, runner, at, bytes, store, lengths),
         Err(refusal) => After {
             runner,
@@ -88,16 +72,17 @@ pub fn read_record(
 }
 
 // The record that bytes are, where records are admitted.
-#[tactic(auto, unfolding(crate::specs::CallLaws::accepted))]
+#[tactic(auto, unfolding(carrier::specs::Carrier::accepted))]
 fn accept(
     limits: Result<Limits, Refusal>,
     enough: bool,
+    carries: bool,
     bytes: &[u8],
     channel: u32,
 ) -> Result<Record, Refusal>
-    ensures { result ≡ accepted (admitted_by limits enough) (read channel bytes.now) }
+    ensures { result ≡ accepted (admitted_by limits enough carries NotAChannel) (read channel bytes.now) }
 {
-    admit(limits, enough)?;
+    admit(limits, enough, carries, Refusal::NotAChannel)?;
     codec::read(bytes, channel)
 }
 
@@ -126,26 +111,11 @@ fn make(
     }
 }
 
-// A record's answer is that of the call that it made: its receipt, if the call has one.
-fn read_as<T, F: FnOnce(T) -> Option<Receipt>>(
-    called: After<T>,
-    receipt: F,
-) -> After<Option<Receipt>>
-    requires { F.IsAlwaysCallable receipt }
-    ensures runner { result.runner ≡ called.runner }
-    ensures answer { MatchResult called.answer (λ x. IsOkAnd result.answer (F.post receipt x)) (λ e. result.answer ≡ Err e) }
-{
-    After {
-        runner: called.runner,
-        answer: called.answer.map(receipt),
-    }
-}
-
 // ---- a record written
 
 // Takes the next message, and leaves its record for the channel at the buffer's start. A buffer below chunk + 13 bytes, or
 // below 43, is refused before a message is taken; so is a Terminal whose status no request tells, which next_message still gives.
-#[tactic(auto, unfolding(crate::specs::Calls::write_record, crate::specs::CallLaws::ready_write), using(crate::proofs::Steps::admitted_by_lem, crate::specs::CallLaws::write_by, crate::specs::CallLaws::ready_room))]
+#[tactic(auto, unfolding(crate::specs::Calls::write_record, carrier::specs::Carrier::write, carrier::specs::Carrier::written), using(carrier::specs::CarrierLaws::admitted_by_lem, carrier::specs::CarrierLaws::ready_room))]
 pub fn write_record(
     runner: Runner,
     channel: u32,
@@ -157,7 +127,13 @@ pub fn write_record(
     let limits = runner.limits;
     let enough = need::byte_need(limits) <= store.len();
     let roomy = room(limits) <= buffer.len();
-    match ready(runner.limits(), enough, roomy) {
+    let admitted = admit(
+        runner.limits(),
+        enough,
+        is_channel(limits),
+        Refusal::NotAChannel,
+    );
+    match ready(admitted, roomy) {
         Ok(()) => send(runner, channel, store, buffer),
         Err(refusal) => After {
             runner,
@@ -166,27 +142,8 @@ pub fn write_record(
     }
 }
 
-// The room is asked for where records are admitted.
-#[tactic(auto, unfolding(crate::specs::CallLaws::readied))]
-fn ready(limits: Result<Limits, Refusal>, enough: bool, roomy: bool) -> Result<(), Refusal>
-    ensures { result ≡ readied (admitted_by limits enough) roomy }
-{
-    admit(limits, enough)?;
-    if !roomy {
-        return Err(Refusal::BufferShort);
-    }
-    Ok(())
-}
-
-// How many bytes a buffer must have: the longest Output and the longest Terminal fit it.
-fn room(limits: Limits) -> usize
-    ensures { result ≡ room limits }
-{
-    (limits.chunk as usize + 13).max(43)
-}
-
-// The message is asked for in the buffer's part from byte 13, exactly chunk long, so that either header fits before it. Where
-// it is left, the runner is handed back as it was given.
+// The message is asked for from byte 13 on, so that either header fits before its payload. Where it is left, the runner is handed back
+// as it was given.
 fn send(
     runner: Runner,
     channel: u32,
@@ -194,11 +151,10 @@ fn send(
     buffer: &mut [u8],
 ) -> After<Option<(Message, usize)>>
     requires { room runner.limits ≤ length buffer.old }
-    ensures { write_after result buffer.new ≡ sent runner channel store.now buffer.old }
+    ensures { write_after result buffer.new ≡ sent (carriage runner channel store.now buffer.old) runner store.now buffer.old }
 {
     let ended = has_ended(runner);
-    let end = 13 + runner.limits.chunk as usize;
-    let saying = runner.next_message(store, &mut buffer[13..end]);
+    let saying = ask(runner, 13, store, buffer);
     if is_left(saying.answer) {
         return After {
             runner,
@@ -228,7 +184,7 @@ fn has_ended(runner: Runner) -> bool
     runner.outputs.iter().any(|output| output.ended)
 }
 
-#[tactic(auto, unfolding(crate::specs::CallLaws::Sayable, crate::specs::Calls::wrote, crate::specs::Calls::wrote_buffer))]
+#[tactic(auto, unfolding(crate::specs::CallLaws::Sayable, carrier::specs::Carrier::wrote, carrier::specs::Carrier::wrote_buffer))]
 fn tell(
     said: Result<Option<Message>, Refusal>,
     ended: bool,
@@ -236,7 +192,7 @@ fn tell(
     buffer: &mut [u8],
 ) -> Result<Option<(Message, usize)>, Refusal>
     requires { Sayable said (length buffer.old) }
-    ensures { (result ≡ wrote channel ended said) × (buffer.new ≡ wrote_buffer channel ended said buffer.old) }
+    ensures { (result ≡ wrote (laying channel ended) said) × (buffer.new ≡ wrote_buffer (laying channel ended) said buffer.old) }
 {
     let Some(message) = said? else {
         return Ok(None);
