@@ -2,3 +2,4 @@
 pub mod Framing
 pub mod FramingLaws
 pub mod RoundTrip
+pub mod Edges
