@@ -7,7 +7,7 @@ use Rattle.std.proofs.Math.Seq.{get_or-append_seam}
 use Rattle.std.proofs.lemmas.List.Edits.{sets-eq}
 use Rattle.ring.specs.Runs.{copied, copied_step, copied_after}
 use Rattle.ring.specs.Lent.{copied_all, copied_join}
-use Rattle.octets.specs.Bytes.{be32, be32_at, number_at, number_within}
+use Rattle.octets.specs.Bytes.{be24, be24_at, be32, be32_at, number_at, number_within}
 
 -- ---- a number and its bytes
 
@@ -124,3 +124,50 @@ pub slide_step : (d : List ℕ) (at from j : ℕ) → at ≤ from → from + j <
 slide_step d at from j h hd =
     rw (copied_after d at d from j (omega arith) (omega arith) (from + j) (omega arith))
     (copied_step d at d from j (omega arith) hd)
+
+-- ---- three bytes
+
+be24_back : (v : ℕ) → v < 2 ^ 24 → v / 65536 % 256 * 65536 + v / 256 % 256 * 256 + v % 256 ≡ v
+be24_back v h =
+    let two : v / 256 / 256 ≡ v / 65536 = div-div-eq-div-mul v 256 256 in
+    let a = div-add-mod' v 256 in
+    let b = div-add-mod' (v / 256) 256 in
+    let d : v / 65536 % 256 ≡ v / 65536 = mod-eq_of_lt (omega arith) in
+    omega arith
+
+-- a length is read where it was written
+pub be24_written : (p t : List ℕ) (v : ℕ) → v < 2 ^ 24 → be24_at (p ++ (be24 v ++ t)) (length p) ≡ v
+unfolding be24_at
+be24_written p t v h =
+    let q = be24 v ++ t in
+    let e₀ = get_or-append_seam p (v / 65536 % 256) (drop 1 q) 0 in
+    let e₁ = get_or-append-add p q 1 0 in
+    let e₂ = get_or-append-add p q 2 0 in
+    rw (e₀, e₁, e₂) (be24_back v h)
+
+module _ (s : List ℕ) (bytes : (i : ℕ) → get_or s i 0 < 256) where
+  pub be24_fits : (at : ℕ) → be24_at s at < 2 ^ 24
+  unfolding be24_at
+  be24_fits at = omega (arith, bytes at, bytes (at + 1), bytes (at + 2))
+
+  be24_there : (at : ℕ) → be24 (be24_at s at) ≡ get_or s at 0 ∷ get_or s (at + 1) 0 ∷ get_or s (at + 2) 0 ∷ []
+  unfolding be24_at
+  be24_there at =
+      let ha = bytes at in
+      let hb = bytes (at + 1) in
+      let hc = bytes (at + 2) in
+      let x : be24_at s at / 65536 % 256 ≡ get_or s at 0 = omega arith in
+      let y : be24_at s at / 256 % 256 ≡ get_or s (at + 1) 0 = omega arith in
+      let z : be24_at s at % 256 ≡ get_or s (at + 2) 0 = omega arith in
+      cc
+
+  -- the list from a length on
+  pub peel24 : (at v : ℕ) → at + 3 ≤ length s → be24_at s at ≡ v → drop at s ≡ be24 v ++ drop (at + 3) s
+  peel24 at v h e =
+      let three : drop at s ≡ get_or s at 0 ∷ get_or s (at + 1) 0 ∷ get_or s (at + 2) 0 ∷ drop (at + 3) s =
+      cc (
+        next s at (at + 1) refl (omega arith),
+        next s (at + 1) (at + 2) (omega arith) (omega arith),
+        next s (at + 2) (at + 3) (omega arith) h,
+      ) in
+      three ∙ ap (λ (x : List ℕ). x ++ drop (at + 3) s) (sym (be24_there at) ∙ ap be24 e)

@@ -1,0 +1,172 @@
+-- Document 02's A7 as literal bytes, spelled from RFC 9113: what writer and reader share, no round trip pins. Each is computed from
+-- the definitions.
+use Rattle.std.specs.Prelude.{◌≡◌, refl, true, false, List, [], ◌∷◌, ◌++◌, ℕ, Result, Ok, Err}
+use Rattle.exec.specs.declared.Refusal.{Refusal}
+use Rattle.exec.specs.declared.Refusal.TheVariants.{NotFramed, BadFrame, PaddedFrame, BufferShort}
+use Rattle.exec.specs.declared.Stream.TheVariants.{Stdout, Stderr}
+use Rattle.exec.specs.Refusal.{number}
+use Rattle.exec.specs.Written.{WrittenAfter, written_after}
+use Rattle.octets.specs.Bytes.{be24_at, be32_at, number_at}
+use Rattle.framing.specs.declared.Frame.{Frame}
+use Rattle.framing.specs.declared.Frame.TheVariants.{Update, Data, Reset}
+use Rattle.framing.specs.Framing.{is_stream, header, fits, bytes_of, is_whole, number31_at, stream_of, data_in, of_four, kinded, on_stream, read, is_writable, put_frame, write, lay}
+
+-- ---- the bytes
+
+-- WINDOW_UPDATE of 8 on stream 1
+update_8 : List ℕ
+update_8 = 0 ∷ 0 ∷ 4 ∷ 8 ∷ 0 ∷ 0 ∷ 0 ∷ 0 ∷ 1 ∷ 0 ∷ 0 ∷ 0 ∷ 8 ∷ []
+
+-- DATA "ab" on 1, and "bad" on 3
+ab : List ℕ
+ab = 0 ∷ 0 ∷ 2 ∷ 0 ∷ 0 ∷ 0 ∷ 0 ∷ 0 ∷ 1 ∷ 97 ∷ 98 ∷ []
+
+bad : List ℕ
+bad = 0 ∷ 0 ∷ 3 ∷ 0 ∷ 0 ∷ 0 ∷ 0 ∷ 0 ∷ 3 ∷ 98 ∷ 97 ∷ 100 ∷ []
+
+-- the empty DATA with END_STREAM on 3
+end_3 : List ℕ
+end_3 = 0 ∷ 0 ∷ 0 ∷ 0 ∷ 1 ∷ 0 ∷ 0 ∷ 0 ∷ 3 ∷ []
+
+-- RST_STREAM with CANCEL on a stream below 256
+reset_on : (id : ℕ) → List ℕ
+reset_on id = 0 ∷ 0 ∷ 4 ∷ 3 ∷ 0 ∷ 0 ∷ 0 ∷ 0 ∷ id ∷ 0 ∷ 0 ∷ 0 ∷ 8 ∷ []
+
+spelled : (bytes_of 1 (Update Stdout 8) [] ≡ update_8)
+    × (bytes_of 1 (Data Stdout 2 false) (97 ∷ 98 ∷ []) ≡ ab)
+    × (bytes_of 1 (Data Stderr 3 false) (98 ∷ 97 ∷ 100 ∷ []) ≡ bad)
+    × (bytes_of 1 (Data Stderr 0 true) [] ≡ end_3)
+    × (bytes_of 1 (Reset Stdout) [] ≡ reset_on 1)
+    × (bytes_of 1 (Reset Stderr) [] ≡ reset_on 3)
+unfolding bytes_of header update_8 ab bad end_3 reset_on
+spelled = (refl, refl, refl, refl, refl, refl)
+
+-- the order of the bytes: units 0x01020304 on stream 0x05060708, a length of 0x010203, and the highest streams, 7ffffffd and 7fffffff
+order : (header 84281096 (Update Stdout 16909060) ≡ 0 ∷ 0 ∷ 4 ∷ 8 ∷ 0 ∷ 5 ∷ 6 ∷ 7 ∷ 8 ∷ 1 ∷ 2 ∷ 3 ∷ 4 ∷ [])
+    × (header 1 (Data Stdout 66051 true) ≡ 1 ∷ 2 ∷ 3 ∷ 0 ∷ 1 ∷ 0 ∷ 0 ∷ 0 ∷ 1 ∷ [])
+    × (header 2147483645 (Data Stdout 16777215 false) ≡ 255 ∷ 255 ∷ 255 ∷ 0 ∷ 0 ∷ 127 ∷ 255 ∷ 255 ∷ 253 ∷ [])
+    × (header 2147483645 (Update Stderr 2147483647) ≡ 0 ∷ 0 ∷ 4 ∷ 8 ∷ 0 ∷ 127 ∷ 255 ∷ 255 ∷ 255 ∷ 127 ∷ 255 ∷ 255 ∷ 255 ∷ [])
+unfolding header
+order = (refl, refl, refl, refl)
+
+-- s goes from 1 to 2^31 - 3; a length has 24 bits, and units have 31
+bounds : (is_stream 0 ≡ false)
+    × (is_stream 1 ≡ true)
+    × (is_stream 2147483645 ≡ true)
+    × (is_stream 2147483646 ≡ false)
+    × (fits (Data Stdout 16777215 true) ≡ true)
+    × (fits (Data Stdout 16777216 true) ≡ false)
+    × (fits (Update Stderr 2147483647) ≡ true)
+    × (fits (Update Stderr 2147483648) ≡ false)
+bounds = (refl, refl, refl, refl, refl, refl, refl, refl)
+
+-- the numbers of the refusals
+numbers : (number BufferShort ≡ 25) × (number NotFramed ≡ 42) × (number BadFrame ≡ 43) × (number PaddedFrame ≡ 44)
+numbers = (refl, refl, refl, refl)
+
+-- ---- writing: 25, then 43, and nothing written by either
+
+writes : Frame → (payload buffer : List ℕ) → WrittenAfter
+unfolding write put_frame is_writable bytes_of header
+writes f payload buffer = write 1 f payload buffer
+
+written : (writes (Data Stdout 2 false) (97 ∷ 98 ∷ []) (7 ∷ 7 ∷ 7 ∷ 7 ∷ 7 ∷ 7 ∷ 7 ∷ 7 ∷ 7 ∷ 7 ∷ 7 ∷ 6 ∷ 5 ∷ []) ≡ written_after (Ok 11) (ab ++ (6 ∷ 5 ∷ [])))
+    × (writes (Update Stdout 8) [] update_8 ≡ written_after (Ok 13) update_8)
+    × (writes (Data Stdout 2 false) (97 ∷ []) (1 ∷ 2 ∷ 3 ∷ []) ≡ written_after (Err BufferShort) (1 ∷ 2 ∷ 3 ∷ []))
+    × (writes (Data Stdout 2 false) (97 ∷ []) bad ≡ written_after (Err BadFrame) bad)
+    × (writes (Update Stdout 2147483648) [] update_8 ≡ written_after (Err BadFrame) update_8)
+    × (write 0 (Data Stderr 0 true) [] end_3 ≡ written_after (Err BadFrame) end_3)
+    × (write 2147483646 (Data Stdout 0 true) [] end_3 ≡ written_after (Err BadFrame) end_3)
+    × (lay 1 (Data Stdout 2 false) (7 ∷ 7 ∷ 7 ∷ 7 ∷ 7 ∷ 7 ∷ 7 ∷ 7 ∷ 7 ∷ 97 ∷ 98 ∷ 5 ∷ []) ≡ written_after (Ok 11) (ab ++ (5 ∷ [])))
+    × (lay 1 (Data Stderr 0 true) (1 ∷ 2 ∷ 3 ∷ 4 ∷ 5 ∷ 6 ∷ 7 ∷ 8 ∷ []) ≡ written_after (Err BufferShort) (1 ∷ 2 ∷ 3 ∷ 4 ∷ 5 ∷ 6 ∷ 7 ∷ 8 ∷ []))
+unfolding writes ab bad end_3 update_8 write put_frame is_writable bytes_of header
+written = (refl, refl, refl, refl, refl, refl, refl, refl, refl)
+
+-- ---- reading, for s = 5: stdout and input on 5, stderr on 7
+
+reads : List ℕ → Result Frame Refusal
+unfolding read is_whole on_stream stream_of number31_at number_at be32_at be24_at kinded data_in of_four
+reads b = read 5 b
+
+-- a frame of n bytes, below 256, its first nine with a type, flags, and the stream's first and last byte
+framed : (n kind flags high id : ℕ) → List ℕ → List ℕ
+framed n kind flags high id payload = 0 ∷ 0 ∷ n ∷ kind ∷ flags ∷ high ∷ 0 ∷ 0 ∷ id ∷ payload
+
+-- the length is that of what stands behind the first nine bytes, all of it: none, eight bytes, one too few, one too many; a length of 65,536
+-- and one of 256 where none follow
+lengths : (reads [] ≡ Err BadFrame)
+    × (reads (0 ∷ 0 ∷ 0 ∷ 0 ∷ 0 ∷ 0 ∷ 0 ∷ 0 ∷ []) ≡ Err BadFrame)
+    × (reads (0 ∷ 0 ∷ 2 ∷ []) ≡ Err BadFrame)
+    × (reads (0 ∷ 0 ∷ []) ≡ Err BadFrame)
+    × (reads (framed 2 0 0 0 5 (97 ∷ [])) ≡ Err BadFrame)
+    × (reads (framed 2 0 0 0 5 (97 ∷ 98 ∷ 99 ∷ [])) ≡ Err BadFrame)
+    × (reads (framed 0 0 0 0 5 (97 ∷ [])) ≡ Err BadFrame)
+    × (reads (1 ∷ 0 ∷ 0 ∷ 0 ∷ 0 ∷ 0 ∷ 0 ∷ 0 ∷ 5 ∷ []) ≡ Err BadFrame)
+    × (reads (0 ∷ 1 ∷ 0 ∷ 0 ∷ 0 ∷ 0 ∷ 0 ∷ 0 ∷ 5 ∷ []) ≡ Err BadFrame)
+    × (reads (framed 2 0 0 0 5 (97 ∷ 98 ∷ [])) ≡ Ok (Data Stdout 2 false))
+    × (reads (framed 0 0 0 0 5 []) ≡ Ok (Data Stdout 0 false))
+unfolding reads framed
+lengths = (refl, refl, refl, refl, refl, refl, refl, refl, refl, refl, refl)
+
+-- the types 0, 3 and 8 alone are read; 3 and 8 have four bytes
+types : (reads (framed 4 1 0 0 5 (0 ∷ 0 ∷ 0 ∷ 8 ∷ [])) ≡ Err BadFrame)
+    × (reads (framed 4 2 0 0 5 (0 ∷ 0 ∷ 0 ∷ 8 ∷ [])) ≡ Err BadFrame)
+    × (reads (framed 4 4 0 0 5 (0 ∷ 0 ∷ 0 ∷ 8 ∷ [])) ≡ Err BadFrame)
+    × (reads (framed 4 7 0 0 5 (0 ∷ 0 ∷ 0 ∷ 8 ∷ [])) ≡ Err BadFrame)
+    × (reads (framed 4 9 0 0 5 (0 ∷ 0 ∷ 0 ∷ 8 ∷ [])) ≡ Err BadFrame)
+    × (reads (framed 4 8 0 0 5 (0 ∷ 0 ∷ 0 ∷ 8 ∷ [])) ≡ Ok (Update Stdout 8))
+    × (reads (framed 4 8 0 0 7 (1 ∷ 2 ∷ 3 ∷ 4 ∷ [])) ≡ Ok (Update Stderr 16909060))
+    × (reads (framed 3 8 0 0 5 (0 ∷ 0 ∷ 8 ∷ [])) ≡ Err BadFrame)
+    × (reads (framed 5 8 0 0 5 (0 ∷ 0 ∷ 0 ∷ 8 ∷ 0 ∷ [])) ≡ Err BadFrame)
+    × (reads (framed 0 8 0 0 5 []) ≡ Err BadFrame)
+    × (reads (framed 4 3 0 0 5 (0 ∷ 0 ∷ 0 ∷ 8 ∷ [])) ≡ Ok (Reset Stdout))
+    × (reads (framed 4 3 0 0 7 (0 ∷ 0 ∷ 0 ∷ 8 ∷ [])) ≡ Ok (Reset Stderr))
+    × (reads (framed 3 3 0 0 5 (0 ∷ 0 ∷ 8 ∷ [])) ≡ Err BadFrame)
+    × (reads (framed 5 3 0 0 5 (0 ∷ 0 ∷ 0 ∷ 8 ∷ 0 ∷ [])) ≡ Err BadFrame)
+unfolding reads framed
+types = (refl, refl, refl, refl, refl, refl, refl, refl, refl, refl, refl, refl, refl, refl)
+
+-- streams s and s + 2 alone: 43 on 0, s - 1, s + 1, s + 3, and where the first byte of the number is another
+streams : (reads (framed 0 0 1 0 0 []) ≡ Err BadFrame)
+    × (reads (framed 0 0 1 0 4 []) ≡ Err BadFrame)
+    × (reads (framed 0 0 1 0 5 []) ≡ Ok (Data Stdout 0 true))
+    × (reads (framed 0 0 1 0 6 []) ≡ Err BadFrame)
+    × (reads (framed 0 0 1 0 7 []) ≡ Ok (Data Stderr 0 true))
+    × (reads (framed 0 0 1 0 8 []) ≡ Err BadFrame)
+    × (reads (framed 0 0 1 1 5 []) ≡ Err BadFrame)
+    × (reads (framed 0 0 1 64 7 []) ≡ Err BadFrame)
+    × (reads (framed 4 8 0 0 0 (0 ∷ 0 ∷ 0 ∷ 8 ∷ [])) ≡ Err BadFrame)
+    × (reads (framed 4 3 0 0 6 (0 ∷ 0 ∷ 0 ∷ 8 ∷ [])) ≡ Err BadFrame)
+    × (read 2147483645 (0 ∷ 0 ∷ 0 ∷ 0 ∷ 1 ∷ 127 ∷ 255 ∷ 255 ∷ 253 ∷ []) ≡ Ok (Data Stdout 0 true))
+    × (read 2147483645 (0 ∷ 0 ∷ 0 ∷ 0 ∷ 1 ∷ 127 ∷ 255 ∷ 255 ∷ 255 ∷ []) ≡ Ok (Data Stderr 0 true))
+unfolding reads framed read is_whole on_stream stream_of number31_at number_at be32_at be24_at kinded data_in of_four
+streams = (refl, refl, refl, refl, refl, refl, refl, refl, refl, refl, refl, refl)
+
+-- padded DATA is 44 on s, with END_STREAM and without; on s + 2 it is 43, and so it is where length, type or stream are wrong
+paddings : (reads (framed 1 0 8 0 5 (0 ∷ [])) ≡ Err PaddedFrame)
+    × (reads (framed 1 0 9 0 5 (0 ∷ [])) ≡ Err PaddedFrame)
+    × (reads (framed 0 0 8 0 5 []) ≡ Err PaddedFrame)
+    × (reads (framed 1 0 255 128 5 (0 ∷ [])) ≡ Err PaddedFrame)
+    × (reads (framed 1 0 8 0 7 (0 ∷ [])) ≡ Err BadFrame)
+    × (reads (framed 2 0 8 0 5 (0 ∷ [])) ≡ Err BadFrame)
+    × (reads (framed 1 1 8 0 5 (0 ∷ [])) ≡ Err BadFrame)
+    × (reads (framed 1 0 8 0 6 (0 ∷ [])) ≡ Err BadFrame)
+unfolding reads framed
+paddings = (refl, refl, refl, refl, refl, refl, refl, refl)
+
+-- what is ignored: of DATA every flag but 1 and 8 (246 and 247 are all the others, without END_STREAM and with it), of the other two every
+-- flag, the bit before the stream, the bit before the units, and the code of RST_STREAM; units of 0 are read
+ignored : (reads (framed 1 0 246 0 5 (97 ∷ [])) ≡ Ok (Data Stdout 1 false))
+    × (reads (framed 1 0 247 0 5 (97 ∷ [])) ≡ Ok (Data Stdout 1 true))
+    × (reads (framed 1 0 2 0 7 (97 ∷ [])) ≡ Ok (Data Stderr 1 false))
+    × (reads (framed 4 8 255 0 5 (0 ∷ 0 ∷ 0 ∷ 8 ∷ [])) ≡ Ok (Update Stdout 8))
+    × (reads (framed 4 3 255 0 5 (0 ∷ 0 ∷ 0 ∷ 8 ∷ [])) ≡ Ok (Reset Stdout))
+    × (reads (framed 1 0 0 128 5 (97 ∷ [])) ≡ Ok (Data Stdout 1 false))
+    × (reads (framed 4 8 0 128 7 (128 ∷ 0 ∷ 0 ∷ 8 ∷ [])) ≡ Ok (Update Stderr 8))
+    × (reads (framed 4 8 0 0 5 (255 ∷ 255 ∷ 255 ∷ 255 ∷ [])) ≡ Ok (Update Stdout 2147483647))
+    × (reads (framed 4 8 0 0 5 (0 ∷ 0 ∷ 0 ∷ 0 ∷ [])) ≡ Ok (Update Stdout 0))
+    × (reads (framed 4 8 0 0 5 (128 ∷ 0 ∷ 0 ∷ 0 ∷ [])) ≡ Ok (Update Stdout 0))
+    × (reads (framed 4 3 0 128 7 (0 ∷ 0 ∷ 0 ∷ 0 ∷ [])) ≡ Ok (Reset Stderr))
+    × (reads (framed 4 3 0 0 5 (255 ∷ 255 ∷ 255 ∷ 255 ∷ [])) ≡ Ok (Reset Stdout))
+unfolding reads framed
+ignored = (refl, refl, refl, refl, refl, refl, refl, refl, refl, refl, refl, refl)
