@@ -13,7 +13,7 @@ use Rattle.runner.specs.Calls as Calls
 use Rattle.runner.specs.Calls.{unless}
 use Rattle.runner.specs.Message.{MessageAfter, message_after}
 use Rattle.runner.specs.Range.{in_range, stop}
-use Rattle.carrier.specs.Carrier.{carried, admitted, readied, part_back, asked}
+use Rattle.carrier.specs.Carrier.{carried, admitted, readied, part_back, asked, write_after, Laying, wrote, wrote_buffer, told}
 
 -- ---- what is met first
 
@@ -60,6 +60,14 @@ ready_room (Ok tt) n m e = by (leb n m) refl e
     by true t h = leb-true n m t
     by false t h = let z : ◌≡◌ {A = ℕ} 0 1 = cc in absurd (omega arith)
 ready_room (Err x) n m e = let z : ◌≡◌ {A = ℕ} 0 1 = cc in absurd (omega arith)
+
+-- and it carries
+pub ready_carried : (l : Result Limits Refusal) (enough carries roomy : Bool) (own : Refusal) → readied (admitted_by l enough carries own) roomy ≡ Ok tt → carries ≡ true
+unfolding readied admitted_by
+ready_carried (Ok l) true true roomy own e = refl
+ready_carried (Ok l) true false roomy own e = let z : ◌≡◌ {A = ℕ} 0 1 = cc in absurd (omega arith)
+ready_carried (Ok l) false carries roomy own e = let z : ◌≡◌ {A = ℕ} 0 1 = cc in absurd (omega arith)
+ready_carried (Err x) enough carries roomy own e = let z : ◌≡◌ {A = ℕ} 0 1 = cc in absurd (omega arith)
 
 -- ---- the part of the buffer
 
@@ -109,3 +117,9 @@ part_beyond at k b part from h e f =
     let front : List ℕ = take at b ++ part in
     let l : length front ≡ at + k = simp (length-append, length-take-le at b (omega arith)) (omega (arith, e)) in
     ap (drop from) (sym (append_assoc (take at b) part (drop (at + k) b))) ∙ beyond front b (at + k) from l f
+
+-- what was asked for, told
+pub told_as : (w : Laying) (x : After (Option Message)) (b c : List ℕ) (answer : Result (Option (Message × ℕ)) Refusal) (m : MessageAfter) → message_after x b ≡ m
+    → answer ≡ wrote w x.answer → c ≡ wrote_buffer w x.answer b → write_after (record { runner = x.runner; answer = answer }) c ≡ told w m
+unfolding told
+told_as w x b c answer m said e f = rw (← said, e, f) refl

@@ -1,0 +1,3 @@
+-- Frames: the two frame calls on a runner.
+pub mod Calls
+pub mod CallLaws
