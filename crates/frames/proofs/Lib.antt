@@ -1,0 +1,2 @@
+-- What holds of every write.
+pub mod Laid
