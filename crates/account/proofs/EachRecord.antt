@@ -2,7 +2,7 @@
 use Rattle.std.specs.Prelude.{Result, Some, Ok, Err}
 use Rattle.runner.specs.declared.answer.Message.{Message}
 use Rattle.exec.specs.declared.Receipt.{Receipt}
-use mathlib.Core.Bool.{Bool, true, false, cond, ◌&&◌, false≢true}
+use mathlib.Core.Bool.{Bool, true, false, cond, false≢true}
 use mathlib.Core.Path.{◌≡◌, refl, sym, ap, ◌∙◌}
 use mathlib.Core.List.{List, [], ◌∷◌, ◌++◌}
 use Prim.Native.Nat.{ℕ, ◌+◌, ◌-◌, ◌≤◌}
@@ -36,7 +36,7 @@ use Rattle.calls.specs.Call.{Conf, Call, Answer, Done}
 use Rattle.account.specs.Step as Step
 use Rattle.account.specs.Step.{State, replied, received_as, says}
 use Rattle.account.specs.Claim.{is_message}
-use Rattle.account.specs.Records.{Entry, call, read_record, write_record, read_as, wrote_as, call_of, roomy, is_untaken, made, among, of_reads, of_entry}
+use Rattle.account.specs.Records.{Entry, call, read_record, write_record, read_as, wrote_as, call_of, is_untaken, made, among, of_reads, of_entry}
 use Rattle.runner.specs.MessageLaws.{payload_length}
 use Rattle.account.proofs.Lives.{conf_of}
 use Rattle.account.proofs.Flags.{either}
@@ -79,9 +79,8 @@ read_outputless conf now b _ = (tt, tt)
 pub record_outputless : (conf : Conf) (e : Entry) (a : Answer) → IsRecord e → AllOutputless (made conf e a)
 unfolding made
 record_outputless conf (call c) a h = absurd h
-record_outputless conf (read_record now channel b) a h = either AllOutputless (is_channel conf.limits) _ [] (read_outputless conf now b (read channel b)) tt
-record_outputless conf (write_record channel buffer) a h =
-    either AllOutputless (is_channel conf.limits && roomy conf buffer) _ [] (either AllOutputless (is_untaken a) [] _ tt (tt, tt)) tt
+record_outputless conf (read_record now channel b) a h = either AllOutputless _ _ [] (read_outputless conf now b (read channel b)) tt
+record_outputless conf (write_record channel buffer) a h = either AllOutputless _ _ [] (either AllOutputless (is_untaken a) [] _ tt (tt, tt)) tt
 
 -- ---- a record read
 
