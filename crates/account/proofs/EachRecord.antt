@@ -1,10 +1,10 @@
--- A record that is read or written does what the call does that it makes, or makes none and is refused by a number of its own.
-use Rattle.std.specs.Prelude.{Option, Result, Some, None, Ok, Err}
+-- A record that is read or written does what the calls do that it makes, or makes none and is refused by a number of its own.
+use Rattle.std.specs.Prelude.{Result, Some, Ok, Err}
 use Rattle.runner.specs.declared.answer.Message.{Message}
 use Rattle.exec.specs.declared.Receipt.{Receipt}
 use mathlib.Core.Bool.{Bool, true, false, cond, false≢true}
 use mathlib.Core.Path.{◌≡◌, refl, sym, ap, ◌∙◌}
-use mathlib.Core.List.{List, ◌++◌}
+use mathlib.Core.List.{List, [], ◌∷◌, ◌++◌}
 use Prim.Native.Nat.{ℕ, ◌+◌, ◌-◌, ◌≤◌}
 use native.Mathlib.Omega.{arith}
 use lib.Dec.{eqb}
@@ -35,7 +35,8 @@ use Rattle.calls.specs.Call as Call
 use Rattle.calls.specs.Call.{Conf, Call, Answer, Done}
 use Rattle.account.specs.Step as Step
 use Rattle.account.specs.Step.{State, replied, received_as, says}
-use Rattle.account.specs.Records.{Entry, read_record, write_record, read_as, wrote_as, call_of, is_untaken, among, of_reads, of_entry}
+use Rattle.account.specs.Claim.{is_message}
+use Rattle.account.specs.Records.{Entry, call, read_record, write_record, read_as, wrote_as, call_of, is_untaken, made, among, of_reads, of_entry}
 use Rattle.runner.specs.MessageLaws.{payload_length}
 use Rattle.account.proofs.Lives.{conf_of}
 use Rattle.account.proofs.Flags.{either}
@@ -48,10 +49,38 @@ pub record Unmade (e : Entry) (before after : State) (a : Answer) : Type 0 where
   pub answered : a ≡ Call.Refused refusal
   pub own : among refusal (of_entry e) ≡ true
 
--- what an entry does, by the call that it makes
-unfoldable pub Does : Entry → Option Call → (s after : State) → Answer → Type 0
-Does e None s after a = Unmade e s after a
-Does e (Some c) s after a = (after ≡ Step.next s c) × (a ≡ Step.answer s c)
+-- what an entry does, by the calls that it makes; where they are several they are answered alike, and by no message
+unfoldable pub Does : Entry → List Call → (s after : State) → Answer → Type 0
+Does e [] s after a = Unmade e s after a
+Does e (c ∷ []) s after a = (after ≡ Step.next s c) × (a ≡ Step.answer s c)
+Does e (c ∷ d ∷ cs) s after a = (a ≡ Step.answer s c) × (is_message a ≡ false) × Does e (d ∷ cs) (Step.next s c) after a
+
+-- ---- a record hands over no output and closes none
+
+abbrev pub Outputless : Call → Type 0
+Outputless (Call.output x b) = ⊥
+Outputless (Call.output_closed x) = ⊥
+Outputless _ = Unit
+
+abbrev pub AllOutputless : List Call → Type 0
+AllOutputless [] = Unit
+AllOutputless (c ∷ cs) = Outputless c × AllOutputless cs
+
+abbrev pub IsRecord : Entry → Type 0
+IsRecord (call c) = ⊥
+IsRecord _ = Unit
+
+read_outputless : (conf : Conf) (now : ℕ) (b : List ℕ) (p : Result Record Refusal) → AllOutputless (call_of conf now b p)
+unfolding call_of
+read_outputless conf now b (Ok (Record.Extended n)) = tt
+read_outputless conf now b (Err x) = tt
+read_outputless conf now b _ = (tt, tt)
+
+pub record_outputless : (conf : Conf) (e : Entry) (a : Answer) → IsRecord e → AllOutputless (made conf e a)
+unfolding made
+record_outputless conf (call c) a h = absurd h
+record_outputless conf (read_record now channel b) a h = either AllOutputless _ _ [] (read_outputless conf now b (read channel b)) tt
+record_outputless conf (write_record channel buffer) a h = either AllOutputless _ _ [] (either AllOutputless (is_untaken a) [] _ tt (tt, tt)) tt
 
 -- ---- a record read
 
@@ -107,7 +136,7 @@ unfolding admitted
 admitted_so r stores g = rw g refl
 
 pub read_by : (channels : Bool) (s : State) (now channel : ℕ) (b : List ℕ)
-    → Does (read_record now channel b) (cond channels (call_of (conf_of s.runner) now b (read channel b)) None) s
+    → Does (read_record now channel b) (cond channels (call_of (conf_of s.runner) now b (read channel b)) []) s
     (leaves (admitted_read (cond channels (Ok tt) (Err NotAChannel)) s.runner now channel b s.bytes s.lengths))
     (read_as (admitted_read (cond channels (Ok tt) (Err NotAChannel)) s.runner now channel b s.bytes s.lengths).reading.answer)
 unfolding Does admitted_read
@@ -173,7 +202,7 @@ module _ (s : State) (channel : ℕ) (buffer : List ℕ) (g : stop s.runner (byt
   told_taken : is_untaken (answers (tells s.runner channel s.bytes buffer)) ≡ false
   told_taken = told_as (λ (a : Answer). is_untaken a ≡ false) refl (λ x. refl)
 
-  pub told_does : 13 ≤ length buffer → Does (write_record channel buffer) (Some (Call.next_message part)) s (Step.on_runner (tells s.runner channel s.bytes buffer).writing.runner s) (answers (tells s.runner channel s.bytes buffer))
+  pub told_does : 13 ≤ length buffer → Does (write_record channel buffer) (Call.next_message part ∷ []) s (Step.on_runner (tells s.runner channel s.bytes buffer).writing.runner s) (answers (tells s.runner channel s.bytes buffer))
   unfolding Does told asked Step.next Step.answer Calls.next_message
   told_does h = (
     refl,
@@ -181,7 +210,7 @@ module _ (s : State) (channel : ℕ) (buffer : List ℕ) (g : stop s.runner (byt
   )
 
   pub written_does : (met : Bool) (w : WriteAfter) → Writes s.runner channel s.bytes buffer met w
-      → Does (write_record channel buffer) (cond met (cond (is_untaken (answers w)) None (Some (Call.next_message part))) None) s (Step.on_runner w.writing.runner s) (answers w)
+      → Does (write_record channel buffer) (cond met (cond (is_untaken (answers w)) [] (Call.next_message part ∷ [])) []) s (Step.on_runner w.writing.runner s) (answers w)
   unfolding Does
   written_does met w (elsewhere x) = record { kept = refl; refusal = 13; answered = refl; own = refl }
   written_does met w (short x y) = record { kept = refl; refusal = 25; answered = refl; own = refl }

@@ -109,9 +109,9 @@ kind _ s = quiet refl
 
 -- ---- Terminal
 
-terminal_message : (r : Answer) → is_terminal r ≡ true → is_message r ≡ true
-terminal_message (Call.Says m) e = refl
-terminal_message _ e = e
+pub quiet_terminal : (r : Answer) → is_message r ≡ false → is_terminal r ≡ false
+quiet_terminal (Call.Says m) e = absurd (true≢false e)
+quiet_terminal _ e = refl
 
 said_terminal : (m : Choice) (s : Runner) (b : List ℕ) → is_terminal (said m s b) ≡ true → m ≡ Choice.Terminal
 unfolding said
@@ -129,7 +129,7 @@ unfolding answer
 ends c s e = go c (kind c s) e
   where
     go : (c : Call) → Kind s c → is_terminal (answer s c) ≡ true → Ends s c
-    go c (quiet q) e = absurd (true≢false (sym (terminal_message (answer s c) e) ∙ q))
+    go c (quiet q) e = absurd (true≢false (sym e ∙ quiet_terminal (answer s c) q))
     go c (speaks b) e = record { buffer = b; call = refl; chosen = said_terminal (choose s.runner (length b)) s.runner s.bytes e }
 
 pub ends_fin : (s : State) (c : Call) → Ends s c → (next s c).runner.flags.finished ≡ true

@@ -1,8 +1,8 @@
--- Demand 3 whole: an entry does what the call that it makes does, so a list with records has the account of its calls.
-use Rattle.std.specs.Prelude.{Option, Some, None, Ok}
+-- Demand 3 whole: an entry does what the calls that it makes do, so a list with records has the account of its calls.
+use Rattle.std.specs.Prelude.{Ok}
 use mathlib.Core.Bool.{Bool, true, false, cond, ◌&&◌, ◌||◌, false≢true}
 use mathlib.Core.Path.{◌≡◌, refl, sym, ap, ◌∙◌, subst, subst⁻¹}
-use mathlib.Core.List.{List, [], ◌∷◌, ◌++◌}
+use mathlib.Core.List.{List, [], ◌∷◌, ◌++◌, append_assoc}
 use Prim.Native.Nat.{ℕ}
 use lib.Dec.{leb, eqb}
 use lib.ListN.{length, take, drop}
@@ -28,17 +28,17 @@ use Rattle.account.specs.Step.{State, replied, received_as, says}
 use Rattle.account.specs.Account as Accounts
 use Rattle.account.specs.Account.{Account, account, tally_of, cut, tick_a}
 use Rattle.account.specs.Claim.{Demand3, Opens, IsPrefix, Silent, is_message, is_terminal, any_terminal, is_stop, account_of}
-use Rattle.account.specs.Records.{Entry, call, read_record, write_record, next_entry, answer_entry, after_entries, run_entries, roomy, is_untaken, made, cons_call, calls_of, cons_done, dones_of, entry_account, any_terminal_in, SilentIn, among, of_reads, of_writes, of_entry, Whole}
+use Rattle.account.specs.Records.{Entry, call, read_record, write_record, next_entry, answer_entry, after_entries, run_entries, roomy, is_untaken, made, calls_of, alike, dones_of, entry_account, any_terminal_in, SilentIn, among, of_reads, of_writes, of_entry, Whole}
 use Rattle.account.specs.LateClaim.{LateAny}
 use Rattle.account.proofs.Plain as Plain
 use Rattle.runner.specs.TerminalLaws.{still}
-use Rattle.account.proofs.Finish.{framed, framed_conf, ends, ends_answer}
+use Rattle.account.proofs.Finish.{framed, framed_conf, quiet_terminal, ends, ends_answer}
 use Rattle.account.proofs.Lives.{conf_of}
 use Rattle.account.proofs.Demand.{Fine, goes, fine_next, next_same, answer_same, fine_open, open_same, opens_by, late_call, demand3}
 use Rattle.account.proofs.Range.{lent}
 use Rattle.account.proofs.EachRecord.{Unmade, Does, admitted_so, read_by, answers, part, written_does, left_chosen}
 
--- ---- an entry does what its call does, of a runner in range with its stores
+-- ---- an entry does what its calls do, of a runner in range with its stores
 
 abbrev pub EntryDoes : Conf → Entry → State → Type 0
 EntryDoes conf e s = Does e (made conf e (answer_entry s e)) s (next_entry s e) (answer_entry s e)
@@ -69,14 +69,15 @@ does_so (write_record channel buffer) s f = write_does s channel buffer (goes s 
 pub does : (conf : Conf) (e : Entry) (s : State) → Good conf s → EntryDoes conf e s
 does conf e s h = subst (λ (k : Conf). EntryDoes k e s) h.same (does_so e s h.fine)
 
-good_next : (conf : Conf) (c : Call) (s : State) → Good conf s → Good conf (Step.next s c)
+pub good_next : (conf : Conf) (c : Call) (s : State) → Good conf s → Good conf (Step.next s c)
 good_next conf c s h =
     rw (next_same s c h.fine) (record { fine = fine_next c s h.fine; same = framed_conf (framed c s) ∙ h.same })
 
-good_by : (conf : Conf) (x : Entry) (m : Option Call) (s after : State) (a : Answer) → Does x m s after a → Good conf s → Good conf after
+good_by : (conf : Conf) (x : Entry) (m : List Call) (s after : State) (a : Answer) → Does x m s after a → Good conf s → Good conf after
 unfolding Does
-good_by conf x None s after a d h = subst⁻¹ (Good conf) d.kept h
-good_by conf x (Some c) s after a d h = subst⁻¹ (Good conf) d.0 (good_next conf c s h)
+good_by conf x [] s after a d h = subst⁻¹ (Good conf) d.kept h
+good_by conf x (c ∷ []) s after a d h = subst⁻¹ (Good conf) d.0 (good_next conf c s h)
+good_by conf x (c ∷ b ∷ m) s after a d h = good_by conf x (b ∷ m) (Step.next s c) after a d.2 (good_next conf c s h)
 
 pub good_entry : (conf : Conf) (e : Entry) (s : State) → Good conf s → Good conf (next_entry s e)
 good_entry conf e s h = good_by conf e (made conf e (answer_entry s e)) s (next_entry s e) (answer_entry s e) (does conf e s h) h
@@ -115,16 +116,16 @@ untold_left s f part o e u channel buffer m =
     ap answers (write_left s.runner channel s.bytes buffer _ _ (writes s.runner channel s.bytes buffer g) m l)
 
 -- so where no Terminal is next, an entry makes what it makes where it is not refused by 40
-pub made_so : (conf : Conf) (e : Entry) (c : Call) (s : State) → Good conf s → made conf e Call.Ok ≡ Some c → is_terminal (Step.answer s c) ≡ false
-    → made conf e (answer_entry s e) ≡ Some c
+pub made_so : (conf : Conf) (e : Entry) (c : Call) (s : State) → Good conf s → made conf e Call.Ok ≡ c ∷ [] → is_terminal (Step.answer s c) ≡ false
+    → made conf e (answer_entry s e) ≡ c ∷ []
 unfolding made
 made_so conf (write_record channel buffer) c s g k h = at (is_channel conf.limits && roomy conf buffer) (is_untaken (answer_entry s (write_record channel buffer))) refl k
   where
     part : List ℕ
     part = take conf.limits.chunk (drop 13 buffer)
 
-    at : (b u : Bool) → is_untaken (answer_entry s (write_record channel buffer)) ≡ u → cond b (Some (Call.next_message part)) None ≡ Some c
-        → cond b (cond u None (Some (Call.next_message part))) None ≡ Some c
+    at : (b u : Bool) → is_untaken (answer_entry s (write_record channel buffer)) ≡ u → cond b (Call.next_message part ∷ []) [] ≡ c ∷ []
+        → cond b (cond u [] (Call.next_message part ∷ [])) [] ≡ c ∷ []
     at false u e k = k
     at true false e k = k
     at true true e k =
@@ -134,28 +135,34 @@ made_so conf _ c s g k h = k
 
 -- ---- a list of entries is the list of its calls
 
-after_by : (x : Entry) (m : Option Call) (s after : State) (a : Answer) (cs : List Call) → Does x m s after a → Step.after after cs ≡ Step.after s (cons_call m cs)
+after_by : (x : Entry) (m : List Call) (s after : State) (a : Answer) (cs : List Call) → Does x m s after a → Step.after after cs ≡ Step.after s (m ++ cs)
 unfolding Does
-after_by x None s after a cs d = ap (λ (t : State). Step.after t cs) d.kept
-after_by x (Some c) s after a cs d = ap (λ (t : State). Step.after t cs) d.0
+after_by x [] s after a cs d = ap (λ (t : State). Step.after t cs) d.kept
+after_by x (c ∷ []) s after a cs d = ap (λ (t : State). Step.after t cs) d.0
+after_by x (c ∷ b ∷ m) s after a cs d = after_by x (b ∷ m) (Step.next s c) after a cs d.2
 
-run_by : (x : Entry) (m : Option Call) (s after : State) (a : Answer) (cs : List Call) → Does x m s after a
-    → cons_done m a (Step.run after cs) ≡ Step.run s (cons_call m cs)
+run_by : (x : Entry) (m : List Call) (s after : State) (a : Answer) (cs : List Call) → Does x m s after a
+    → alike a m ++ Step.run after cs ≡ Step.run s (m ++ cs)
 unfolding Does
-run_by x None s after a cs d = ap (λ (t : State). Step.run t cs) d.kept
-run_by x (Some c) s after a cs d = rw (d.0, d.1) refl
+run_by x [] s after a cs d = ap (λ (t : State). Step.run t cs) d.kept
+run_by x (c ∷ []) s after a cs d = rw (d.0, d.1) refl
+run_by x (c ∷ b ∷ m) s after a cs d = rw (run_by x (b ∷ m) (Step.next s c) after a cs d.2, d.0) refl
 
-any_by : (x : Entry) (m : Option Call) (s after : State) (a : Answer) (cs : List Call) → Does x m s after a
-    → (is_terminal a || any_terminal (Step.run after cs)) ≡ any_terminal (Step.run s (cons_call m cs))
+any_by : (x : Entry) (m : List Call) (s after : State) (a : Answer) (cs : List Call) → Does x m s after a
+    → (is_terminal a || any_terminal (Step.run after cs)) ≡ any_terminal (Step.run s (m ++ cs))
 unfolding Does
-any_by x None s after a cs d = rw (d.answered, d.kept) refl
-any_by x (Some c) s after a cs d = rw (d.0, d.1) refl
+any_by x [] s after a cs d = rw (d.answered, d.kept) refl
+any_by x (c ∷ []) s after a cs d = rw (d.0, d.1) refl
+any_by x (c ∷ b ∷ m) s after a cs d =
+    any_by x (b ∷ m) (Step.next s c) after a cs d.2
+    ∙ ap (λ (r : Bool). r || any_terminal (Step.run (Step.next s c) (b ∷ (m ++ cs)))) (sym (quiet_terminal a d.1) ∙ ap is_terminal d.0)
 
-silent_by : (x : Entry) (m : Option Call) (s after : State) (a : Answer) (cs : List Call) → Does x m s after a → Silent (Step.run s (cons_call m cs))
+silent_by : (x : Entry) (m : List Call) (s after : State) (a : Answer) (cs : List Call) → Does x m s after a → Silent (Step.run s (m ++ cs))
     → (is_message a ≡ false) × Silent (Step.run after cs)
 unfolding Does
-silent_by x None s after a cs d h = (rw d.answered refl, rw d.kept h)
-silent_by x (Some c) s after a cs d h = (rw d.1 h.0, rw d.0 h.1)
+silent_by x [] s after a cs d h = (rw d.answered refl, rw d.kept h)
+silent_by x (c ∷ []) s after a cs d h = (rw d.1 h.0, rw d.0 h.1)
+silent_by x (c ∷ b ∷ m) s after a cs d h = silent_by x (b ∷ m) (Step.next s c) after a cs d.2 h.1
 
 module _ (conf : Conf) where
   same_after : (es : List Entry) (s : State) → Good conf s → after_entries s es ≡ Step.after s (calls_of conf (run_entries s es))
@@ -167,7 +174,7 @@ module _ (conf : Conf) where
   pub same_dones : (es : List Entry) (s : State) → Good conf s → dones_of conf (run_entries s es) ≡ Step.run s (calls_of conf (run_entries s es))
   same_dones [] s h = refl
   same_dones (e ∷ es) s h =
-      ap (cons_done (made conf e (answer_entry s e)) (answer_entry s e)) (same_dones es (next_entry s e) (good_entry conf e s h))
+      ap (λ (ds : List Done). alike (answer_entry s e) (made conf e (answer_entry s e)) ++ ds) (same_dones es (next_entry s e) (good_entry conf e s h))
       ∙ run_by e (made conf e (answer_entry s e)) s (next_entry s e) (answer_entry s e) (calls_of conf (run_entries (next_entry s e) es)) (does conf e s h)
 
   pub same_any : (es : List Entry) (s : State) → Good conf s → any_terminal_in (run_entries s es) ≡ any_terminal (Step.run s (calls_of conf (run_entries s es)))
@@ -182,26 +189,23 @@ module _ (conf : Conf) where
       let p = silent_by e (made conf e (answer_entry s e)) s (next_entry s e) (answer_entry s e) (calls_of conf (run_entries (next_entry s e) es)) (does conf e s h) q in
       (p.0, same_silent es (next_entry s e) (good_entry conf e s h) p.1)
 
-  calls_cons : (m : Option Call) (xs ys : List Call) → cons_call m (xs ++ ys) ≡ cons_call m xs ++ ys
-  calls_cons None xs ys = refl
-  calls_cons (Some c) xs ys = refl
-
   -- a list behind another runs from where that one left
   pub calls_append : (xs ys : List Entry) (s : State)
       → calls_of conf (run_entries s (xs ++ ys)) ≡ calls_of conf (run_entries s xs) ++ calls_of conf (run_entries (after_entries s xs) ys)
   calls_append [] ys s = refl
   calls_append (e ∷ xs) ys s =
-      ap (cons_call (made conf e (answer_entry s e))) (calls_append xs ys (next_entry s e))
-      ∙ calls_cons (made conf e (answer_entry s e)) (calls_of conf (run_entries (next_entry s e) xs)) (calls_of conf (run_entries (after_entries (next_entry s e) xs) ys))
+      ap (λ (cs : List Call). made conf e (answer_entry s e) ++ cs) (calls_append xs ys (next_entry s e))
+      ∙ sym (append_assoc (made conf e (answer_entry s e)) (calls_of conf (run_entries (next_entry s e) xs)) _)
 
--- an answer that is Terminal is a call's
-terminal_made : (x : Entry) (m : Option Call) (s after : State) (a : Answer) → Does x m s after a → is_terminal a ≡ true
-    → (c : Call) × (after ≡ Step.next s c) × (a ≡ Step.answer s c) × (m ≡ Some c)
+-- an answer that is Terminal is that of one call
+terminal_made : (x : Entry) (m : List Call) (s after : State) (a : Answer) → Does x m s after a → is_terminal a ≡ true
+    → (c : Call) × (after ≡ Step.next s c) × (a ≡ Step.answer s c) × (m ≡ c ∷ [])
 unfolding Does
-terminal_made x None s after a d h = absurd (false≢true (sym (ap is_terminal d.answered) ∙ h))
-terminal_made x (Some c) s after a d h = (c, d.0, d.1, refl)
+terminal_made x [] s after a d h = absurd (false≢true (sym (ap is_terminal d.answered) ∙ h))
+terminal_made x (c ∷ []) s after a d h = (c, d.0, d.1, refl)
+terminal_made x (c ∷ b ∷ m) s after a d h = absurd (false≢true (sym (quiet_terminal a d.1) ∙ h))
 
-unmade_as : (x : Entry) (m : Option Call) (s after : State) (a : Answer) → m ≡ None → Does x m s after a
+unmade_as : (x : Entry) (m : List Call) (s after : State) (a : Answer) → m ≡ [] → Does x m s after a
     → (after ≡ s) × ((n : ℕ) × (a ≡ Call.Refused n) × (among n (of_entry x) ≡ true))
 unfolding Does
 unmade_as x m s after a e d = let u : Unmade x s after a = rw e at d in (u.kept, (u.refusal, u.answered, u.own))
@@ -227,10 +231,11 @@ own_calm (call c) n h = calm_in n [] tt h
 own_calm (read_record now channel b) n h = calm_in n of_reads (refl, (refl, (refl, (refl, (refl, (refl, tt)))))) h
 own_calm (write_record channel buffer) n h = calm_in n of_writes (refl, (refl, (refl, tt))) h
 
-ranged_by : (x : Entry) (m : Option Call) (s after : State) (a : Answer) → Does x m s after a → ((c : Call) → is_stop (Step.answer s c) ≡ false) → is_stop a ≡ false
+ranged_by : (x : Entry) (m : List Call) (s after : State) (a : Answer) → Does x m s after a → ((c : Call) → is_stop (Step.answer s c) ≡ false) → is_stop a ≡ false
 unfolding Does
-ranged_by x None s after a d h = ap is_stop d.answered ∙ own_calm x d.refusal d.own
-ranged_by x (Some c) s after a d h = ap is_stop d.1 ∙ h c
+ranged_by x [] s after a d h = ap is_stop d.answered ∙ own_calm x d.refusal d.own
+ranged_by x (c ∷ []) s after a d h = ap is_stop d.1 ∙ h c
+ranged_by x (c ∷ b ∷ m) s after a d h = ap is_stop d.0 ∙ h c
 
 -- ---- the demand
 
@@ -262,7 +267,7 @@ module _ (conf : Conf) (now : ℕ) (bytes lengths : List ℕ) (op : Opens conf n
   pub at_terminal : (es : List Entry) (e : Entry) → is_terminal (answer_entry (after_entries (Step.opened conf now bytes lengths) es) e) ≡ true
       → (c : Call) × (next_entry (after_entries (Step.opened conf now bytes lengths) es) e ≡ Step.next (Step.after (Step.opened conf now bytes lengths) (calls es)) c)
       × (answer_entry (after_entries (Step.opened conf now bytes lengths) es) e ≡ Step.answer (Step.after (Step.opened conf now bytes lengths) (calls es)) c)
-      × (made conf e (answer_entry (after_entries (Step.opened conf now bytes lengths) es) e) ≡ Some c)
+      × (made conf e (answer_entry (after_entries (Step.opened conf now bytes lengths) es) e) ≡ c ∷ [])
   at_terminal es e h =
       let s : State = after_entries (Step.opened conf now bytes lengths) es in
       let q = terminal_made e (made conf e (answer_entry s e)) s (next_entry s e) (answer_entry s e) (does conf e s (good_at es)) h in
@@ -277,11 +282,11 @@ module _ (conf : Conf) (now : ℕ) (bytes lengths : List ℕ) (op : Opens conf n
   pub late_calls : (cs ds es : List Entry) (a e : Entry) (s : State)
       → let u = next_entry (after_entries s cs) a in
       calls_of conf (run_entries s (cs ++ (a ∷ (ds ++ (e ∷ es)))))
-      ≡ calls_of conf (run_entries s cs) ++ cons_call (made conf a (answer_entry (after_entries s cs) a))
-      (calls_of conf (run_entries u ds) ++ cons_call (made conf e (answer_entry (after_entries u ds) e)) (calls_of conf (run_entries (next_entry (after_entries u ds) e) es)))
+      ≡ calls_of conf (run_entries s cs) ++ (made conf a (answer_entry (after_entries s cs) a)
+      ++ (calls_of conf (run_entries u ds) ++ (made conf e (answer_entry (after_entries u ds) e) ++ calls_of conf (run_entries (next_entry (after_entries u ds) e) es))))
   late_calls cs ds es a e s =
       calls_append conf cs (a ∷ (ds ++ (e ∷ es))) s
-      ∙ ap (λ (xs : List Call). calls_of conf (run_entries s cs) ++ cons_call (made conf a (answer_entry (after_entries s cs) a)) xs)
+      ∙ ap (λ (xs : List Call). calls_of conf (run_entries s cs) ++ (made conf a (answer_entry (after_entries s cs) a) ++ xs))
       (calls_append conf ds (e ∷ es) (next_entry (after_entries s cs) a))
 
   pub late_any : LateAny conf now bytes lengths
@@ -292,7 +297,7 @@ module _ (conf : Conf) (now : ℕ) (bytes lengths : List ℕ) (op : Opens conf n
       let rest : List Call = calls_of conf (run_entries (next_entry (after_entries s ds) e) es) in
       same_any conf (cs ++ (call (Call.cancel t k c) ∷ (ds ++ (e ∷ es)))) o good_open
       ∙ ap (λ (xs : List Call). any_terminal (Step.run o xs)) (late_calls cs ds es (call (Call.cancel t k c)) e o)
-      ∙ ap (λ (x : Option Call). any_terminal (Step.run o (calls cs ++ (Call.cancel t k c ∷ (calls_of conf (run_entries s ds) ++ cons_call x rest))))) m
+      ∙ ap (λ (x : List Call). any_terminal (Step.run o (calls cs ++ (Call.cancel t k c ∷ (calls_of conf (run_entries s ds) ++ (x ++ rest)))))) m
       ∙ late_call conf now bytes lengths op (calls cs) (calls_of conf (run_entries s ds)) rest t n k c ticks (cancel_at cs t k c h) below past i five
 
   pub whole : Whole conf now bytes lengths

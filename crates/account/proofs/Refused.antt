@@ -106,19 +106,22 @@ record KeptBy (e : Entry) (s t : State) (n : ℕ) : Type 0 where
   same : t ≡ s
   known : (among n of_calls || among n (of_entry e)) ≡ true
 
--- refused as the call that it makes, or by its own
-does_kept : (x : Entry) (m : Option Call) (s t : State) (a : Answer) (n : ℕ) → Does x m s t a → a ≡ Call.Refused n → KeptBy x s t n
+-- refused as the calls that it makes, or by its own
+does_kept : (x : Entry) (m : List Call) (s t : State) (a : Answer) (n : ℕ) → Does x m s t a → a ≡ Call.Refused n → KeptBy x s t n
 unfolding Does
-does_kept x None s t a n d e =
+does_kept x [] s t a n d e =
     let k : d.refusal ≡ n = cc d.answered in
     record { same = d.kept; known = or_right (among n of_calls) (among n (of_entry x)) (subst (λ (m : ℕ). among m (of_entry x) ≡ true) k d.own) }
-does_kept x (Some c) s t a n d e =
+does_kept x (c ∷ []) s t a n d e =
     let k = refused s c n (sym d.1 ∙ e) in record { same = d.0 ∙ k.same; known = rw k.known refl }
+does_kept x (c ∷ b ∷ m) s t a n d e =
+    let k = does_kept x (b ∷ m) (Step.next s c) t a n d.2 e in record { same = k.same ∙ (refused s c n (sym d.0 ∙ e)).same; known = k.known }
 
-does_stale : (x : Entry) (m : Option Call) (s t : State) (a : Answer) → Does x m s t a → a ≡ Call.Stale → t ≡ s
+does_stale : (x : Entry) (m : List Call) (s t : State) (a : Answer) → Does x m s t a → a ≡ Call.Stale → t ≡ s
 unfolding Does
-does_stale x None s t a d e = absurd (false≢true (sym (ap is_refused e) ∙ ap is_refused d.answered))
-does_stale x (Some c) s t a d e = d.0 ∙ stale s c (sym d.1 ∙ e)
+does_stale x [] s t a d e = absurd (false≢true (sym (ap is_refused e) ∙ ap is_refused d.answered))
+does_stale x (c ∷ []) s t a d e = d.0 ∙ stale s c (sym d.1 ∙ e)
+does_stale x (c ∷ b ∷ m) s t a d e = does_stale x (b ∷ m) (Step.next s c) t a d.2 e ∙ stale s c (sym d.0 ∙ e)
 
 -- refused by 12, 10 or 11
 stop_kept : (e : Entry) (s : State) (stores : Bool) (x : Refusal) (n : ℕ) → stop s.runner stores ≡ Err x → Call.Refused (number x) ≡ Call.Refused n → KeptBy e s s n
@@ -129,8 +132,8 @@ admitted_not : (r : Runner) (stores : Bool) (x : Refusal) → stop r stores ≡ 
 unfolding admitted
 admitted_not r stores x g = rw g refl
 
--- what is so of an entry that does what its call does, and of one that is refused by 12, 10 or 11, is so of every entry
-module _ (s : State) (C : Entry → State → Answer → Type 0) (made : (e : Entry) (m : Option Call) (t : State) (a : Answer) → Does e m s t a → C e t a)
+-- what is so of an entry that does what its calls do, and of one that is refused by 12, 10 or 11, is so of every entry
+module _ (s : State) (C : Entry → State → Answer → Type 0) (made : (e : Entry) (m : List Call) (t : State) (a : Answer) → Does e m s t a → C e t a)
     (stops : (e : Entry) (stores : Bool) (x : Refusal) → stop s.runner stores ≡ Err x → C e s (Call.Refused (number x))) where
   read_so : (met : Result (Unit {0}) Refusal) (now channel : ℕ) (b : List ℕ) → stop s.runner (stores_do s.runner s.bytes s.lengths) ≡ met
       → C (read_record now channel b) (next_entry s (read_record now channel b)) (answer_entry s (read_record now channel b))
@@ -148,7 +151,7 @@ module _ (s : State) (C : Entry → State → Answer → Type 0) (made : (e : En
 
   entry_so : (e : Entry) → C e (next_entry s e) (answer_entry s e)
   unfolding next_entry answer_entry Does
-  entry_so (call c) = made (call c) (Some c) (Step.next s c) (Step.answer s c) (refl, refl)
+  entry_so (call c) = made (call c) (c ∷ []) (Step.next s c) (Step.answer s c) (refl, refl)
   entry_so (read_record now channel b) = read_so (stop s.runner (stores_do s.runner s.bytes s.lengths)) now channel b refl
   entry_so (write_record channel buffer) = write_so (stop s.runner (bytes_do s.runner.limits s.bytes)) channel buffer refl
 

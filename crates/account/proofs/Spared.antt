@@ -1,9 +1,8 @@
 -- A stream that Terminal reports untruncated was spared: the list before has no report that bytes of it were dropped, and none that
 -- reading it failed, whatever such a call was answered: from open it is not refused, so it marks the stream, and that stays.
-use Rattle.std.specs.Prelude.{Option, Some, None}
 use mathlib.Core.Bool.{Bool, true, false, true≢false}
 use mathlib.Core.Path.{◌≡◌, refl, sym, ◌∙◌, subst, subst⁻¹}
-use mathlib.Core.List.{List, [], ◌∷◌}
+use mathlib.Core.List.{List, [], ◌∷◌, ◌++◌}
 use mathlib.Core.Logic.{inl, inr}
 use Prim.Native.Nat.{ℕ, ◌<◌}
 use borrow.Author.Tests.{lt-ltb}
@@ -19,7 +18,7 @@ use Rattle.account.specs.Step as Step
 use Rattle.account.specs.Step.{State}
 use Rattle.account.specs.Account.{Account, Tally, marked, adds, add, account, start, tally_of, cut}
 use Rattle.account.specs.Claim.{Opens}
-use Rattle.account.specs.Records.{Entry, call, next_entry, answer_entry, made, cons_done, dones_of, run_entries}
+use Rattle.account.specs.Records.{Entry, call, next_entry, answer_entry, made, alike, dones_of, run_entries}
 use Rattle.account.specs.TurnClaim.{Has, answer_after}
 use Rattle.account.proofs.Plain.{answer}
 use Rattle.account.proofs.Demand.{Fine, answer_same}
@@ -47,9 +46,9 @@ module _ (x : Stream) where
   stays [] a p = p
   stays (d ∷ ds) a p = stays ds (add a d.call d.answer) (add_keeps Marked d.call d.answer (lasting d.call d.answer) a p)
 
-  behind : (m : Option Call) (r : Answer) (ds : List Done) → ((a : Account) → All Marked (account a ds)) → (a : Account) → All Marked (account a (cons_done m r ds))
-  behind None r ds h a = h a
-  behind (Some c) r ds h a = h (add a c r)
+  behind : (m : List Call) (r : Answer) (ds : List Done) → ((a : Account) → All Marked (account a ds)) → (a : Account) → All Marked (account a (alike r m ++ ds))
+  behind [] r ds h a = h a
+  behind (c ∷ m) r ds h a = behind m r ds h (add a c r)
 
   -- a call that marks x where it is made
   abbrev pub Marks : Call → Type 0

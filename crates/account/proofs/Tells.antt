@@ -72,9 +72,12 @@ quiet_carries _ x e = refl
 none_added : (t s l : List ℕ) → t ≡ s → l ≡ [] → t ≡ s ++ l
 none_added t s l e n = e ∙ sym (append-nil s) ∙ ap (λ (q : List ℕ). s ++ q) (sym n)
 
+pub quiet_kept : (c : Call) (r : Answer) (z : Account) → ((x : Stream) → offered x c ≡ []) → is_message r ≡ false → (x : Stream) → Same z x false (tally_of x (add z c r))
+quiet_kept c r z o q x = quiet_same z c r z (no_bytes c r o) (λ y b e. true≢false (sym (ap is_message e) ∙ q)) (λ y. (refl, refl)) x
+
 pub quiet_told : (c : Call) (r : Answer) (z : Account) → ((x : Stream) → offered x c ≡ []) → is_message r ≡ false → Tells z c r
 quiet_told c r z o q x =
-    let h = quiet_same z c r z (no_bytes c r o) (λ y b e. true≢false (sym (ap is_message e) ∙ q)) (λ y. (refl, refl)) x in
+    let h = quiet_kept c r z o q x in
     (none_added _ _ _ h.0 (ap (take (count r)) (o x) ∙ take-nil (count r)), none_added _ _ _ h.1 (quiet_carries r x q))
 
 pub output_told : (y : Stream) (b : List ℕ) (n : ℕ) (z : Account) → Tells z (Call.output y b) (Call.Taken n)

@@ -1,7 +1,4 @@
 -- The turn: a stream that Terminal reports untruncated was sent whole and closed by the program, and no byte is added to it any more.
-use Rattle.std.specs.Prelude.{Option, Result, Some, None, Ok}
-use Rattle.codec.specs.declared.Record.{Record}
-use Rattle.exec.specs.declared.Refusal.{Refusal}
 use mathlib.Core.Bool.{Bool, true, false, not, ◌&&◌, ◌||◌, true≢false, false≢true}
 use mathlib.Core.Path.{◌≡◌, refl, sym, ap, ◌∙◌, subst, subst⁻¹}
 use mathlib.Core.List.{List, [], ◌∷◌, ◌++◌, append-nil}
@@ -20,15 +17,13 @@ use Rattle.output.specs.Output.{is_done}
 use Rattle.runner.specs.Message.{effect}
 use Rattle.runner.specs.State.{out_of}
 use Rattle.runner.specs.Streams.{output_taken}
-use Rattle.channel.specs.Calls.{is_channel}
-use Rattle.codec.specs.Codec.{read}
 use Rattle.calls.specs.Call as Call
 use Rattle.calls.specs.Call.{Conf, Call, Answer, Done, count}
 use Rattle.account.specs.Step as Step
 use Rattle.account.specs.Step.{State}
 use Rattle.account.specs.Account.{Account, Replay, Tally, add, account, start, tally_of, cut}
 use Rattle.account.specs.Claim.{Opens, IsPrefix, is_message, is_terminal}
-use Rattle.account.specs.Records.{Entry, EntryDone, call, read_record, write_record, next_entry, after_entries, call_of, roomy, is_untaken, made, calls_of, cons_call, cons_done, dones_of, run_entries, entry_account, Whole}
+use Rattle.account.specs.Records.{Entry, EntryDone, call, next_entry, after_entries, made, calls_of, alike, dones_of, run_entries, entry_account, Whole}
 use Rattle.account.specs.TurnClaim.{Has, closing, answer_after, Turn}
 use Rattle.account.proofs.Plain.{next, answer, after_all, run, begun}
 use Rattle.account.proofs.Sides.{one_per}
@@ -38,13 +33,13 @@ use Rattle.account.proofs.Lists.{Course, running, over, open_course, plain_of}
 use Rattle.runner.specs.TerminalLaws.{chosen_ready, ready_delivered}
 use Rattle.account.proofs.Range.{lent}
 use Rattle.account.proofs.Demand.{opens_by, same_run, same_answer, same_account as plain_account}
+use Rattle.account.proofs.EachRecord.{Outputless, AllOutputless, record_outputless}
 use Rattle.account.proofs.Records.{same_dones, calls_append, good_open, calls, same_account, at_terminal, whole}
 use Rattle.account.proofs.Tells.{take_zero, Same, quiet_same}
 use Rattle.account.proofs.Told.{tallied, taken_told, sent_told}
 use Rattle.account.proofs.Spared.{dropped_marks, failed_marks, spared}
 use Rattle.std.proofs.lemmas.Bool.{or_parts}
 use Rattle.ring.specs.Flags.{and_l}
-use Rattle.account.proofs.Flags.{either}
 use Rattle.account.proofs.Shut.{closing_call, list_own, start_own, Shut, shut_next}
 
 -- ---- rows: a prefix that is not shorter is the whole
@@ -101,29 +96,18 @@ module _ (z : Account) where
 
 -- ---- a record closes no stream
 
-abbrev Unclosing : Stream → Option Call → Type 0
-Unclosing x m = m ≡ Some (Call.output_closed x) → ⊥
-
-unclosed : (m : Option Call) (r : Answer) (x : Stream) (ds : List Done) → Unclosing x m → Has (closing_call x) (cons_done m r ds) → Has (closing_call x) ds
-unclosed None r x ds n h = h
-unclosed (Some c) r x ds n (inl e) = absurd (n (ap (λ (d : Done). Some d.call) (sym e)))
-unclosed (Some c) r x ds n (inr h) = h
-
-read_unclosed : (conf : Conf) (now : ℕ) (b : List ℕ) (x : Stream) (p : Result Record Refusal) → Unclosing x (call_of conf now b p)
-unfolding call_of
-read_unclosed conf now b x (Ok (Record.Extended n)) e = cc
-read_unclosed conf now b x _ e = cc
+unclosed : (m : List Call) (r : Answer) (x : Stream) (ds : List Done) → AllOutputless m → Has (closing_call x) (alike r m ++ ds) → Has (closing_call x) ds
+unclosed [] r x ds n h = h
+unclosed (c ∷ m) r x ds n (inl e) = absurd (subst Outputless (ap (λ (d : Done). d.call) (sym e)) n.0)
+unclosed (c ∷ m) r x ds n (inr h) = unclosed m r x ds n.1 h
 
 closing_at : (conf : Conf) (x : Stream) (e : Entry) (r : Answer) (ds : List Done) (es : List EntryDone) → (Has (closing_call x) ds → Has (closing x) es)
-    → Has (closing_call x) (cons_done (made conf e r) r ds) → Has (closing x) (record { entry = e; answer = r } ∷ es)
+    → Has (closing_call x) (alike r (made conf e r) ++ ds) → Has (closing x) (record { entry = e; answer = r } ∷ es)
 unfolding made
 closing_at conf x (call c) r ds es g (inl e) = inl (ap (λ (d : Done). record { entry = call d.call; answer = d.answer }) e)
 closing_at conf x (call c) r ds es g (inr h) = inr (g h)
-closing_at conf x (read_record now channel b) r ds es g h =
-    inr (g (unclosed _ r x ds (either (Unclosing x) (is_channel conf.limits) (call_of conf now b (read channel b)) None (read_unclosed conf now b x (read channel b)) (λ e. cc)) h))
-closing_at conf x (write_record channel buffer) r ds es g h =
-    inr (g (unclosed _ r x ds (either (Unclosing x) (is_channel conf.limits && roomy conf buffer) _ None
-    (either (Unclosing x) (is_untaken r) None _ (λ e. cc) (λ e. cc)) (λ e. cc)) h))
+closing_at conf x e r ds es g h =
+    inr (g (unclosed (made conf e r) r x ds (record_outputless conf e r tt) h))
 
 closing_in : (conf : Conf) (x : Stream) (ds : List EntryDone) → Has (closing_call x) (dones_of conf ds) → Has (closing x) ds
 closing_in conf x [] h = h
@@ -163,7 +147,7 @@ module _ (conf : Conf) (now : ℕ) (bytes lengths : List ℕ) (op : Opens conf n
   to_plain es = same_account conf now bytes lengths op es ∙ plain_account conf now bytes lengths op (made_of es)
 
   terminal_call : (es : List Entry) (e : Entry) → is_terminal (answer_after conf now bytes lengths es e) ≡ true
-      → (c : Call) × (made conf e (answer_after conf now bytes lengths es e) ≡ Some c) × (is_terminal (answer (state es) c) ≡ true)
+      → (c : Call) × (made conf e (answer_after conf now bytes lengths es e) ≡ c ∷ []) × (is_terminal (answer (state es) c) ≡ true)
   terminal_call es e h =
       let q = at_terminal conf now bytes lengths op es e h in
       (q.0, q.3, sym (ap is_terminal (q.2 ∙ same_answer conf now bytes lengths op (made_of es) q.0)) ∙ h)
@@ -175,14 +159,14 @@ module _ (conf : Conf) (now : ℕ) (bytes lengths : List ℕ) (op : Opens conf n
       (subst⁻¹ (Has (closing_call y)) (same_dones conf es (Step.opened conf now bytes lengths) (good_open conf now bytes lengths op) ∙ same_run conf now bytes lengths op (made_of es)) m))
       (start_own _ conf now) x
 
-  final_at : (es : List Entry) (e : Entry) (ds : List Entry) (c : Call) → made conf e (answer_after conf now bytes lengths es e) ≡ Some c → is_terminal (answer (state es) c) ≡ true
+  final_at : (es : List Entry) (e : Entry) (ds : List Entry) (c : Call) → made conf e (answer_after conf now bytes lengths es e) ≡ c ∷ [] → is_terminal (answer (state es) c) ≡ true
       → All (Same (plain es)) (plain (es ++ (e ∷ ds)))
   final_at es e ds c m h =
       let s : State = after_entries (Step.opened conf now bytes lengths) es in
       let rest : List Call = calls_of conf (run_entries (next_entry s e) ds) in
       subst⁻¹ (All (Same (plain es)))
       (ap (λ (cs : List Call). account (start conf now) (run (begun conf now bytes lengths) cs))
-      (calls_append conf es (e ∷ ds) (Step.opened conf now bytes lengths) ∙ ap (λ (k : Option Call). made_of es ++ cons_call k rest) m)
+      (calls_append conf es (e ∷ ds) (Step.opened conf now bytes lengths) ∙ ap (λ (k : List Call). made_of es ++ (k ++ rest)) m)
       ∙ list_append (made_of es) (c ∷ rest) (begun conf now bytes lengths) (start conf now))
       (terminal_same (plain es) c rest (state es) (plain es) h (λ x. (refl, refl)))
 

@@ -241,7 +241,7 @@ abbrev AllAsk : Conf → List Entry → List Call → Type 0
 AllAsk k [] [] = Unit
 AllAsk k [] (c ∷ cs) = ⊥
 AllAsk k (e ∷ es) [] = ⊥
-AllAsk k (e ∷ es) (c ∷ cs) = (made k e Call.Ok ≡ Some c) × AllAsk k es cs
+AllAsk k (e ∷ es) (c ∷ cs) = (made k e Call.Ok ≡ c ∷ []) × AllAsk k es cs
 
 records_ask : (status : Option Status) → AllAsk channel (records status) (channel_calls status)
 unfolding made call_of read kinded checked fitting number_at be32_at
@@ -289,7 +289,7 @@ all_made conf (e ∷ es) [] s g k h = absurd k
 all_made conf (e ∷ es) (c ∷ cs) s g k h =
     let not_yet = or_parts (is_terminal (Step.answer s c)) (any_terminal (Step.run (Step.next s c) cs)) h in
     let m = made_so conf e c s g k.0 not_yet.0 in
-    let d : Does e (Some c) s (next_entry s e) (answer_entry s e) = rw m at (does conf e s g) in
+    let d : Does e (c ∷ []) s (next_entry s e) (answer_entry s e) = rw m at (does conf e s g) in
     let p = all_made conf es cs (next_entry s e) (good_entry conf e s g) k.1 (rw d.0 not_yet.1) in (
       rw (d.1, p.0, d.0) refl,
       p.1 ∙ ap (λ (t : State). Step.after t cs) d.0,

@@ -1,5 +1,5 @@
 -- Demand 3 whole: lists that mix the runner's calls with channel records read into it and written from it. Each record stands
--- in the list as the call that it makes, told from the arguments of open, its own, and its answer; one that is refused first
+-- in the list as the calls that it makes, told from the arguments of open, its own, and its answer; one that is refused first
 -- makes none.
 use Rattle.std.specs.Prelude.{Bool, true, false, cond, ◌&&◌, ◌||◌, ◌≡◌, List, [], ◌∷◌, ◌++◌, ℕ, ◌+◌, ◌-◌, ◌^◌, ◌≤◌, ◌<◌, leb, eqb, length, take, drop, Option, Result, Some, None, Ok, Err}
 use Rattle.runner.specs.declared.answer.Message.{Message}
@@ -86,13 +86,13 @@ run_entries s (e ∷ es) = record { entry = e; answer = answer_entry s e } ∷ r
 -- ---- the calls of a list
 
 -- the call that a record's bytes make: 93 credit on pool Output, 94 input, 96 end_input, 97 disconnect
-unfoldable pub call_of : Conf → (now : ℕ) → (bytes : List ℕ) → Result Record Refusal → Option Call
-call_of conf now b (Ok (Record.Adjust units)) = Some (Call.credit conf.key Pool.Output units)
-call_of conf now b (Ok (Record.Data n)) = Some (Call.input conf.key (drop 9 b))
-call_of conf now b (Ok (Record.Extended n)) = None
-call_of conf now b (Ok Record.Eof) = Some (Call.end_input conf.key)
-call_of conf now b (Ok Record.Close) = Some (Call.disconnect now)
-call_of conf now b (Err x) = None
+unfoldable pub call_of : Conf → (now : ℕ) → (bytes : List ℕ) → Result Record Refusal → List Call
+call_of conf now b (Ok (Record.Adjust units)) = Call.credit conf.key Pool.Output units ∷ []
+call_of conf now b (Ok (Record.Data n)) = Call.input conf.key (drop 9 b) ∷ []
+call_of conf now b (Ok (Record.Extended n)) = []
+call_of conf now b (Ok Record.Eof) = Call.end_input conf.key ∷ []
+call_of conf now b (Ok Record.Close) = Call.disconnect now ∷ []
+call_of conf now b (Err x) = []
 
 -- a record is written into a buffer of at least chunk + 13 bytes, and 43
 abbrev pub roomy : Conf → (buffer : List ℕ) → Bool
@@ -117,31 +117,28 @@ is_untaken (Call.IsKey k) = false
 is_untaken (Call.AreLimits l) = false
 is_untaken Call.Nothing = false
 
--- the call that an entry makes, where it is answered so
-unfoldable pub made : Conf → Entry → Answer → Option Call
-made conf (call c) a = Some c
-made conf (read_record now channel b) a = cond (is_channel conf.limits) (call_of conf now b (read channel b)) None
+-- the calls that an entry makes, where it is answered so
+unfoldable pub made : Conf → Entry → Answer → List Call
+made conf (call c) a = c ∷ []
+made conf (read_record now channel b) a = cond (is_channel conf.limits) (call_of conf now b (read channel b)) []
 made conf (write_record channel buffer) a =
     cond (is_channel conf.limits && roomy conf buffer)
-    (cond (is_untaken a) None (Some (Call.next_message (take conf.limits.chunk (drop 13 buffer)))))
-    None
-
-abbrev pub cons_call : Option Call → List Call → List Call
-cons_call None cs = cs
-cons_call (Some c) cs = c ∷ cs
+    (cond (is_untaken a) [] (Call.next_message (take conf.limits.chunk (drop 13 buffer)) ∷ []))
+    []
 
 abbrev pub calls_of : Conf → List EntryDone → List Call
 calls_of conf [] = []
-calls_of conf (d ∷ ds) = cons_call (made conf d.entry d.answer) (calls_of conf ds)
+calls_of conf (d ∷ ds) = made conf d.entry d.answer ++ calls_of conf ds
+
+-- calls that are answered alike
+abbrev pub alike : Answer → List Call → List Done
+alike a [] = []
+alike a (c ∷ cs) = record { call = c; answer = a } ∷ alike a cs
 
 -- the calls made, each with its entry's answer
-abbrev pub cons_done : Option Call → Answer → List Done → List Done
-cons_done None a ds = ds
-cons_done (Some c) a ds = record { call = c; answer = a } ∷ ds
-
 abbrev pub dones_of : Conf → List EntryDone → List Done
 dones_of conf [] = []
-dones_of conf (d ∷ ds) = cons_done (made conf d.entry d.answer) d.answer (dones_of conf ds)
+dones_of conf (d ∷ ds) = alike d.answer (made conf d.entry d.answer) ++ dones_of conf ds
 
 -- ---- refusals of a record's own
 
@@ -197,7 +194,7 @@ pub record Whole (conf : Conf) (now : ℕ) (bytes lengths : List ℕ) : Type 0 w
   -- from open on no entry is refused by 10, 11 or 12
   pub ranged : (es : List Entry) (e : Entry) → is_stop (answer_entry (after_entries (opened conf now bytes lengths) es) e) ≡ false
   -- an entry that makes no call is refused by a number of its own, and leaves runner and stores as they were
-  pub refused : (es : List Entry) (e : Entry) → made conf e (answer_entry (after_entries (opened conf now bytes lengths) es) e) ≡ None
+  pub refused : (es : List Entry) (e : Entry) → made conf e (answer_entry (after_entries (opened conf now bytes lengths) es) e) ≡ []
       → (next_entry (after_entries (opened conf now bytes lengths) es) e ≡ after_entries (opened conf now bytes lengths) es)
       × ((n : ℕ) × (answer_entry (after_entries (opened conf now bytes lengths) es) e ≡ Call.Refused n) × (among n (of_entry e) ≡ true))
   -- a write answered 40 leaves the Terminal with the runner: next_message gives it, into any buffer, and its status is one that no

@@ -2,16 +2,17 @@
 use Rattle.std.specs.Prelude.{Option, Some, None}
 use mathlib.Core.Bool.{true, false, true≢false}
 use mathlib.Core.Path.{◌≡◌, refl, sym, ap, ◌∙◌}
-use mathlib.Core.List.{List, [], ◌∷◌, ◌++◌, map}
+use mathlib.Core.List.{List, [], ◌∷◌, ◌++◌, append_assoc, map}
 use mathlib.Core.Logic.{inl, inr}
 use Prim.Native.Nat.{ℕ}
 use Rattle.calls.specs.Call as Call
 use Rattle.calls.specs.Call.{Call, Answer, Done}
 use Rattle.account.specs.Claim.{is_message, is_terminal, Silent}
-use Rattle.account.specs.Records.{Entry, EntryDone, call, cons_call, cons_done, next_entry, answer_entry, after_entries, run_entries}
+use Rattle.account.specs.Records.{Entry, EntryDone, call, alike, next_entry, answer_entry, after_entries, run_entries}
 use Rattle.account.specs.TurnClaim.{Has}
 use Rattle.account.specs.Step.{State, next, answer, after, run}
 use Rattle.grammar.specs.Feed.{Running}
+use Rattle.grammar.specs.Calls.{made_of}
 use Rattle.grammar.specs.ByLine.{Line, call_said, next_by, answer_by, lines_from, stage_after}
 use Rattle.grammar.proofs.Later.{later_line}
 use Rattle.cards.specs.Runs.{calls_of, dones_of, entries_of}
@@ -24,13 +25,9 @@ abbrev pub Follow : State → List Line → Type 0
 Follow s [] = Unit
 Follow s (l ∷ ls) = Follows s l × Follow (next_by s l.call) ls
 
-after_cons : (o : Option Call) (s : State) (cs : List Call) → after s (cons_call o cs) ≡ after (next_by s o) cs
-after_cons None s cs = refl
-after_cons (Some c) s cs = refl
-
-cons_append : (o : Option Call) (xs ys : List Call) → cons_call o (xs ++ ys) ≡ cons_call o xs ++ ys
-cons_append None xs ys = refl
-cons_append (Some c) xs ys = refl
+after_made : (o : Option Call) (s : State) (cs : List Call) → after s (made_of o ++ cs) ≡ after (next_by s o) cs
+after_made None s cs = refl
+after_made (Some c) s cs = refl
 
 -- from a stage with a runner on
 pub follow : (s : State) (ls : List (List ℕ)) → Follow s (lines_from (Running s) ls)
@@ -40,7 +37,7 @@ follow s (l ∷ ls) = let h = later_line s l in rw h (refl, follow (next_by s (c
 pub leaves : (s : State) (ls : List (List ℕ)) → stage_after (Running s) ls ≡ Running (after s (calls_of (lines_from (Running s) ls)))
 leaves s [] = refl
 leaves s (l ∷ ls) =
-    rw (later_line s l) (leaves (next_by s (call_said l)) ls ∙ ap Running (sym (after_cons (call_said l) s (calls_of (lines_from (Running (next_by s (call_said l))) ls)))))
+    rw (later_line s l) (leaves (next_by s (call_said l)) ls ∙ ap Running (sym (after_made (call_said l) s (calls_of (lines_from (Running (next_by s (call_said l))) ls)))))
 
 -- their calls are those that they say
 pub called : (s : State) (ls : List (List ℕ)) → map (λ (l : Line). l.call) (lines_from (Running s) ls) ≡ map call_said ls
@@ -52,18 +49,18 @@ pub dones : (s : State) (ls : List Line) → Follow s ls → dones_of ls ≡ run
 dones s [] f = refl
 dones s (l ∷ ls) f = by l.call l.answer f.0 (dones (next_by s l.call) ls f.1)
   where
-    by : (o : Option Call) (a : Answer) → a ≡ answer_by s o → dones_of ls ≡ run (next_by s o) (calls_of ls) → cons_done o a (dones_of ls) ≡ run s (cons_call o (calls_of ls))
+    by : (o : Option Call) (a : Answer) → a ≡ answer_by s o → dones_of ls ≡ run (next_by s o) (calls_of ls) → alike a (made_of o) ++ dones_of ls ≡ run s (made_of o ++ calls_of ls)
     by None a e h = h
     by (Some c) a e h = rw (e, h) refl
 
 -- lines one after the other
 pub calls_append : (xs ys : List Line) → calls_of (xs ++ ys) ≡ calls_of xs ++ calls_of ys
 calls_append [] ys = refl
-calls_append (l ∷ xs) ys = ap (cons_call l.call) (calls_append xs ys) ∙ cons_append l.call (calls_of xs) (calls_of ys)
+calls_append (l ∷ xs) ys = ap (λ (cs : List Call). made_of l.call ++ cs) (calls_append xs ys) ∙ sym (append_assoc (made_of l.call) (calls_of xs) (calls_of ys))
 
 pub parts : (s : State) (xs ys : List Line) → Follow s (xs ++ ys) → Follow s xs × Follow (after s (calls_of xs)) ys
 parts s [] ys f = (tt, f)
-parts s (l ∷ xs) ys f = let p = parts (next_by s l.call) xs ys f.1 in ((f.0, p.0), rw (after_cons l.call s (calls_of xs)) p.1)
+parts s (l ∷ xs) ys f = let p = parts (next_by s l.call) xs ys f.1 in ((f.0, p.0), rw (after_made l.call s (calls_of xs)) p.1)
 
 -- one that is no call, and one that is
 pub no_call : (s : State) (l : Line) → Follows s l → l.call ≡ None → l.answer ≡ Call.Refused 30

@@ -11,7 +11,7 @@ use Rattle.exec.specs.declared.Stream.{Stream}
 use Rattle.calls.specs.Call as Call
 use Rattle.calls.specs.Call.{Call, Answer, Done}
 use Rattle.account.specs.Claim.{Demand3, Opens, is_message, is_terminal, is_stop}
-use Rattle.account.specs.Records.{call, cons_call, run_entries, among}
+use Rattle.account.specs.Records.{call, run_entries, among}
 use Rattle.account.specs.Refused.{of_calls}
 use Rattle.account.specs.Step.{State, next, answer, after}
 use Rattle.account.specs.TurnClaim as TurnClaim
@@ -21,6 +21,7 @@ use Rattle.account.proofs.Refused.{refusals}
 use Rattle.account.proofs.Turn.{turn}
 use Rattle.syntax.specs.Lines.{zeros}
 use Rattle.opening.specs.Open.{Opening}
+use Rattle.grammar.specs.Calls.{made_of}
 use Rattle.grammar.specs.Feed.{First, Running, Over, Answered, answer_of, prints}
 use Rattle.grammar.specs.ByLine.{Line, lines_in, lines_from}
 use Rattle.grammar.proofs.ByLine.{by_line}
@@ -86,7 +87,7 @@ module _ (o : Opening) (op : Opens o.conf o.now (zeros 65536) (zeros 1024)) wher
         let q = terminal_call (at xs) l p.1.0 (ap is_terminal h) in rw (dones s xs p.0) (d3.marks (calls_of xs) q.0 u (sym q.2 ∙ h) x));
     first = λ xs ys l t k c e m h. (let p = parts s xs (l ∷ ys) (rw e at f) in rw (dones s xs p.0) (d3.first (calls_of xs) t k c (sym (its_call (at xs) l (Call.cancel t k c) p.1.0 m) ∙ h)));
     late = λ xs ys zs l m t n k c e lc la mc below past five. (let p = parts s xs (l ∷ (ys ++ (m ∷ zs))) (rw e at f) in
-        let calls = ap calls_of e ∙ calls_append xs (l ∷ (ys ++ (m ∷ zs))) ∙ ap (λ (rest : List Call). calls_of xs ++ cons_call l.call rest) (calls_append ys (m ∷ zs)) in
+        let calls = ap calls_of e ∙ calls_append xs (l ∷ (ys ++ (m ∷ zs))) ∙ ap (λ (rest : List Call). calls_of xs ++ (made_of l.call ++ rest)) (calls_append ys (m ∷ zs)) in
         let all : calls_of ls ≡ calls_of xs ++ (Call.cancel t k c ∷ (calls_of ys ++ (Call.tick n ∷ calls_of zs))) = calls ∙ rw (lc, mc) refl in
         rw (dones s ls f, all) (d3.late (calls_of xs) (calls_of ys) (calls_of zs) t n k c (sym (its_call (at xs) l (Call.cancel t k c) p.1.0 lc) ∙ la) below past five));
     numbers = λ xs ys l n e. refused_by xs ys l n (rw e at f);
@@ -120,7 +121,7 @@ module _ (o : Opening) (op : Opens o.conf o.now (zeros 65536) (zeros 1024)) wher
         t3.undropped (entered (calls_of xs)) (call z.c) u.outcome x n (z.says ∙ u.says) u.reports p (has_entered _ (calls_of xs) d));
     unfailed = λ x xs u d. (let z = whole ls xs x f u in t3.unfailed (entered (calls_of xs)) (call z.c) u.outcome x (z.says ∙ u.says) u.reports (has_entered _ (calls_of xs) d));
     final = λ x xs ys l e h. (let z = ends xs ys l (rw e at f) h in
-        let calls = ap calls_of e ∙ calls_append xs (l ∷ ys) ∙ ap (λ (k : Option Call). calls_of xs ++ cons_call k (calls_of ys)) z.is in
+        let calls = ap calls_of e ∙ calls_append xs (l ∷ ys) ∙ ap (λ (k : Option Call). calls_of xs ++ (made_of k ++ calls_of ys)) z.is in
         let all : entered (calls_of ls) ≡ entered (calls_of xs) ++ (call z.c ∷ entered (calls_of ys)) = ap entered calls ∙ entered_append (calls_of xs) (z.c ∷ calls_of ys) in
         rw (← told ls f, ← z.before, all) (t3.final (entered (calls_of xs)) (call z.c) (entered (calls_of ys)) x (ap is_terminal z.says ∙ h)));
   }

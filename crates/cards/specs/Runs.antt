@@ -11,12 +11,13 @@ use Rattle.calls.specs.Call.{Call, Answer, Done}
 use Rattle.account.specs.Account as Accounts
 use Rattle.account.specs.Account.{Account, account, tally_of, cut, tick_a}
 use Rattle.account.specs.Claim.{Opens, IsPrefix, is_message, is_terminal, any_terminal, messages}
-use Rattle.account.specs.Records.{EntryDone, call, cons_call, cons_done, among}
+use Rattle.account.specs.Records.{EntryDone, call, alike, among}
 use Rattle.account.specs.Step.{State, opened, after, run}
 use Rattle.account.specs.TurnClaim.{Has, closing, taken_in, sent_in}
 use Rattle.syntax.specs.Lines.{zeros}
 use Rattle.opening.specs.Open.{Opening, line_open}
 use Rattle.grammar.specs.Feed.{First, Running, answer_of, start, feeds, ended}
+use Rattle.grammar.specs.Calls.{made_of}
 use Rattle.grammar.specs.ByLine.{Line, lines_in, call_said, lines_from, answers_of, text_from}
 
 -- ---- lines
@@ -24,12 +25,12 @@ use Rattle.grammar.specs.ByLine.{Line, lines_in, call_said, lines_from, answers_
 -- the calls that they make
 abbrev pub calls_of : List Line → List Call
 calls_of [] = []
-calls_of (l ∷ ls) = cons_call l.call (calls_of ls)
+calls_of (l ∷ ls) = made_of l.call ++ calls_of ls
 
 -- each with its line's answer
 abbrev pub dones_of : List Line → List Done
 dones_of [] = []
-dones_of (l ∷ ls) = cons_done l.call l.answer (dones_of ls)
+dones_of (l ∷ ls) = alike l.answer (made_of l.call) ++ dones_of ls
 
 -- and as entries of a list of calls and records
 abbrev pub entries_of : List Done → List EntryDone

@@ -3,9 +3,10 @@ use Rattle.std.specs.Prelude.{Bool, true, false, cond, ◌≡◌, refl, List, []
 use Rattle.std.proofs.Common.{sym, ap, ◌∙◌, append_assoc, append-nil}
 use Rattle.calls.specs.Call.{Call, Done}
 use Rattle.account.specs.Step.{State, next, answer, after, run}
+use Rattle.account.specs.Records.{alike}
 use Rattle.syntax.specs.Lines.{line_call}
 use Rattle.grammar.specs.Feed.{Running, Session, Step, Answered, later, answered, too_long, is_short, answer_of, line_ends, hold, eat, feeds, ends}
-use Rattle.grammar.specs.Calls.{made_of, line_calls, eat_calls, calls_of, IsRunning, Line, line_of, eat_lines, lines_of, text_of, told, dones_of, IsBad, Answers, BadUncalled}
+use Rattle.grammar.specs.Calls.{made_of, line_calls, eat_calls, calls_of, IsRunning, Line, line_of, eat_lines, lines_of, text_of, dones_of, IsBad, Answers, BadUncalled}
 
 -- ---- the runner
 
@@ -82,12 +83,12 @@ run_append s (c ∷ a) b = ap (λ (ds : List Done). record { call = c; answer = 
 dones_append : (a b : List Line) → dones_of (a ++ b) ≡ dones_of a ++ dones_of b
 dones_append [] b = refl
 dones_append (l ∷ a) b =
-    ap (λ (ds : List Done). told l.answer l.calls ++ ds) (dones_append a b) ∙ sym (append_assoc (told l.answer l.calls) (dones_of a) (dones_of b))
+    ap (λ (ds : List Done). alike l.answer l.calls ++ ds) (dones_append a b) ∙ sym (append_assoc (alike l.answer l.calls) (dones_of a) (dones_of b))
 
 eat_answers : (x : Session) (s : State) (b : ℕ) → IsRunning x.stage s → dones_of (eat_lines x b) ≡ run s (eat_calls x b)
 eat_answers x s b r = by (eqb b 10)
   where
-    held : told (answer_of x.stage x.held).answer (line_calls x.stage x.held) ≡ run s (line_calls x.stage x.held)
+    held : alike (answer_of x.stage x.held).answer (line_calls x.stage x.held) ≡ run s (line_calls x.stage x.held)
     held = rw r (line_answers s x.held).called
 
     by : (e : Bool) → dones_of (cond e (line_of x.stage x.held ∷ []) []) ≡ run s (cond e (line_calls x.stage x.held) [])

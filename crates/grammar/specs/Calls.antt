@@ -4,7 +4,7 @@ use Rattle.std.specs.Prelude.{true, cond, ◌≡◌, List, [], ◌∷◌, ◌++�
 use Rattle.calls.specs.Call as Call
 use Rattle.calls.specs.Call.{Call, Answer, Done}
 use Rattle.account.specs.Step.{State, run}
-use Rattle.account.specs.Records.{among}
+use Rattle.account.specs.Records.{alike, among}
 use Rattle.syntax.specs.Lines.{line_call}
 use Rattle.syntax.specs.Answers.{line_text}
 use Rattle.grammar.specs.Feed.{Stage, First, Running, Over, Session, is_short, answer_of, eat}
@@ -60,13 +60,9 @@ text_of n [] = []
 text_of n (l ∷ ls) = line_text (n + 1) l.answer ++ text_of (n + 1) ls
 
 -- the calls of the lines, each with its line's answer
-abbrev pub told : Answer → List Call → List Done
-told a [] = []
-told a (c ∷ cs) = record { call = c; answer = a } ∷ told a cs
-
 abbrev pub dones_of : List Line → List Done
 dones_of [] = []
-dones_of (l ∷ ls) = told l.answer l.calls ++ dones_of ls
+dones_of (l ∷ ls) = alike l.answer l.calls ++ dones_of ls
 
 -- what the card itself refuses a line by
 abbrev pub of_lines : List ℕ
@@ -77,7 +73,7 @@ IsBad a = (n : ℕ) × (a ≡ Call.Refused n) × (among n of_lines ≡ true)
 
 -- what a line of a session with a runner is answered: as its call, or by 30 where it makes none
 pub record Answers (s : State) (l : Line) : Type 0 where
-  pub called : told l.answer l.calls ≡ run s l.calls
+  pub called : alike l.answer l.calls ≡ run s l.calls
   pub uncalled : l.calls ≡ [] → IsBad l.answer
 
 abbrev pub BadUncalled : List Line → Type 0

@@ -1,5 +1,4 @@
 -- The order that the messages of every list keep: an End once, and nothing of its stream after it; nothing after Terminal.
-use Rattle.std.specs.Prelude.{Option, Some, None}
 use Rattle.std.proofs.Math.Bool.{or-false}
 use Rattle.std.proofs.lemmas.Bool.{or_right}
 use mathlib.Core.Bool.{or-true, Bool, true, false, ◌||◌, true≢false, false≢true}
@@ -17,7 +16,7 @@ use Rattle.account.specs.Step.{State}
 use Rattle.account.specs.Claim.{Opens, is_terminal, terminal_message}
 use Rattle.account.specs.Records.{Entry, next_entry, answer_entry, after_entries, made}
 use Rattle.account.proofs.Plain.{next, answer}
-use Rattle.account.proofs.Demand.{Fine, next_same, answer_same, open_same}
+use Rattle.account.proofs.Demand.{Fine, fine_next, next_same, answer_same, open_same}
 use Rattle.account.proofs.Finish as Finish
 use Rattle.account.proofs.Finish.{fin_stays, no_more, ends_fin}
 use Rattle.account.proofs.EachRecord.{Does}
@@ -83,14 +82,19 @@ finishes_on {r} {s} {t} {ms} {ns} a b = record {
 
 -- ---- an entry
 
-entry_by : (e : Entry) (m : Option Call) (s after : State) (a : Answer) → Fine s → Muted s.runner → Does e m s after a
+entry_by : (e : Entry) (m : List Call) (s after : State) (a : Answer) → Fine s → Muted s.runner → Does e m s after a
     → Tells s.runner after.runner (said_in a) × Finishes s.runner after.runner (said_in a)
 unfolding Does
-entry_by e None s after a f h d = rw (d.kept, d.answered) (
+entry_by e [] s after a f h d = rw (d.kept, d.answered) (
   record { told = refl; once = tt; muted = h; silent = λ x t. refl },
   record { over = λ g. (refl, g); ended = λ t. absurd (false≢true t); final = tt },
 )
-entry_by e (Some c) s after a f h d = rw (d.0, next_same s c f, d.1, answer_same s c f) (call_tells c s h, call_finishes c s)
+entry_by e (c ∷ []) s after a f h d = rw (d.0, next_same s c f, d.1, answer_same s c f) (call_tells c s h, call_finishes c s)
+entry_by e (c ∷ b ∷ m) s after a f h d =
+    let n : said_in (answer s c) ≡ [] = ap said_in (sym (d.0 ∙ answer_same s c f)) ∙ unsaid a d.1 in
+    let t : Tells s.runner (next s c).runner [] = rw n at (call_tells c s h) in
+    let g : Finishes s.runner (next s c).runner [] = rw n at (call_finishes c s) in
+    let p = entry_by e (b ∷ m) (next s c) after a (fine_next c s f) t.muted (rw (next_same s c f) at d.2) in (tells_on t p.0, finishes_on g p.1)
 
 module _ (conf : Conf) where
   pub entry_tells : (e : Entry) (s : State) → Good conf s → Muted s.runner
