@@ -25,6 +25,8 @@ pub mod Session
 pub mod Tight
 pub mod InputFifo
 pub mod EachRecord
+pub mod EachFrame
+pub mod EachWrite
 pub mod Records
 pub mod Tells
 pub mod Told

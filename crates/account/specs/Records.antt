@@ -1,7 +1,7 @@
--- Demand 3 whole: lists that mix the runner's calls with channel records read into it and written from it. Each record stands
--- in the list as the calls that it makes, told from the arguments of open, its own, and its answer; one that is refused first
--- makes none.
-use Rattle.std.specs.Prelude.{Bool, true, false, cond, ◌&&◌, ◌||◌, ◌≡◌, List, [], ◌∷◌, ◌++◌, ℕ, ◌+◌, ◌-◌, ◌^◌, ◌≤◌, ◌<◌, leb, eqb, length, take, drop, Option, Result, Some, None, Ok, Err}
+-- Demand 3 whole: lists that mix the runner's calls with channel records and with frames, read into it and written from it. Each record or
+-- frame stands in the list as the calls that it makes, told from the arguments of open, its own, and its answer; one that is refused
+-- first makes none.
+use Rattle.std.specs.Prelude.{Bool, true, false, cond, not, ◌&&◌, ◌||◌, ◌≡◌, List, [], ◌∷◌, ◌++◌, ℕ, ◌+◌, ◌-◌, ◌^◌, ◌≤◌, ◌<◌, leb, eqb, length, take, drop, Option, Result, Some, None, Ok, Err}
 use Rattle.runner.specs.declared.answer.Message.{Message}
 use Rattle.codec.specs.declared.Record.{Record}
 use Rattle.exec.specs.declared.Receipt.{Receipt}
@@ -11,24 +11,33 @@ use Rattle.exec.specs.declared.Key.{Key}
 use Rattle.exec.specs.declared.Outcome.{Outcome}
 use Rattle.exec.specs.declared.Pool.TheVariants as Pool
 use Rattle.exec.specs.declared.Stream.{Stream}
+use Rattle.exec.specs.declared.Stream.TheVariants.{Stdout, Stderr}
 use Rattle.exec.specs.Outcome.{is_truncated}
 use Rattle.exec.specs.Refusal.{number}
 use Rattle.runner.specs.declared.answer.Message as Messages
+use Rattle.carrier.specs.Carrier.{ReadAfter, WriteAfter, room}
 use Rattle.channel.specs.Calls as Channel
-use Rattle.channel.specs.Calls.{is_channel, room}
+use Rattle.channel.specs.Calls.{is_channel}
+use Rattle.frames.specs.Calls as Frames
+use Rattle.frames.specs.Calls.{is_framed}
+use Rattle.framing.specs.declared.Frame.{Frame}
+use Rattle.framing.specs.Framing as Framing
 use Rattle.codec.specs.Codec.{read}
 use Rattle.exits.specs.Exit.{is_untold}
 use Rattle.calls.specs.Call as Call
-use Rattle.calls.specs.Call.{Conf, Call, Answer, Done}
+use Rattle.calls.specs.Call.{Conf, Call, Answer, Done, is_refused}
 use Rattle.account.specs.Step.{State, on_runner, next, answer, opened}
 use Rattle.account.specs.Account.{Account, start, account, tally_of, cut, tick_a}
 use Rattle.account.specs.Claim.{IsPrefix, is_message, is_terminal, messages, is_stop}
 
--- an entry of a list: a call, a record read at an instant, or a record written; the stores are lent to each as the last left them
+-- an entry of a list: a call, a record or a frame read at an instant, a record or a frame written; the stores are lent to each as the
+-- last left them
 pub data Entry : Type 0 where
   call : Call → Entry
   read_record : (now channel : ℕ) (bytes : List ℕ) → Entry
   write_record : (channel : ℕ) (buffer : List ℕ) → Entry
+  read_frame : (now s : ℕ) (bytes : List ℕ) → Entry
+  write_frame : (s : ℕ) (buffer : List ℕ) → Entry
 
 -- an entry with its answer
 pub record EntryDone : Type 0 where
@@ -37,16 +46,18 @@ pub record EntryDone : Type 0 where
 
 -- ---- what an entry leaves and answers: the definitions that the code's promises cite, and nothing else
 
+-- what a read leaves
+abbrev pub leaves : ReadAfter → State
+leaves x = record { runner = x.reading.runner; bytes = x.bytes; lengths = x.lengths }
+
 unfoldable pub next_entry : State → Entry → State
 next_entry s (call c) = next s c
-next_entry s (read_record now channel b) = record {
-  runner = (Channel.read_record s.runner now channel b s.bytes s.lengths).reading.runner;
-  bytes = (Channel.read_record s.runner now channel b s.bytes s.lengths).bytes;
-  lengths = (Channel.read_record s.runner now channel b s.bytes s.lengths).lengths;
-}
+next_entry s (read_record now channel b) = leaves (Channel.read_record s.runner now channel b s.bytes s.lengths)
 next_entry s (write_record channel buffer) = on_runner (Channel.write_record s.runner channel s.bytes buffer).writing.runner s
+next_entry s (read_frame now stream b) = leaves (Frames.read_frame s.runner now stream b s.bytes s.lengths)
+next_entry s (write_frame stream buffer) = on_runner (Frames.write_frame s.runner stream s.bytes buffer).writing.runner s
 
--- a record read answers as the call that it makes
+-- what is read answers as the call that it makes last
 abbrev pub read_as : Result (Option Receipt) Refusal → Answer
 read_as (Ok (Some Receipt.Applied)) = Call.Applied
 read_as (Ok (Some Receipt.Stale)) = Call.Stale
@@ -54,7 +65,7 @@ read_as (Ok (Some Receipt.Late)) = Call.Late
 read_as (Ok None) = Call.Ok
 read_as (Err x) = Call.Refused (number x)
 
--- the message of a record that was written, of whole bytes: the payload of an Output is the last of them
+-- the message of what was written, of whole bytes: the payload of an Output is the last of them
 abbrev pub message_in : Messages.Message → (whole : ℕ) (buffer : List ℕ) → Answer
 message_in (Message.Credit n) whole buffer = Call.Says (Call.Credit n)
 message_in Message.Started whole buffer = Call.Says Call.Started
@@ -68,12 +79,16 @@ wrote_as (Ok None) buffer = Call.Nothing
 wrote_as (Ok (Some (m, whole))) buffer = message_in m whole buffer
 wrote_as (Err x) buffer = Call.Refused (number x)
 
+-- what a write answers
+abbrev pub answers : WriteAfter → Answer
+answers w = wrote_as w.writing.answer w.buffer
+
 unfoldable pub answer_entry : State → Entry → Answer
 answer_entry s (call c) = answer s c
-answer_entry s (read_record now channel b) =
-    read_as (Channel.read_record s.runner now channel b s.bytes s.lengths).reading.answer
-answer_entry s (write_record channel buffer) =
-    wrote_as (Channel.write_record s.runner channel s.bytes buffer).writing.answer (Channel.write_record s.runner channel s.bytes buffer).buffer
+answer_entry s (read_record now channel b) = read_as (Channel.read_record s.runner now channel b s.bytes s.lengths).reading.answer
+answer_entry s (write_record channel buffer) = answers (Channel.write_record s.runner channel s.bytes buffer)
+answer_entry s (read_frame now stream b) = read_as (Frames.read_frame s.runner now stream b s.bytes s.lengths).reading.answer
+answer_entry s (write_frame stream buffer) = answers (Frames.write_frame s.runner stream s.bytes buffer)
 
 abbrev pub after_entries : State → List Entry → State
 after_entries s [] = s
@@ -94,7 +109,24 @@ call_of conf now b (Ok Record.Eof) = Call.end_input conf.key ∷ []
 call_of conf now b (Ok Record.Close) = Call.disconnect now ∷ []
 call_of conf now b (Err x) = []
 
--- a record is written into a buffer of at least chunk + 13 bytes, and 43
+-- DATA under the account's eyes: without bytes and with END_STREAM end_input alone; else input, and behind it, where the frame ends the
+-- stream and is not refused, end_input
+abbrev pub data_calls : Key → (ends : Bool) → (bytes : List ℕ) → Answer → List Call
+data_calls k ends b a =
+    cond (ends && eqb (length b) 0)
+    (Call.end_input k ∷ [])
+    (Call.input k b ∷ cond (ends && not (is_refused a)) (Call.end_input k ∷ []) [])
+
+-- the calls that a frame's bytes make, where it is answered so: WINDOW_UPDATE credit on its stream's pool, DATA as above, RST_STREAM
+-- reset; DATA on the stream of stderr none
+unfoldable pub frame_calls : Conf → (now : ℕ) → (bytes : List ℕ) → Result Frame Refusal → Answer → List Call
+frame_calls conf now b (Ok (Frame.Update x units)) a = Call.credit conf.key (Frames.pool_of x) units ∷ []
+frame_calls conf now b (Ok (Frame.Data Stdout n ends)) a = data_calls conf.key ends (drop 9 b) a
+frame_calls conf now b (Ok (Frame.Data Stderr n ends)) a = []
+frame_calls conf now b (Ok (Frame.Reset x)) a = Call.reset now ∷ []
+frame_calls conf now b (Err x) a = []
+
+-- what is written is written into a buffer of at least chunk + 13 bytes, and 43
 abbrev pub roomy : Conf → (buffer : List ℕ) → Bool
 roomy conf buffer = leb (room conf.limits) (length buffer)
 
@@ -117,14 +149,20 @@ is_untaken (Call.IsKey k) = false
 is_untaken (Call.AreLimits l) = false
 is_untaken Call.Nothing = false
 
+-- a write that its carrier is for, and that has room, asks for a message in the buffer's part from an index on
+abbrev pub written_call : Conf → (carries : Bool) (at : ℕ) → (buffer : List ℕ) → Answer → List Call
+written_call conf carries at buffer a =
+    cond (carries && roomy conf buffer)
+    (cond (is_untaken a) [] (Call.next_message (take conf.limits.chunk (drop at buffer)) ∷ []))
+    []
+
 -- the calls that an entry makes, where it is answered so
 unfoldable pub made : Conf → Entry → Answer → List Call
 made conf (call c) a = c ∷ []
 made conf (read_record now channel b) a = cond (is_channel conf.limits) (call_of conf now b (read channel b)) []
-made conf (write_record channel buffer) a =
-    cond (is_channel conf.limits && roomy conf buffer)
-    (cond (is_untaken a) [] (Call.next_message (take conf.limits.chunk (drop 13 buffer)) ∷ []))
-    []
+made conf (write_record channel buffer) a = written_call conf (is_channel conf.limits) 13 buffer a
+made conf (read_frame now stream b) a = cond (is_framed conf.limits stream) (frame_calls conf now b (Framing.read stream b) a) []
+made conf (write_frame stream buffer) a = written_call conf (is_framed conf.limits stream) 9 buffer a
 
 abbrev pub calls_of : Conf → List EntryDone → List Call
 calls_of conf [] = []
@@ -146,17 +184,25 @@ abbrev pub among : ℕ → List ℕ → Bool
 among n [] = false
 among n (x ∷ xs) = eqb n x || among n xs
 
--- what a record that is read, or written, is refused by where it makes no call
+-- what a record or a frame that is read, or written, is refused by where it makes no call
 abbrev pub of_reads : List ℕ
 of_reads = 13 ∷ 20 ∷ 21 ∷ 22 ∷ 23 ∷ 24 ∷ []
 
 abbrev pub of_writes : List ℕ
 of_writes = 13 ∷ 25 ∷ 40 ∷ []
 
+abbrev pub of_frames_read : List ℕ
+of_frames_read = 42 ∷ 43 ∷ 44 ∷ []
+
+abbrev pub of_frames_written : List ℕ
+of_frames_written = 42 ∷ 25 ∷ []
+
 abbrev pub of_entry : Entry → List ℕ
 of_entry (call c) = []
 of_entry (read_record now channel b) = of_reads
 of_entry (write_record channel buffer) = of_writes
+of_entry (read_frame now stream b) = of_frames_read
+of_entry (write_frame stream buffer) = of_frames_written
 
 -- ---- the demand
 

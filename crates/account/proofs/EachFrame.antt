@@ -1,0 +1,107 @@
+-- A frame that is read does what the calls do that it makes: DATA that ends its stream two, which answer alike.
+use Rattle.std.specs.Prelude.{Result, Ok, Err, not}
+use Rattle.exec.specs.declared.Receipt.{Receipt}
+use mathlib.Core.Bool.{Bool, true, false, cond, ◌&&◌}
+use mathlib.Core.Path.{◌≡◌, refl, sym, ap, ◌∙◌}
+use mathlib.Core.List.{List, [], ◌∷◌}
+use Prim.Native.Nat.{ℕ}
+use lib.Dec.{eqb}
+use lib.ListN.{length, drop}
+use Rattle.exec.specs.declared.Key.{Key}
+use Rattle.exec.specs.declared.Refusal.{Refusal}
+use Rattle.exec.specs.declared.Refusal.TheVariants.{NotFramed}
+use Rattle.exec.specs.declared.Stream.TheVariants.{Stdout, Stderr}
+use Rattle.exec.specs.Refusal.{number}
+use Rattle.runner.specs.declared.runner.Runner.{Runner}
+use Rattle.runner.specs.Calls as Calls
+use Rattle.runner.specs.Streams.{InputAfter}
+use Rattle.carrier.specs.Carrier.{ReadAfter, heard_as, heard, accepted}
+use Rattle.framing.specs.declared.Frame.{Frame}
+use Rattle.framing.specs.Framing.{read}
+use Rattle.framing.proofs.Refused.{read_refused}
+use Rattle.frames.specs.Calls as Frames
+use Rattle.frames.specs.Calls.{parsed_read, data_made, then_end, is_ok}
+use Rattle.calls.specs.Call as Call
+use Rattle.calls.specs.Call.{Call, Answer, is_refused}
+use Rattle.account.specs.Step as Step
+use Rattle.account.specs.Step.{State, received_as}
+use Rattle.account.specs.Claim.{is_message}
+use Rattle.account.specs.Records.{Entry, read_frame, leaves, read_as, data_calls, frame_calls, of_frames_read}
+use Rattle.account.proofs.Lives.{conf_of}
+use Rattle.account.proofs.EachRecord.{Does, Among, heard_as_lem, noted_as_lem}
+
+-- the end of the input that is made behind its bytes answers as they did
+abbrev pub Alike : State → Type 0
+Alike s = (b : List ℕ) (x : Receipt) → (Calls.input s.runner s.runner.key b s.bytes s.lengths).hearing.answer ≡ Ok x
+    → (Calls.end_input (Calls.input s.runner s.runner.key b s.bytes s.lengths).hearing.runner s.runner.key).answer ≡ Ok x
+
+-- a receipt is no refusal and no message
+unrefused : (x : Receipt) → is_refused (read_as (heard_as (Ok x))) ≡ false
+unrefused Receipt.Applied = refl
+unrefused Receipt.Stale = refl
+unrefused Receipt.Late = refl
+
+quiet : (x : Result Receipt Refusal) → is_message (read_as (heard_as x)) ≡ false
+quiet (Ok Receipt.Applied) = refl
+quiet (Ok Receipt.Stale) = refl
+quiet (Ok Receipt.Late) = refl
+quiet (Err x) = refl
+
+module _ (s : State) (now stream : ℕ) (b : List ℕ) (alike : Alike s) where
+  e : Entry
+  e = read_frame now stream b
+
+  module _ (bytes : List ℕ) where
+    k : Key
+    k = s.runner.key
+
+    i : InputAfter
+    i = Calls.input s.runner k bytes s.bytes s.lengths
+
+    abbrev end : Result Receipt Refusal
+    end = (Calls.end_input i.hearing.runner k).answer
+
+    -- the bytes, and what is made behind them
+    then_does : (ends : Bool) (x : Result Receipt Refusal) → i.hearing.answer ≡ x
+        → Does e (Call.input k bytes ∷ cond (ends && not (is_refused (read_as (then_end ends k i).reading.answer))) (Call.end_input k ∷ []) []) s
+        (leaves (then_end ends k i)) (read_as (then_end ends k i).reading.answer)
+    unfolding Does then_end Step.next Step.answer k i
+    then_does false x h = (refl, heard_as_lem i.hearing.answer)
+    then_does true (Err x) h = rw h (refl, heard_as_lem i.hearing.answer)
+    then_does true (Ok x) h =
+        let same : end ≡ Ok x = alike bytes x h in
+        let taken : is_refused (read_as (heard_as end)) ≡ false = ap (λ (y : Result Receipt Refusal). is_refused (read_as (heard_as y))) same ∙ unrefused x in
+        rw (h, taken) (heard_as_lem end ∙ ap received_as (same ∙ sym h), quiet end, (refl, heard_as_lem end))
+
+    data_does : (ends : Bool) → let t = data_made ends bytes s.runner s.bytes s.lengths in
+        Does e (data_calls k ends bytes (read_as t.reading.answer)) s (leaves t) (read_as t.reading.answer)
+    unfolding data_made Does Step.next Step.answer k i
+    data_does ends = by (ends && eqb (length bytes) 0)
+      where
+        made : (alone : Bool) → ReadAfter
+        made alone = cond alone (record { reading = heard (Calls.end_input s.runner s.runner.key); bytes = s.bytes; lengths = s.lengths }) (then_end ends s.runner.key i)
+
+        by : (alone : Bool) → Does e (cond alone (Call.end_input s.runner.key ∷ [])
+            (Call.input s.runner.key bytes ∷ cond (ends && not (is_refused (read_as (made alone).reading.answer))) (Call.end_input s.runner.key ∷ []) [])) s
+            (leaves (made alone)) (read_as (made alone).reading.answer)
+        by true = (refl, heard_as_lem (Calls.end_input s.runner s.runner.key).answer)
+        by false = then_does ends i.hearing.answer refl
+
+  abbrev after : Result Frame Refusal → ReadAfter
+  after p = parsed_read p s.runner now b s.bytes s.lengths
+
+  parsed_does : (p : Result Frame Refusal) → ((x : Refusal) → p ≡ Err x → Among of_frames_read x)
+      → Does e (frame_calls (conf_of s.runner) now b p (read_as (after p).reading.answer)) s (leaves (after p)) (read_as (after p).reading.answer)
+  unfolding Does e frame_calls parsed_read Frames.made Step.next Step.answer
+  parsed_does (Ok (Frame.Update x units)) h = (refl, heard_as_lem (Calls.credit s.runner s.runner.key (Frames.pool_of x) units).answer)
+  parsed_does (Ok (Frame.Data Stdout n ends)) h = data_does (drop 9 b) ends
+  parsed_does (Ok (Frame.Data Stderr n ends)) h = record { kept = refl; refusal = 43; answered = refl; own = refl }
+  parsed_does (Ok (Frame.Reset x)) h = (refl, noted_as_lem (Calls.reset s.runner now).answer)
+  parsed_does (Err x) h = record { kept = refl; refusal = number x; answered = refl; own = h x refl }
+
+  -- by whether the runner is framed
+  pub frame_by : (framed : Bool) → let p = accepted (cond framed (Ok tt) (Err NotFramed)) (read stream b) in
+      Does e (cond framed (frame_calls (conf_of s.runner) now b (read stream b) (read_as (after p).reading.answer)) []) s (leaves (after p)) (read_as (after p).reading.answer)
+  unfolding Does accepted parsed_read
+  frame_by true = parsed_does (read stream b) (read_refused (Among of_frames_read) refl refl stream b)
+  frame_by false = record { kept = refl; refusal = 42; answered = refl; own = refl }
