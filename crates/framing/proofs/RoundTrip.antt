@@ -122,23 +122,32 @@ record Wrote (s : ℕ) (f : Frame) (payload b : List ℕ) (n : ℕ) (w : Written
   writable : is_writable s f ≡ true
   front : take n w.buffer ≡ bytes_of s f payload
 
-wrote : (s : ℕ) (f : Frame) (payload b : List ℕ) (n : ℕ) → (write s f payload b).answer ≡ Ok n → Wrote s f payload b n (write s f payload b)
-unfolding write put_frame
-wrote s f payload b n = by (leb (start f + size f) (length b)) (eqb (length payload) (size f)) (is_writable s f) refl refl
-  where
-    whole : ℕ
-    whole = start f + size f
+module _ (s : ℕ) (f : Frame) (payload b : List ℕ) (n : ℕ) where
+  abbrev left : (room sized writable : Bool) → WrittenAfter
+  left t u v =
+      cond t
+      (cond u
+      (cond v (written_after (Ok (start f + size f)) (bytes_of s f payload ++ drop (start f + size f) b)) (written_after (Err BadFrame) b))
+      (written_after (Err BadFrame) b))
+      (written_after (Err BufferShort) b)
 
-    by : (t u v : Bool) → eqb (length payload) (size f) ≡ u → is_writable s f ≡ v
-        → (cond t (cond u (cond v (written_after (Ok whole) (bytes_of s f payload ++ drop whole b)) (written_after (Err BadFrame) b)) (written_after (Err BadFrame) b)) (written_after (Err BufferShort) b)).answer ≡ Ok n
-        → Wrote s f payload b n (cond t (cond u (cond v (written_after (Ok whole) (bytes_of s f payload ++ drop whole b)) (written_after (Err BadFrame) b)) (written_after (Err BadFrame) b)) (written_after (Err BufferShort) b))
-    by true true true e w h =
-        let sized : length payload ≡ size f = eqb-true _ _ e in
-        let told : n ≡ start f + size f = cc in
-        record { told = told; sized = sized; writable = w; front = rw told (take_at (bytes_of s f payload) (drop whole b) whole (long s f payload sized)) }
-    by true true false e w h = never BadFrame n h
-    by true false v e w h = never BadFrame n h
-    by false u v e w h = never BufferShort n h
+  by : (t u v : Bool) → eqb (length payload) (size f) ≡ u → is_writable s f ≡ v → (left t u v).answer ≡ Ok n → Wrote s f payload b n (left t u v)
+  by true true true e w h =
+      let sized : length payload ≡ size f = eqb-true _ _ e in
+      let told : n ≡ start f + size f = cc in
+      record {
+        told = told;
+        sized = sized;
+        writable = w;
+        front = rw told (take_at (bytes_of s f payload) (drop (start f + size f) b) (start f + size f) (long s f payload sized));
+      }
+  by true true false e w h = never BadFrame n h
+  by true false v e w h = never BadFrame n h
+  by false u v e w h = never BufferShort n h
+
+  wrote : (write s f payload b).answer ≡ Ok n → Wrote s f payload b n (write s f payload b)
+  unfolding write put_frame
+  wrote = by (leb (start f + size f) (length b)) (eqb (length payload) (size f)) (is_writable s f) refl refl
 
 module _ (s : ℕ) (f : Frame) (payload b : List ℕ) (n : ℕ) (h : (write s f payload b).answer ≡ Ok n) where
   -- the bytes written read back, and the last of them are the payload

@@ -1,6 +1,8 @@
 -- Document 02's A7 as literal bytes, spelled from RFC 9113: what writer and reader share, no round trip pins. Each is computed from
 -- the definitions.
-use Rattle.std.specs.Prelude.{◌≡◌, refl, true, false, List, [], ◌∷◌, ◌++◌, ℕ, Result, Ok, Err}
+use Rattle.std.specs.Prelude.{◌≡◌, refl, Bool, true, false, cond, List, [], ◌∷◌, ◌++◌, ℕ, ◌+◌, eqb, length, get_or, Option, Some, None, Result, Ok, Err}
+use Rattle.std.proofs.Common.{eq-eqb, ne_eqb}
+use Rattle.exec.specs.declared.Stream.{Stream}
 use Rattle.exec.specs.declared.Refusal.{Refusal}
 use Rattle.exec.specs.declared.Refusal.TheVariants.{NotFramed, BadFrame, PaddedFrame, BufferShort}
 use Rattle.exec.specs.declared.Stream.TheVariants.{Stdout, Stderr}
@@ -9,7 +11,7 @@ use Rattle.exec.specs.Written.{WrittenAfter, written_after}
 use Rattle.octets.specs.Bytes.{be24_at, be32_at, number_at}
 use Rattle.framing.specs.declared.Frame.{Frame}
 use Rattle.framing.specs.declared.Frame.TheVariants.{Update, Data, Reset}
-use Rattle.framing.specs.Framing.{is_stream, header, fits, bytes_of, is_whole, number31_at, stream_of, data_in, of_four, kinded, on_stream, read, is_writable, put_frame, write, lay}
+use Rattle.framing.specs.Framing.{is_stream, header, fits, bytes_of, is_whole, number31_at, stream_of, is_set, data_in, of_four, kinded, on_stream, read, is_writable, put_frame, write, lay}
 
 -- ---- the bytes
 
@@ -170,3 +172,48 @@ ignored : (reads (framed 1 0 246 0 5 (97 ∷ [])) ≡ Ok (Data Stdout 1 false))
     × (reads (framed 4 3 0 0 5 (255 ∷ 255 ∷ 255 ∷ 255 ∷ [])) ≡ Ok (Reset Stdout))
 unfolding reads framed
 ignored = (refl, refl, refl, refl, refl, refl, refl, refl, refl, refl, refl, refl)
+
+-- ---- and of any bytes
+
+at_least : (b : Bool) (x : Result Frame Refusal) → x ≡ Err BadFrame → cond b x (Err BadFrame) ≡ Err BadFrame
+at_least true x h = h
+at_least false x h = refl
+
+-- "a frame of wrong length"
+pub other_length : (s : ℕ) (b : List ℕ) → (length b ≡ 9 + be24_at b 0 → ⊥) → read s b ≡ Err BadFrame
+unfolding read is_whole
+other_length s b h = rw (ne_eqb (length b) (9 + be24_at b 0) h) refl
+
+-- "stream": every other, 0 among them
+pub other_stream : (s : ℕ) (b : List ℕ) → (number31_at b 5 ≡ s → ⊥) → (number31_at b 5 ≡ s + 2 → ⊥) → read s b ≡ Err BadFrame
+unfolding read stream_of on_stream
+other_stream s b h k = at_least (is_whole b) _ (rw (ne_eqb (number31_at b 5) s h, ne_eqb (number31_at b 5) (s + 2) k) refl)
+
+on_any : (b : List ℕ) → ((x : Stream) → kinded b x ≡ Err BadFrame) → (o : Option Stream) → on_stream b o ≡ Err BadFrame
+unfolding on_stream
+on_any b h (Some x) = h x
+on_any b h None = refl
+
+-- "type": every other
+pub other_type : (s : ℕ) (b : List ℕ) → (get_or b 3 0 ≡ 0 → ⊥) → (get_or b 3 0 ≡ 3 → ⊥) → (get_or b 3 0 ≡ 8 → ⊥) → read s b ≡ Err BadFrame
+unfolding read kinded
+other_type s b h k l =
+    at_least (is_whole b) _ (on_any b (λ x. rw (ne_eqb (get_or b 3 0) 0 h, ne_eqb (get_or b 3 0) 3 k, ne_eqb (get_or b 3 0) 8 l) refl) (stream_of s (number31_at b 5)))
+
+-- and a type but DATA with other than four bytes
+pub other_four : (s : ℕ) (b : List ℕ) → (get_or b 3 0 ≡ 0 → ⊥) → (be24_at b 0 ≡ 4 → ⊥) → read s b ≡ Err BadFrame
+unfolding read kinded of_four
+other_four s b h k =
+    let four = ne_eqb (be24_at b 0) 4 k in
+    at_least (is_whole b) _ (on_any b (λ x. rw (ne_eqb (get_or b 3 0) 0 h, four) (same (eqb (get_or b 3 0) 3) (eqb (get_or b 3 0) 8))) (stream_of s (number31_at b 5)))
+  where
+    same : (t u : Bool) → cond {A = Result Frame Refusal} t (Err BadFrame) (cond u (Err BadFrame) (Err BadFrame)) ≡ Err BadFrame
+    same true u = refl
+    same false true = refl
+    same false false = refl
+
+-- "a padded DATA", on s, whatever else its flags are
+pub padding : (s : ℕ) (b : List ℕ) → length b ≡ 9 + be24_at b 0 → number31_at b 5 ≡ s → get_or b 3 0 ≡ 0 → is_set 8 (get_or b 4 0) ≡ true
+    → read s b ≡ Err PaddedFrame
+unfolding read is_whole stream_of on_stream kinded data_in
+padding s b l id k p = rw (eq-eqb (length b) (9 + be24_at b 0) l, eq-eqb (number31_at b 5) s id, k, p) refl

@@ -1,5 +1,6 @@
 -- The bytes are whole where their length is the one told.
-use Rattle.std.proofs.Common.{refl, ◌∙◌, sym, eq-eqb, ne_eqb}
+use Rattle.std.specs.Prelude.{◌≡◌, ◌+◌, length}
+use Rattle.std.proofs.Common.{arith, refl, ◌∙◌, sym, eq-eqb, ne_eqb}
 use Rattle.framing.specs.Framing.{read, on_stream}
 use Rattle.framing.specs.FramingLaws.{whole_none, whole_is, length_is}
 use Rattle.framing.proofs.read.Goals as goal
@@ -11,7 +12,8 @@ returns-in_default c = rw (whole_none _ (sym c.number24_at.ensures ∙ c.in_defa
 pub returns-then-bytes-n : goal.returns-then-bytes-n
 unfolding read
 returns-then-bytes-n c =
-    rw (whole_is _ _ (sym c.number24_at.ensures ∙ c.in-Some.is), ne_eqb _ _ c.if-bytes-n.true) refl
+    let other : length c.args.bytes.now ≡ 9 + c.in-Some.n → ⊥ = λ e. omega (arith, e, c.if-bytes-n.true) in
+    rw (whole_is _ _ (sym c.number24_at.ensures ∙ c.in-Some.is), ne_eqb _ _ other) refl
 
 pub kinded-requires : goal.kinded-requires
 kinded-requires c = (length_is _ _ (sym c.number24_at.ensures ∙ c.in-Some.is), c.if-bytes-n.false)
