@@ -3,7 +3,7 @@
 use Rattle.std.specs.Prelude.{Option, Result, Some, None, Ok, Err}
 use Rattle.exec.specs.declared.Status.{Status}
 use mathlib.Core.Bool.{Bool, true, false, cond, not, ◌&&◌, ◌||◌, false≢true}
-use mathlib.Core.Path.{◌≡◌, refl, sym, ap, ◌∙◌, subst}
+use mathlib.Core.Path.{◌≡◌, refl, ap, ◌∙◌, subst, subst⁻¹}
 use mathlib.Core.List.{List, [], ◌∷◌}
 use Prim.Native.Nat.{ℕ, ◌+◌}
 use native.Mathlib.Omega.{arith}
@@ -106,62 +106,58 @@ record KeptBy (e : Entry) (s t : State) (n : ℕ) : Type 0 where
   same : t ≡ s
   known : (among n of_calls || among n (of_entry e)) ≡ true
 
--- refused as the calls that it makes, or by its own
-does_kept : (x : Entry) (m : List Call) (s t : State) (a : Answer) (n : ℕ) → Does x m s t a → a ≡ Call.Refused n → KeptBy x s t n
-unfolding Does
-does_kept x [] s t a n d e =
-    let k : d.refusal ≡ n = cc d.answered in
-    record { same = d.kept; known = or_right (among n of_calls) (among n (of_entry x)) (subst (λ (m : ℕ). among m (of_entry x) ≡ true) k d.own) }
-does_kept x (c ∷ []) s t a n d e =
-    let k = refused s c n (sym d.1 ∙ e) in record { same = d.0 ∙ k.same; known = rw k.known refl }
-does_kept x (c ∷ b ∷ m) s t a n d e =
-    let k = does_kept x (b ∷ m) (Step.next s c) t a n d.2 e in record { same = k.same ∙ (refused s c n (sym d.0 ∙ e)).same; known = k.known }
+abbrev EntrySafe : Entry → (s t : State) → Answer → Type 0
+EntrySafe e s t a = IfRefused (t ≡ s) (KeptBy e s t) a
 
-does_stale : (x : Entry) (m : List Call) (s t : State) (a : Answer) → Does x m s t a → a ≡ Call.Stale → t ≡ s
+-- refused as the calls that it makes, or by its own
+call_safe : (e : Entry) (s t : State) (a : Answer) → IfRefused (t ≡ s) (Kept of_calls s t) a → EntrySafe e s t a
+call_safe e s t (Call.Refused n) h = record { same = h.same; known = rw h.known refl }
+call_safe e s t _ h = h
+
+then_safe : (e : Entry) (s u t : State) (a : Answer) → IfRefused (u ≡ s) (Kept of_calls s u) a → EntrySafe e u t a → EntrySafe e s t a
+then_safe e s u t Call.Stale p q = q ∙ p
+then_safe e s u t (Call.Refused n) p q = record { same = q.same ∙ p.same; known = q.known }
+then_safe e s u t _ p q = tt
+
+does_safe : (e : Entry) (m : List Call) (s t : State) (a : Answer) → Does e m s t a → EntrySafe e s t a
 unfolding Does
-does_stale x [] s t a d e = absurd (false≢true (sym (ap is_refused e) ∙ ap is_refused d.answered))
-does_stale x (c ∷ []) s t a d e = d.0 ∙ stale s c (sym d.1 ∙ e)
-does_stale x (c ∷ b ∷ m) s t a d e = does_stale x (b ∷ m) (Step.next s c) t a d.2 e ∙ stale s c (sym d.0 ∙ e)
+does_safe e [] s t a d = rw d.answered (record { same = d.kept; known = or_right (among d.refusal of_calls) (among d.refusal (of_entry e)) d.own })
+does_safe e (c ∷ []) s t a d = rw (d.0, d.1) (call_safe e s (Step.next s c) (Step.answer s c) (safe s c))
+does_safe e (c ∷ b ∷ m) s t a d = then_safe e s (Step.next s c) t a (subst⁻¹ (SafeCall s c) d.0 (safe s c)) (does_safe e (b ∷ m) (Step.next s c) t a d.2)
 
 -- refused by 12, 10 or 11
-stop_kept : (e : Entry) (s : State) (stores : Bool) (x : Refusal) (n : ℕ) → stop s.runner stores ≡ Err x → Call.Refused (number x) ≡ Call.Refused n → KeptBy e s s n
-stop_kept e s stores x n g h =
-    let m : number x ≡ n = cc in record { same = refl; known = rw (← m) (rw (stop_known s.runner stores x g) refl) }
+stop_safe : (e : Entry) (s : State) (stores : Bool) (x : Refusal) → stop s.runner stores ≡ Err x → EntrySafe e s s (Call.Refused (number x))
+stop_safe e s stores x g = record { same = refl; known = rw (stop_known s.runner stores x g) refl }
 
 admitted_not : (r : Runner) (stores : Bool) (x : Refusal) → stop r stores ≡ Err x → admitted r stores ≡ Err x
 unfolding admitted
 admitted_not r stores x g = rw g refl
 
--- what is so of an entry that does what its calls do, and of one that is refused by 12, 10 or 11, is so of every entry
-module _ (s : State) (C : Entry → State → Answer → Type 0) (made : (e : Entry) (m : List Call) (t : State) (a : Answer) → Does e m s t a → C e t a)
-    (stops : (e : Entry) (stores : Bool) (x : Refusal) → stop s.runner stores ≡ Err x → C e s (Call.Refused (number x))) where
-  read_so : (met : Result (Unit {0}) Refusal) (now channel : ℕ) (b : List ℕ) → stop s.runner (stores_do s.runner s.bytes s.lengths) ≡ met
-      → C (read_record now channel b) (next_entry s (read_record now channel b)) (answer_entry s (read_record now channel b))
-  unfolding next_entry answer_entry Channel.read_record admitted_read
-  read_so (Ok tt) now channel b g = made _ _ _ _ (read_does s now channel b g)
-  read_so (Err x) now channel b g =
-      rw (admitted_not s.runner (stores_do s.runner s.bytes s.lengths) x g) (stops _ _ x g)
+read_safe : (met : Result (Unit {0}) Refusal) (s : State) (now channel : ℕ) (b : List ℕ) → stop s.runner (stores_do s.runner s.bytes s.lengths) ≡ met
+    → let e = read_record now channel b in EntrySafe e s (next_entry s e) (answer_entry s e)
+unfolding next_entry answer_entry Channel.read_record admitted_read
+read_safe (Ok tt) s now channel b g = does_safe _ _ _ _ _ (read_does s now channel b g)
+read_safe (Err x) s now channel b g =
+    rw (admitted_not s.runner (stores_do s.runner s.bytes s.lengths) x g) (stop_safe _ s _ x g)
 
-  write_so : (met : Result (Unit {0}) Refusal) (channel : ℕ) (buffer : List ℕ) → stop s.runner (bytes_do s.runner.limits s.bytes) ≡ met
-      → C (write_record channel buffer) (next_entry s (write_record channel buffer)) (answer_entry s (write_record channel buffer))
-  unfolding next_entry answer_entry Channel.write_record admitted_write
-  write_so (Ok tt) channel buffer g = made _ _ _ _ (write_does s channel buffer g)
-  write_so (Err x) channel buffer g =
-      rw (admitted_not s.runner (bytes_do s.runner.limits s.bytes) x g) (stops _ _ x g)
+write_safe : (met : Result (Unit {0}) Refusal) (s : State) (channel : ℕ) (buffer : List ℕ) → stop s.runner (bytes_do s.runner.limits s.bytes) ≡ met
+    → let e = write_record channel buffer in EntrySafe e s (next_entry s e) (answer_entry s e)
+unfolding next_entry answer_entry Channel.write_record admitted_write
+write_safe (Ok tt) s channel buffer g = does_safe _ _ _ _ _ (write_does s channel buffer g)
+write_safe (Err x) s channel buffer g =
+    rw (admitted_not s.runner (bytes_do s.runner.limits s.bytes) x g) (stop_safe _ s _ x g)
 
-  entry_so : (e : Entry) → C e (next_entry s e) (answer_entry s e)
-  unfolding next_entry answer_entry Does
-  entry_so (call c) = made (call c) (c ∷ []) (Step.next s c) (Step.answer s c) (refl, refl)
-  entry_so (read_record now channel b) = read_so (stop s.runner (stores_do s.runner s.bytes s.lengths)) now channel b refl
-  entry_so (write_record channel buffer) = write_so (stop s.runner (bytes_do s.runner.limits s.bytes)) channel buffer refl
+entry_safe : (s : State) (e : Entry) → EntrySafe e s (next_entry s e) (answer_entry s e)
+unfolding next_entry answer_entry
+entry_safe s (call c) = call_safe (call c) s (Step.next s c) (Step.answer s c) (safe s c)
+entry_safe s (read_record now channel b) = read_safe (stop s.runner (stores_do s.runner s.bytes s.lengths)) s now channel b refl
+entry_safe s (write_record channel buffer) = write_safe (stop s.runner (bytes_do s.runner.limits s.bytes)) s channel buffer refl
 
 kept : (s : State) (e : Entry) (n : ℕ) → answer_entry s e ≡ Call.Refused n → KeptBy e s (next_entry s e) n
-kept s e n =
-    entry_so s (λ (x : Entry) (t : State) (a : Answer). a ≡ Call.Refused n → KeptBy x s t n) (λ x m t a d. does_kept x m s t a n d) (λ e stores x g. stop_kept e s stores x n g) e
+kept s e n a = subst (EntrySafe e s (next_entry s e)) a (entry_safe s e)
 
 stale_entry : (s : State) (e : Entry) → answer_entry s e ≡ Call.Stale → next_entry s e ≡ s
-stale_entry s e =
-    entry_so s (λ (x : Entry) (t : State) (a : Answer). a ≡ Call.Stale → t ≡ s) (λ x m t a d. does_stale x m s t a d) (λ e stores x g h. refl) e
+stale_entry s e a = subst (EntrySafe e s (next_entry s e)) a (entry_safe s e)
 
 -- ---- the buffers
 
