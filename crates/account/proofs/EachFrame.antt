@@ -48,7 +48,7 @@ quiet (Ok Receipt.Late) = refl
 quiet (Err x) = refl
 
 module _ (s : State) (now stream : ℕ) (b : List ℕ) (alike : Alike s) where
-  e : Entry
+  abbrev pub e : Entry
   e = read_frame now stream b
 
   module _ (bytes : List ℕ) where
@@ -67,7 +67,7 @@ module _ (s : State) (now stream : ℕ) (b : List ℕ) (alike : Alike s) where
         (leaves (then_end ends k i)) (read_as (then_end ends k i).reading.answer)
     unfolding Does then_end Step.next Step.answer k i
     then_does false x h = (refl, heard_as_lem i.hearing.answer)
-    then_does true (Err x) h = rw h (refl, heard_as_lem i.hearing.answer)
+    then_does true (Err x) h = rw h (refl, sym (ap received_as h))
     then_does true (Ok x) h =
         let same : end ≡ Ok x = alike bytes x h in
         let taken : is_refused (read_as (heard_as end)) ≡ false = ap (λ (y : Result Receipt Refusal). is_refused (read_as (heard_as y))) same ∙ unrefused x in
@@ -87,12 +87,12 @@ module _ (s : State) (now stream : ℕ) (b : List ℕ) (alike : Alike s) where
         by true = (refl, heard_as_lem (Calls.end_input s.runner s.runner.key).answer)
         by false = then_does ends i.hearing.answer refl
 
-  abbrev after : Result Frame Refusal → ReadAfter
+  abbrev pub after : Result Frame Refusal → ReadAfter
   after p = parsed_read p s.runner now b s.bytes s.lengths
 
   parsed_does : (p : Result Frame Refusal) → ((x : Refusal) → p ≡ Err x → Among of_frames_read x)
       → Does e (frame_calls (conf_of s.runner) now b p (read_as (after p).reading.answer)) s (leaves (after p)) (read_as (after p).reading.answer)
-  unfolding Does e frame_calls parsed_read Frames.made Step.next Step.answer
+  unfolding Does frame_calls parsed_read Frames.made Step.next Step.answer k
   parsed_does (Ok (Frame.Update x units)) h = (refl, heard_as_lem (Calls.credit s.runner s.runner.key (Frames.pool_of x) units).answer)
   parsed_does (Ok (Frame.Data Stdout n ends)) h = data_does (drop 9 b) ends
   parsed_does (Ok (Frame.Data Stderr n ends)) h = record { kept = refl; refusal = 43; answered = refl; own = refl }

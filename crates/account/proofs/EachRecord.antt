@@ -67,7 +67,8 @@ read_outputless conf now b _ = (tt, tt)
 frame_outputless : (conf : Conf) (now : ℕ) (b : List ℕ) (p : Result Frame Refusal) (a : Answer) → AllOutputless (frame_calls conf now b p a)
 unfolding frame_calls
 frame_outputless conf now b (Ok (Frame.Data Stdout n ends)) a =
-    either AllOutputless _ _ _ (tt, tt) (tt, either AllOutputless (ends && not (is_refused a)) _ [] (tt, tt) tt)
+    either AllOutputless _ (Call.end_input conf.key ∷ []) (Call.input conf.key (drop 9 b) ∷ cond (ends && not (is_refused a)) (Call.end_input conf.key ∷ []) []) (tt, tt)
+    (tt, either AllOutputless (ends && not (is_refused a)) (Call.end_input conf.key ∷ []) [] (tt, tt) tt)
 frame_outputless conf now b (Ok (Frame.Data Stderr n ends)) a = tt
 frame_outputless conf now b (Ok (Frame.Update x units)) a = (tt, tt)
 frame_outputless conf now b (Ok (Frame.Reset x)) a = (tt, tt)

@@ -1,5 +1,5 @@
 -- What the record of a Terminal tells, that a Terminal that is left stays with the runner, and what a write keeps of the buffer.
-use Rattle.std.specs.Prelude.{Bool, cond, not, List, ℕ, ◌+◌, ◌^◌, ◌≤◌, ◌<◌, length, take, drop, ◌++◌, Option, Result, Some, None, Ok, Err}
+use Rattle.std.specs.Prelude.{Bool, cond, not, List, ℕ, ◌+◌, ◌-◌, ◌^◌, ◌≤◌, ◌<◌, length, take, drop, ◌++◌, Option, Result, Some, None, Ok, Err}
 use Rattle.std.proofs.Math.Bool.{true, false}
 use Rattle.std.proofs.lemmas.Bool.{false≢true}
 use Rattle.std.proofs.Math.Path.{◌≡◌, refl, sym, ap, subst⁻¹}
@@ -9,6 +9,7 @@ use Rattle.exec.specs.declared.Refusal.{Refusal}
 use Rattle.exec.specs.declared.Refusal.TheVariants.{NoLimits, StoreShort, StateOutOfRange, UntoldStatus}
 use Rattle.exec.specs.declared.Outcome.{Outcome}
 use Rattle.exec.specs.declared.Status.{Status}
+use Rattle.exec.specs.declared.Stream.{Stream}
 use Rattle.exec.specs.declared.Stream.TheVariants.{Stdout, Stderr}
 use Rattle.exec.specs.Limits.{is_valid}
 use Rattle.exec.specs.Refusal.{number}
@@ -24,14 +25,15 @@ use Rattle.codec.specs.declared.Record.{Record}
 use Rattle.codec.specs.declared.Record.TheVariants.{Adjust, Data, Extended, Eof}
 use Rattle.codec.specs.Codec.{start, size, header, bytes_of, laid_record}
 use Rattle.codec.specs.CodecLaws.{header_length, start_most}
+use Rattle.codec.specs.RoundTrip.{payload_back, laid_front}
 use Rattle.exits.specs.Exit.{is_untold, ending}
 use Rattle.exits.proofs.Ended.{ended_reads, ending_bound}
 use Rattle.carrier.specs.Carrier.{WriteAfter, write_after, unwritten, room, asked, told, wrote, wrote_buffer, Carriage}
 use Rattle.carrier.specs.CarrierLaws.{beyond}
-use Rattle.carrier.specs.SaidLaws.{Within, Keeps}
+use Rattle.carrier.specs.SaidLaws.{Within, Keeps, Pays}
 use Rattle.carrier.specs.Writes as Writes
 use Rattle.carrier.specs.Writes.{Writes, elsewhere, short, left, taken, writes, stopped}
-use Rattle.channel.specs.Calls.{has_ended, sent_as, sent_buffer, laying, is_left, carriage, write_record}
+use Rattle.channel.specs.Calls.{has_ended, output_record, sent_as, sent_buffer, laying, is_left, carriage, write_record}
 use Rattle.channel.specs.Ended.{number_of, Still, Ending, EndsAs}
 
 -- ---- a Terminal that is left
@@ -163,6 +165,22 @@ keeps l channel true (Message.End x) b k h = record_beyond l channel Eof b h (om
 keeps l channel false (Message.End x) b k h = refl
 keeps l channel ended Message.InputClosed b k h = refl
 keeps l channel ended (Message.Terminal o) b k h = ending_beyond l channel o.status b
+
+-- ---- the payload of an Output is the last of its record
+
+pub pays : (channel : ℕ) (ended : Bool) → Pays 13 (laying channel ended)
+unfolding Pays sent_as sent_buffer
+pays channel ended x n b h = by x
+  where
+    record_pays : (rec : Record) → size rec ≡ n → drop (start rec + n - n) (take (start rec + n) (laid_record channel rec b)) ≡ take n (drop 13 b)
+    record_pays rec e =
+        let z : start rec + size rec - size rec ≡ start rec = omega arith in
+        let long : 13 + size rec ≤ length b = omega (arith, e) in
+        rw (sym e) (rw z (ap (drop (start rec)) (laid_front channel rec b long) ∙ payload_back channel rec (take (size rec) (drop 13 b))))
+
+    by : (x : Stream) → drop (start (output_record x n) + size (output_record x n) - n) (take (start (output_record x n) + size (output_record x n)) (laid_record channel (output_record x n) b)) ≡ take n (drop 13 b)
+    by Stdout = record_pays (Data n) refl
+    by Stderr = record_pays (Extended n) refl
 
 module _ (r : Runner) (channel : ℕ) (store b : List ℕ) where
   -- WHERE NO MESSAGE WAITS, THE WHOLE RECORD BUFFER IS KEPT

@@ -1,2 +1,3 @@
--- What holds of every write.
+-- What holds of every write, and of DATA that ends its stream.
 pub mod Laid
+pub mod Alike
