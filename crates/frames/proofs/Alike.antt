@@ -2,17 +2,16 @@
 -- behind them answers as they did, of every runner that takes bytes.
 use Rattle.std.specs.Prelude.{Bool, true, false, cond, not, ◌&&◌, ◌≡◌, refl, List, ℕ, ◌+◌, ◌-◌, ◌≤◌, leb, eqb, length, Result, Ok, Err}
 use Rattle.std.proofs.lemmas.Bool.{false≢true}
-use Rattle.std.proofs.Common.{sym, ap, ◌∙◌, arith, le-leb, leb-true, ltb-false}
+use Rattle.std.proofs.Common.{ap, arith, le-leb, leb-true, ltb-false}
 use Rattle.exec.specs.declared.Admission.{Admission}
 use Rattle.exec.specs.declared.Admission.TheVariants.{Own, Stale}
-use Rattle.exec.specs.declared.Limits.{Limits}
 use Rattle.exec.specs.declared.Receipt.{Receipt}
 use Rattle.exec.specs.declared.Receipt.TheVariants.{Applied, Late}
 use Rattle.exec.specs.declared.Refusal.{Refusal}
 use Rattle.exec.specs.declared.Unit as Units
 use Rattle.exec.specs.declared.Unit.TheVariants.{Bytes, Frames}
 use Rattle.exec.specs.Key.{admits}
-use Rattle.exec.specs.Limits.{cost, off_chunk, is_valid, bytes_with, input_bytes}
+use Rattle.exec.specs.Limits.{cost, off_chunk, is_valid, bytes_with}
 use Rattle.inbox.specs.declared.Inbox.{Inbox}
 use Rattle.inbox.specs.declared.receiver.Granted.{Granted}
 use Rattle.inbox.specs.Inbox.{inbox_held, pushed}
@@ -27,7 +26,7 @@ use Rattle.runner.specs.declared.runner.Runner.{Runner}
 use Rattle.runner.specs.Calls as Calls
 use Rattle.runner.specs.Calls.{stores_do}
 use Rattle.runner.specs.Range.{in_range, stop}
-use Rattle.runner.specs.RangeLaws.{is_good_lem, unstopped}
+use Rattle.runner.specs.RangeLaws.{unstopped}
 use Rattle.runner.specs.Streams.{input_answer, input_next, received, end_answer}
 
 and_true : (a b : Bool) → a ≡ true → b ≡ true → a && b ≡ true
@@ -85,3 +84,52 @@ module _ (r : Runner) (n : ℕ) (bytes : r.limits.input.unit ≡ Bytes) where
       let pays : is_paid r.limits r.input n ≡ true = ap is_receipt (rw f at e) in
       rw (f, pays)
       (and_true _ _ (and_true _ _ q.0 (inbox_stays r.limits.input.unit bytes r.limits.input.size r.limits.chunk n (is_kept r.limits r.input n) r.input.window r.input.inbox (paid pays) q.1)) p.1)
+
+-- ---- the answers
+
+-- bytes that are not refused leave the input to its end as it answered them
+by_tests : (over off unpaid closed : Bool) (x : Receipt)
+    → cond over (Err Refusal.Ended) (cond off (Err Refusal.Chunk) (cond unpaid (Err Refusal.Window) (cond closed (Ok Late) (Ok Applied)))) ≡ Ok x
+    → cond over (Err Refusal.Ended) (cond closed (Ok Late) (Ok Applied)) ≡ Ok x
+by_tests true off unpaid closed x e = e
+by_tests false true unpaid closed x e = let z : ◌≡◌ {A = ℕ} 0 1 = cc in absurd (omega arith)
+by_tests false false true closed x e = let z : ◌≡◌ {A = ℕ} 0 1 = cc in absurd (omega arith)
+by_tests false false false closed x e = e
+
+module _ (r : Runner) (n : ℕ) (bytes : r.limits.input.unit ≡ Bytes) (x : Receipt) where
+  own : (finished : Bool) → r.flags.finished ≡ finished → input_answer (Ok Own) r n ≡ Ok x → end_answer (Ok Own) (input_next (Ok Own) r n) ≡ Ok x
+  unfolding input_answer end_answer input_next Input.receive_answer Input.receive_input Input.end_answer
+  own true f e = rw f (rw f at e)
+  own false f e = rw f (by_tests r.input.peer_ended (off_chunk r.limits n) (off_window r.limits r.input n) r.input.closed x (rw f at e))
+
+  -- the next runner meets no stop, and answers its end so
+  by_key : (a : Result Admission Refusal) → input_answer a r n ≡ Ok x → in_range r ≡ true → (in_range (input_next a r n) ≡ true) × (end_answer a (input_next a r n) ≡ Ok x)
+  unfolding input_answer end_answer input_next in_range
+  by_key (Ok Own) e h = (stays r n bytes r.flags.finished x refl e h, own r.flags.finished refl e)
+  by_key (Ok Stale) e h = (h, e)
+  by_key (Err y) e h = let z : ◌≡◌ {A = ℕ} 0 1 = cc in absurd (omega arith)
+
+in_range_so : (r : Runner) (stores : Bool) → stop r stores ≡ Ok tt → (in_range r ≡ true) × (is_valid r.limits ≡ true)
+unfolding stop
+in_range_so r stores = by (in_range r) (is_valid r.limits) stores
+  where
+    by : (i v s : Bool) → ◌≡◌ {A = Result (Unit {0}) Refusal} (cond (not i) (Err Refusal.StateOutOfRange) (cond (not v) (Err Refusal.NoLimits) (cond (not s) (Err Refusal.StoreShort) (Ok tt)))) (Ok tt)
+        → (i ≡ true) × (v ≡ true)
+    by true true s e = (refl, refl)
+    by true false s e = let z : ◌≡◌ {A = ℕ} 0 1 = cc in absurd (omega arith)
+    by false v s e = let z : ◌≡◌ {A = ℕ} 0 1 = cc in absurd (omega arith)
+
+-- BYTES AND THEIR END ANSWER ALIKE
+pub alike : (r : Runner) (b store lengths : List ℕ) (x : Receipt) → r.limits.input.unit ≡ Bytes → stop r (stores_do r store lengths) ≡ Ok tt
+    → (Calls.input r r.key b store lengths).hearing.answer ≡ Ok x
+    → (Calls.end_input (Calls.input r r.key b store lengths).hearing.runner r.key).answer ≡ Ok x
+unfolding Calls.input Calls.end_input received input_next
+alike r b store lengths x bytes g e =
+    let a = admits r.key r.key in
+    let h = in_range_so r (stores_do r store lengths) g in
+    let p = by_key r (length b) bytes x a (rw g at e) h.0 in
+    let next : stop (input_next a r (length b)) true ≡ Ok tt = unstopped (input_next a r (length b)) true p.0 (valid a h.1) refl in
+    rw (g, next) p.1
+  where
+    valid : (a : Result Admission Refusal) → is_valid r.limits ≡ true → is_valid (input_next a r (length b)).limits ≡ true
+    valid a h = h
