@@ -1,10 +1,9 @@
 -- What is written, as records or as frames, does what next_message does, or is refused and takes no message.
-use Rattle.std.specs.Prelude.{Option, Result, Some, None, Ok, Err}
-use Rattle.runner.specs.declared.answer.Message.{Message}
+use Rattle.std.specs.Prelude.{Ok}
 use mathlib.Core.Bool.{Bool, true, false, cond, false≢true}
 use mathlib.Core.Path.{◌≡◌, refl, sym, ap, ◌∙◌}
 use mathlib.Core.List.{List, [], ◌∷◌, ◌++◌}
-use Prim.Native.Nat.{ℕ, ◌+◌, ◌≤◌}
+use Prim.Native.Nat.{ℕ, ◌≤◌}
 use native.Mathlib.Omega.{arith}
 use lib.ListN.{length, take, drop, length-append}
 use Rattle.exec.specs.declared.Refusal.TheVariants.{BufferShort, UntoldStatus}
@@ -13,7 +12,6 @@ use Rattle.exec.specs.Refusal.{number}
 use Rattle.choice.specs.declared.Choice.{Choice}
 use Rattle.runner.specs.declared.runner.Runner.{Runner}
 use Rattle.runner.specs.Calls as Calls
-use Rattle.runner.specs.Life.{outcome_of}
 use Rattle.runner.specs.Message.{choose, payload, said_for, buffer_after}
 use Rattle.runner.specs.Range.{stop, bytes_do}
 use Rattle.runner.specs.MessageLaws.{payload_length}

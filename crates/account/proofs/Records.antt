@@ -1,34 +1,48 @@
 -- Demand 3 whole: an entry does what the calls that it makes do, so a list with records has the account of its calls.
-use Rattle.std.specs.Prelude.{Ok}
+use Rattle.std.specs.Prelude.{Result, Ok, Err, not}
 use mathlib.Core.Bool.{Bool, true, false, cond, ◌&&◌, ◌||◌, false≢true}
 use mathlib.Core.Path.{◌≡◌, refl, sym, ap, ◌∙◌, subst, subst⁻¹}
 use mathlib.Core.List.{List, [], ◌∷◌, ◌++◌, append_assoc}
 use Prim.Native.Nat.{ℕ}
+use native.Mathlib.Omega.{arith}
 use lib.Dec.{leb, eqb}
 use lib.ListN.{length, take, drop}
 use borrow.Author.Tests.{eqb-true}
 use Rattle.exec.specs.declared.Cause.{Cause}
 use Rattle.exec.specs.declared.Key.{Key}
 use Rattle.exec.specs.declared.Outcome.{Outcome}
+use Rattle.exec.specs.declared.Refusal.{Refusal}
+use Rattle.exec.specs.declared.Refusal.TheVariants.{NotAChannel, NotFramed}
 use Rattle.exec.specs.declared.Stream.{Stream}
+use Rattle.exec.specs.declared.Stream.TheVariants.{Stdout, Stderr}
 use Rattle.exec.specs.Outcome.{is_truncated}
 use Rattle.runner.specs.Calls as Calls
 use Rattle.runner.specs.Calls.{stores_do}
 use Rattle.runner.specs.Life.{outcome_of}
 use Rattle.runner.specs.Message.{said_for}
 use Rattle.runner.specs.Range.{stop, bytes_do, fresh}
+use Rattle.runner.specs.Message.{choose}
+use Rattle.runner.specs.State.{out_of}
+use Rattle.carrier.specs.Carrier.{room, asked}
+use Rattle.carrier.specs.CarrierLaws.{admitted_so}
+use Rattle.carrier.specs.Writes.{writes, write_left}
 use Rattle.channel.specs.Calls as Channel
-use Rattle.channel.specs.Calls.{ReadAfter, WriteAfter, is_channel, admitted, heard_as, noted_as, parsed_read, admitted_read, room, asked, is_left, sent, told, wrote, wrote_buffer, sent_as, sent_buffer, part_back, has_ended}
-use Rattle.channel.proofs.Ended.{writes, write_left}
+use Rattle.channel.specs.Calls.{is_channel, is_left, has_ended, carriage}
+use Rattle.channel.proofs.Ended.{choice_left, pays}
+use Rattle.frames.specs.Calls as Frames
+use Rattle.frames.specs.Calls.{is_framed}
+use Rattle.frames.proofs.Laid as Laid
+use Rattle.framing.specs.declared.Frame.{Frame}
+use Rattle.framing.specs.Framing as Framing
 use Rattle.exits.specs.Exit.{is_untold}
 use Rattle.calls.specs.Call as Call
-use Rattle.calls.specs.Call.{Conf, Call, Answer, Done}
+use Rattle.calls.specs.Call.{Conf, Call, Answer, Done, is_refused}
 use Rattle.account.specs.Step as Step
 use Rattle.account.specs.Step.{State, replied, received_as, says}
 use Rattle.account.specs.Account as Accounts
 use Rattle.account.specs.Account.{Account, account, tally_of, cut, tick_a}
 use Rattle.account.specs.Claim.{Demand3, Opens, IsPrefix, Silent, is_message, is_terminal, any_terminal, is_stop, account_of}
-use Rattle.account.specs.Records.{Entry, call, read_record, write_record, next_entry, answer_entry, after_entries, run_entries, roomy, is_untaken, made, calls_of, alike, dones_of, entry_account, any_terminal_in, SilentIn, among, of_reads, of_writes, of_entry, Whole}
+use Rattle.account.specs.Records.{Entry, call, read_record, write_record, read_frame, write_frame, answers, next_entry, answer_entry, after_entries, run_entries, roomy, is_untaken, frame_calls, made, calls_of, alike, dones_of, entry_account, any_terminal_in, SilentIn, among, of_reads, of_writes, of_frames_read, of_frames_written, of_entry, Whole}
 use Rattle.account.specs.LateClaim.{LateAny}
 use Rattle.account.proofs.Plain as Plain
 use Rattle.runner.specs.TerminalLaws.{still}
@@ -36,7 +50,9 @@ use Rattle.account.proofs.Finish.{framed, framed_conf, quiet_terminal, ends, end
 use Rattle.account.proofs.Lives.{conf_of}
 use Rattle.account.proofs.Demand.{Fine, goes, fine_next, next_same, answer_same, fine_open, open_same, opens_by, late_call, demand3}
 use Rattle.account.proofs.Range.{lent}
-use Rattle.account.proofs.EachRecord.{Unmade, Does, admitted_so, read_by, answers, part, written_does, left_chosen}
+use Rattle.account.proofs.EachRecord.{Unmade, Does, read_by}
+use Rattle.account.proofs.EachFrame.{frame_by}
+use Rattle.account.proofs.EachWrite.{written_does, untaken_left}
 
 -- ---- an entry does what its calls do, of a runner in range with its stores
 
@@ -47,12 +63,28 @@ pub read_does : (s : State) (now channel : ℕ) (b : List ℕ) → stop s.runner
     → EntryDoes (conf_of s.runner) (read_record now channel b) s
 unfolding made next_entry answer_entry Channel.read_record
 read_does s now channel b g =
-    rw (admitted_so s.runner (stores_do s.runner s.bytes s.lengths) g) (read_by (is_channel s.runner.limits) s now channel b)
+    rw (admitted_so s.runner (stores_do s.runner s.bytes s.lengths) (is_channel s.runner.limits) NotAChannel g) (read_by (is_channel s.runner.limits) s now channel b)
+
+pub frame_does : (s : State) (now stream : ℕ) (b : List ℕ) → stop s.runner (stores_do s.runner s.bytes s.lengths) ≡ Ok tt
+    → EntryDoes (conf_of s.runner) (read_frame now stream b) s
+unfolding made next_entry answer_entry Frames.read_frame
+frame_does s now stream b g =
+    rw (admitted_so s.runner (stores_do s.runner s.bytes s.lengths) (is_framed s.runner.limits stream) NotFramed g) (frame_by s now stream b g (is_framed s.runner.limits stream) refl)
 
 pub write_does : (s : State) (channel : ℕ) (buffer : List ℕ) → stop s.runner (bytes_do s.runner.limits s.bytes) ≡ Ok tt
     → EntryDoes (conf_of s.runner) (write_record channel buffer) s
-unfolding made next_entry answer_entry
-write_does s channel buffer g = written_does s channel buffer g _ _ (writes s.runner channel s.bytes buffer g)
+unfolding made next_entry answer_entry Channel.write_record
+write_does s channel buffer g =
+    let k = carriage s.runner channel s.bytes buffer in
+    written_does s (write_record channel buffer) k buffer (pays channel (has_ended s.runner)) g (omega arith) refl refl (λ u. refl) _ _ (writes k s.runner s.bytes buffer g)
+
+pub framed_does : (s : State) (stream : ℕ) (buffer : List ℕ) → stop s.runner (bytes_do s.runner.limits s.bytes) ≡ Ok tt
+    → EntryDoes (conf_of s.runner) (write_frame stream buffer) s
+unfolding made next_entry answer_entry Frames.write_frame
+framed_does s stream buffer g =
+    let k = Frames.carriage s.runner stream in
+    written_does s (write_frame stream buffer) k buffer (Laid.pays stream (out_of Stdout s.runner).ended (out_of Stderr s.runner).ended) g (omega arith) refl refl (λ u. absurd (false≢true u)) _ _
+    (writes k s.runner s.bytes buffer g)
 
 -- ---- an entry, at a state that came from open
 
@@ -65,6 +97,8 @@ unfolding Does made next_entry answer_entry Plain.enough
 does_so (call c) s f = (refl, refl)
 does_so (read_record now channel b) s f = read_does s now channel b (goes s (Call.input s.runner.key b) f)
 does_so (write_record channel buffer) s f = write_does s channel buffer (goes s (Call.next_message buffer) f)
+does_so (read_frame now stream b) s f = frame_does s now stream b (goes s (Call.input s.runner.key b) f)
+does_so (write_frame stream buffer) s f = framed_does s stream buffer (goes s (Call.next_message buffer) f)
 
 pub does : (conf : Conf) (e : Entry) (s : State) → Good conf s → EntryDoes conf e s
 does conf e s h = subst (λ (k : Conf). EntryDoes k e s) h.same (does_so e s h.fine)
@@ -89,14 +123,24 @@ good_list conf (e ∷ es) s h = good_list conf es (next_entry s e) (good_entry c
 -- a Terminal that a write left is still the next message
 left_untold : (s : State) (channel : ℕ) (buffer : List ℕ) → Fine s → is_untaken (answer_entry s (write_record channel buffer)) ≡ true → (part : List ℕ)
     → (o : Outcome) × (Step.answer s (Call.next_message part) ≡ Call.Says (Call.Terminal o)) × (is_untold o.status ≡ true)
-unfolding answer_entry Plain.enough
+unfolding answer_entry Channel.write_record asked Calls.next_message Plain.enough
 left_untold s channel buffer f e part =
     let g : stop s.runner (bytes_do s.runner.limits s.bytes) ≡ (Ok tt) = goes s (Call.next_message buffer) f in
-    let p = left_chosen s channel buffer g _ _ (writes s.runner channel s.bytes buffer g) e in (
+    let k = carriage s.runner channel s.bytes buffer in
+    let u = untaken_left s (write_record channel buffer) k buffer (pays channel (has_ended s.runner)) g _ _ (writes k s.runner s.bytes buffer g) refl e in
+    let p = choice_left (choose s.runner (length (take s.runner.limits.chunk (drop 13 buffer)))) s.runner (rw g at u) in (
       outcome_of s.runner,
       answer_same s (Call.next_message part) f ∙ ends_answer s (Call.next_message part) (record { buffer = part; call = refl; chosen = still s.runner _ (length part) p.0 }),
       p.1,
     )
+
+-- and a frame that is written is never left
+never_left : (s : State) (stream : ℕ) (buffer : List ℕ) → Fine s → is_untaken (answer_entry s (write_frame stream buffer)) ≡ true → ⊥
+unfolding answer_entry Frames.write_frame Plain.enough
+never_left s stream buffer f e =
+    let g : stop s.runner (bytes_do s.runner.limits s.bytes) ≡ (Ok tt) = goes s (Call.next_message buffer) f in
+    let k = Frames.carriage s.runner stream in
+    false≢true (untaken_left s (write_frame stream buffer) k buffer (Laid.pays stream (out_of Stdout s.runner).ended (out_of Stderr s.runner).ended) g _ _ (writes k s.runner s.bytes buffer g) refl e)
 
 -- and one that no request tells is left by every write with room
 says_outcome : (o p : Outcome) → Call.Says (Call.Terminal o) ≡ Call.Says (Call.Terminal p) → o ≡ p
@@ -105,33 +149,58 @@ says_outcome o p e = cc
 untold_left : (s : State) → Fine s → (part : List ℕ) (o : Outcome) → Step.answer s (Call.next_message part) ≡ Call.Says (Call.Terminal o) → is_untold o.status ≡ true
     → (channel : ℕ) (buffer : List ℕ) → (is_channel s.runner.limits && leb (room s.runner.limits) (length buffer)) ≡ true
     → answer_entry s (write_record channel buffer) ≡ Call.Refused 40
-unfolding answer_entry asked Calls.next_message said_for is_left Plain.enough
+unfolding answer_entry Channel.write_record asked Calls.next_message said_for is_left Plain.enough
 untold_left s f part o e u channel buffer m =
     let g : stop s.runner (bytes_do s.runner.limits s.bytes) ≡ (Ok tt) = goes s (Call.next_message part) f in
     let a = sym (answer_same s (Call.next_message part) f) ∙ e in
     let t = ends (Call.next_message part) s (ap is_terminal a) in
     let same : outcome_of s.runner ≡ o = says_outcome _ _ (sym (ends_answer s (Call.next_message part) t) ∙ a) in
     let next = length (take s.runner.limits.chunk (drop 13 buffer)) in
-    let l : is_left (asked s.runner s.bytes buffer).saying.answer ≡ true = rw (g, still s.runner _ next t.chosen, same) u in
-    ap answers (write_left s.runner channel s.bytes buffer _ _ (writes s.runner channel s.bytes buffer g) m l)
+    let l : is_left (asked 13 s.runner s.bytes buffer).saying.answer ≡ true = rw (g, still s.runner _ next t.chosen, same) u in
+    let k = carriage s.runner channel s.bytes buffer in
+    ap answers (write_left k s.runner s.bytes buffer _ _ (writes k s.runner s.bytes buffer g) m l)
+
+-- a frame that makes one call where it is not refused makes it however it is answered
+data_so : (alone ends refused : Bool) (i e c : Call) → cond alone (e ∷ []) (i ∷ cond (ends && true) (e ∷ []) []) ≡ c ∷ [] → cond alone (e ∷ []) (i ∷ cond (ends && not refused) (e ∷ []) []) ≡ c ∷ []
+data_so true ends refused i e c k = k
+data_so false false refused i e c k = k
+data_so false true refused i e c k = let z : ◌≡◌ {A = ℕ} 2 1 = ap length k in absurd (omega arith)
+
+frame_so : (conf : Conf) (now : ℕ) (b : List ℕ) (p : Result Frame Refusal) (a : Answer) (c : Call) → frame_calls conf now b p Call.Ok ≡ c ∷ [] → frame_calls conf now b p a ≡ c ∷ []
+unfolding frame_calls
+frame_so conf now b (Ok (Frame.Data Stdout n ends)) a c k = data_so (ends && eqb (length (drop 9 b)) 0) ends (is_refused a) (Call.input conf.key (drop 9 b)) (Call.end_input conf.key) c k
+frame_so conf now b (Ok (Frame.Data Stderr n ends)) a c k = k
+frame_so conf now b (Ok (Frame.Update x units)) a c k = k
+frame_so conf now b (Ok (Frame.Reset x)) a c k = k
+frame_so conf now b (Err x) a c k = k
+
+framed_so : (framed : Bool) (conf : Conf) (now : ℕ) (b : List ℕ) (p : Result Frame Refusal) (a : Answer) (c : Call)
+    → cond framed (frame_calls conf now b p Call.Ok) [] ≡ c ∷ [] → cond framed (frame_calls conf now b p a) [] ≡ c ∷ []
+framed_so true conf now b p a c k = frame_so conf now b p a c k
+framed_so false conf now b p a c k = k
 
 -- so where no Terminal is next, an entry makes what it makes where it is not refused by 40
 pub made_so : (conf : Conf) (e : Entry) (c : Call) (s : State) → Good conf s → made conf e Call.Ok ≡ c ∷ [] → is_terminal (Step.answer s c) ≡ false
     → made conf e (answer_entry s e) ≡ c ∷ []
 unfolding made
-made_so conf (write_record channel buffer) c s g k h = at (is_channel conf.limits && roomy conf buffer) (is_untaken (answer_entry s (write_record channel buffer))) refl k
+made_so conf e c s g k h = by e k
   where
-    part : List ℕ
-    part = take conf.limits.chunk (drop 13 buffer)
-
-    at : (b u : Bool) → is_untaken (answer_entry s (write_record channel buffer)) ≡ u → cond b (Call.next_message part ∷ []) [] ≡ c ∷ []
-        → cond b (cond u [] (Call.next_message part ∷ [])) [] ≡ c ∷ []
-    at false u e k = k
-    at true false e k = k
-    at true true e k =
+    -- a write, by whether its message was left
+    at : (carries u : Bool) (part : List ℕ) → (u ≡ true → (o : Outcome) × (Step.answer s (Call.next_message part) ≡ Call.Says (Call.Terminal o)) × (is_untold o.status ≡ true))
+        → cond carries (Call.next_message part ∷ []) [] ≡ c ∷ [] → cond carries (cond u [] (Call.next_message part ∷ [])) [] ≡ c ∷ []
+    at false u part l k = k
+    at true false part l k = k
+    at true true part l k =
         let q : Call.next_message part ≡ c = cc in
-        absurd (false≢true (sym h ∙ ap (λ (x : Call). is_terminal (Step.answer s x)) (sym q) ∙ ap is_terminal (left_untold s channel buffer g.fine e part).1))
-made_so conf _ c s g k h = k
+        absurd (false≢true (sym h ∙ ap (λ (x : Call). is_terminal (Step.answer s x)) (sym q) ∙ ap is_terminal (l refl).1))
+
+    by : (x : Entry) → made conf x Call.Ok ≡ c ∷ [] → made conf x (answer_entry s x) ≡ c ∷ []
+    by (write_record channel buffer) k =
+        at (is_channel conf.limits && roomy conf buffer) (is_untaken (answer_entry s (write_record channel buffer))) _ (λ u. left_untold s channel buffer g.fine u _) k
+    by (write_frame stream buffer) k =
+        at (is_framed conf.limits stream && roomy conf buffer) (is_untaken (answer_entry s (write_frame stream buffer))) _ (λ u. absurd (never_left s stream buffer g.fine u)) k
+    by (read_frame now stream b) k = framed_so (is_framed conf.limits stream) conf now b (Framing.read stream b) (answer_entry s (read_frame now stream b)) c k
+    by _ k = k
 
 -- ---- a list of entries is the list of its calls
 
@@ -230,6 +299,8 @@ own_calm : (e : Entry) (n : ℕ) → among n (of_entry e) ≡ true → IsCalm n
 own_calm (call c) n h = calm_in n [] tt h
 own_calm (read_record now channel b) n h = calm_in n of_reads (refl, (refl, (refl, (refl, (refl, (refl, tt)))))) h
 own_calm (write_record channel buffer) n h = calm_in n of_writes (refl, (refl, (refl, tt))) h
+own_calm (read_frame now stream b) n h = calm_in n of_frames_read (refl, (refl, (refl, tt))) h
+own_calm (write_frame stream buffer) n h = calm_in n of_frames_written (refl, (refl, tt)) h
 
 ranged_by : (x : Entry) (m : List Call) (s after : State) (a : Answer) → Does x m s after a → ((c : Call) → is_stop (Step.answer s c) ≡ false) → is_stop a ≡ false
 unfolding Does

@@ -28,22 +28,32 @@ use Rattle.exits.specs.Exit as Exit
 use Rattle.exits.specs.Exit.{is_untold, is_told, request, is_mine, guess}
 use Rattle.octets.specs.Text.{same}
 use Rattle.channel.specs.Calls as Channel
-use Rattle.channel.specs.Calls.{WriteAfter, admitted, admitted_read, admitted_write}
+use Rattle.channel.specs.Calls.{is_channel, has_ended, carriage}
+use Rattle.channel.proofs.Ended.{pays}
+use Rattle.framing.proofs.Refused.{read_refused, write_refused}
+use Rattle.frames.specs.Calls as Frames
+use Rattle.frames.specs.Calls.{is_framed}
+use Rattle.frames.proofs.Laid as Laid
+use Rattle.runner.specs.State.{out_of}
+use Rattle.exec.specs.declared.Stream.TheVariants.{Stdout, Stderr}
+use Rattle.carrier.specs.Carrier.{accepted, WriteAfter, Carriage, write}
+use Rattle.carrier.specs.CarrierLaws.{stopped_so}
+use Rattle.carrier.specs.SaidLaws.{Pays}
+use Rattle.carrier.specs.Writes.{Writes, taken, tells, writes, stopped as stopped_write}
 use Rattle.calls.specs.Call as Call
 use Rattle.calls.specs.Call.{Conf, Call, Answer, is_refused}
 use Rattle.account.specs.Step as Step
 use Rattle.account.specs.Step.{State, on_runner, replied, received_as, asks}
-use Rattle.account.specs.Records.{Entry, call, read_record, write_record, next_entry, answer_entry, after_entries, among, of_entry}
+use Rattle.account.specs.Records.{Entry, call, read_record, write_record, read_frame, write_frame, answers, next_entry, answer_entry, after_entries, among, of_entry}
 use Rattle.account.specs.Refused.{of_calls, Unwritten, Refusals}
 use Rattle.account.proofs.Plain as Plain
 use Rattle.account.proofs.Plain.{said}
 use Rattle.std.proofs.lemmas.Bool.{or_right}
 use Rattle.account.proofs.Flags.{either}
 use Rattle.account.proofs.Guarded.{next_is, answer_is}
-use Rattle.channel.specs.Ended.{Writes, taken, tells}
-use Rattle.channel.proofs.Ended.{writes}
-use Rattle.account.proofs.EachRecord.{RefusedBy, reads_by, Among, Does, told_as, answers}
-use Rattle.account.proofs.Records.{read_does, write_does}
+use Rattle.account.proofs.EachRecord.{RefusedBy, reads_by, Among, Does}
+use Rattle.account.proofs.EachWrite.{told_as}
+use Rattle.account.proofs.Records.{read_does, frame_does, write_does, framed_does}
 use Rattle.account.proofs.Safe.{IfRefused, Safe, safe_among, Kept, of_plain, credit_safe, input_safe, end_safe, cancel_safe, wish_safe, said_safe}
 
 -- ---- refused by 12, 10 or 11
@@ -129,29 +139,39 @@ does_safe e (c ∷ b ∷ m) s t a d = then_safe e s (Step.next s c) t a (subst�
 stop_safe : (e : Entry) (s : State) (stores : Bool) (x : Refusal) → stop s.runner stores ≡ Err x → EntrySafe e s s (Call.Refused (number x))
 stop_safe e s stores x g = record { same = refl; known = rw (stop_known s.runner stores x g) refl }
 
-admitted_not : (r : Runner) (stores : Bool) (x : Refusal) → stop r stores ≡ Err x → admitted r stores ≡ Err x
-unfolding admitted
-admitted_not r stores x g = rw g refl
-
 read_safe : (met : Result (Unit {0}) Refusal) (s : State) (now channel : ℕ) (b : List ℕ) → stop s.runner (stores_do s.runner s.bytes s.lengths) ≡ met
     → let e = read_record now channel b in EntrySafe e s (next_entry s e) (answer_entry s e)
-unfolding next_entry answer_entry Channel.read_record admitted_read
+unfolding next_entry answer_entry Channel.read_record Channel.parsed_read accepted
 read_safe (Ok tt) s now channel b g = does_safe _ _ _ _ _ (read_does s now channel b g)
 read_safe (Err x) s now channel b g =
-    rw (admitted_not s.runner (stores_do s.runner s.bytes s.lengths) x g) (stop_safe _ s _ x g)
+    rw (stopped_so s.runner (stores_do s.runner s.bytes s.lengths) (is_channel s.runner.limits) Refusal.NotAChannel x g) (stop_safe _ s _ x g)
+
+frame_safe : (met : Result (Unit {0}) Refusal) (s : State) (now stream : ℕ) (b : List ℕ) → stop s.runner (stores_do s.runner s.bytes s.lengths) ≡ met
+    → let e = read_frame now stream b in EntrySafe e s (next_entry s e) (answer_entry s e)
+unfolding next_entry answer_entry Frames.read_frame Frames.parsed_read accepted
+frame_safe (Ok tt) s now stream b g = does_safe _ _ _ _ _ (frame_does s now stream b g)
+frame_safe (Err x) s now stream b g =
+    rw (stopped_so s.runner (stores_do s.runner s.bytes s.lengths) (is_framed s.runner.limits stream) Refusal.NotFramed x g) (stop_safe _ s _ x g)
 
 write_safe : (met : Result (Unit {0}) Refusal) (s : State) (channel : ℕ) (buffer : List ℕ) → stop s.runner (bytes_do s.runner.limits s.bytes) ≡ met
     → let e = write_record channel buffer in EntrySafe e s (next_entry s e) (answer_entry s e)
-unfolding next_entry answer_entry Channel.write_record admitted_write
+unfolding next_entry answer_entry Channel.write_record
 write_safe (Ok tt) s channel buffer g = does_safe _ _ _ _ _ (write_does s channel buffer g)
-write_safe (Err x) s channel buffer g =
-    rw (admitted_not s.runner (bytes_do s.runner.limits s.bytes) x g) (stop_safe _ s _ x g)
+write_safe (Err x) s channel buffer g = rw (stopped_write (carriage s.runner channel s.bytes buffer) s.runner s.bytes buffer x g) (stop_safe _ s _ x g)
+
+framed_safe : (met : Result (Unit {0}) Refusal) (s : State) (stream : ℕ) (buffer : List ℕ) → stop s.runner (bytes_do s.runner.limits s.bytes) ≡ met
+    → let e = write_frame stream buffer in EntrySafe e s (next_entry s e) (answer_entry s e)
+unfolding next_entry answer_entry Frames.write_frame
+framed_safe (Ok tt) s stream buffer g = does_safe _ _ _ _ _ (framed_does s stream buffer g)
+framed_safe (Err x) s stream buffer g = rw (stopped_write (Frames.carriage s.runner stream) s.runner s.bytes buffer x g) (stop_safe _ s _ x g)
 
 entry_safe : (s : State) (e : Entry) → EntrySafe e s (next_entry s e) (answer_entry s e)
 unfolding next_entry answer_entry
 entry_safe s (call c) = call_safe (call c) s (Step.next s c) (Step.answer s c) (safe s c)
 entry_safe s (read_record now channel b) = read_safe (stop s.runner (stores_do s.runner s.bytes s.lengths)) s now channel b refl
 entry_safe s (write_record channel buffer) = write_safe (stop s.runner (bytes_do s.runner.limits s.bytes)) s channel buffer refl
+entry_safe s (read_frame now stream b) = frame_safe (stop s.runner (stores_do s.runner s.bytes s.lengths)) s now stream b refl
+entry_safe s (write_frame stream buffer) = framed_safe (stop s.runner (bytes_do s.runner.limits s.bytes)) s stream buffer refl
 
 kept : (s : State) (e : Entry) (n : ℕ) → answer_entry s e ≡ Call.Refused n → KeptBy e s (next_entry s e) n
 kept s e n a = subst (EntrySafe e s (next_entry s e)) a (entry_safe s e)
@@ -171,16 +191,18 @@ message_buffer (Err x) s buffer g = rw (stopped s (Call.next_message buffer) x g
 abbrev BufferSafe : WriteAfter → List ℕ → Type 0
 BufferSafe w buffer = IfRefused Unit (λ n. w.buffer ≡ buffer) (answers w)
 
-write_buffer : (s : State) (channel : ℕ) (buffer : List ℕ) → stop s.runner (bytes_do s.runner.limits s.bytes) ≡ Ok tt
-    → (met : Bool) (w : WriteAfter) → Writes s.runner channel s.bytes buffer met w → BufferSafe w buffer
-write_buffer s channel buffer g met w (taken u h) = told_as s channel buffer g (IfRefused Unit (λ n. (tells s.runner channel s.bytes buffer).buffer ≡ buffer)) tt (λ x. tt)
-write_buffer s channel buffer g met w _ = refl
+-- whatever carries it
+module _ (s : State) (e : Entry) (k : Carriage) (buffer : List ℕ) (pays : Pays k.at k.laying) where
+  buffer_by : stop s.runner (bytes_do s.runner.limits s.bytes) ≡ Ok tt → (met : Bool) (w : WriteAfter) → Writes k s.runner s.bytes buffer met w → BufferSafe w buffer
+  buffer_by g met w (taken u h) = told_as s e k buffer pays g (IfRefused Unit (λ n. (tells k s.runner s.bytes buffer).buffer ≡ buffer)) tt (λ x. tt)
+  buffer_by g met w _ = refl
 
-record_buffer : (met : Result (Unit {0}) Refusal) (s : State) (channel : ℕ) (buffer : List ℕ) → stop s.runner (bytes_do s.runner.limits s.bytes) ≡ met
-    → BufferSafe (Channel.write_record s.runner channel s.bytes buffer) buffer
-unfolding Channel.write_record admitted_write
-record_buffer (Ok tt) s channel buffer g = write_buffer s channel buffer g _ _ (writes s.runner channel s.bytes buffer g)
-record_buffer (Err x) s channel buffer g = rw (admitted_not s.runner (bytes_do s.runner.limits s.bytes) x g) refl
+  write_buffer : BufferSafe (write k s.runner s.bytes buffer) buffer
+  write_buffer = by (stop s.runner (bytes_do s.runner.limits s.bytes)) refl
+    where
+      by : (met : Result (Unit {0}) Refusal) → stop s.runner (bytes_do s.runner.limits s.bytes) ≡ met → BufferSafe (write k s.runner s.bytes buffer) buffer
+      by (Ok tt) g = buffer_by g _ _ (writes k s.runner s.bytes buffer g)
+      by (Err x) g = rw (stopped_write k s.runner s.bytes buffer x g) refl
 
 -- ---- open
 
@@ -205,10 +227,14 @@ unfolding stop in_range fresh output_fits bytes_with
 none_unlimited k t now stores = refl
 
 unlimited_entry : (s : State) → Unlimited s.runner → (e : Entry) → answer_entry s e ≡ Call.Refused 10
-unfolding answer_entry Channel.read_record Channel.write_record admitted_read admitted_write
+unfolding answer_entry Channel.read_record Channel.write_record Frames.read_frame Frames.write_frame Channel.parsed_read Frames.parsed_read accepted
 unlimited_entry s g (call c) = (stopped s c Refusal.NoLimits (g (Plain.enough s c))).1
-unlimited_entry s g (read_record now channel b) = rw (admitted_not s.runner (stores_do s.runner s.bytes s.lengths) Refusal.NoLimits (g _)) refl
-unlimited_entry s g (write_record channel buffer) = rw (admitted_not s.runner (bytes_do s.runner.limits s.bytes) Refusal.NoLimits (g _)) refl
+unlimited_entry s g (read_record now channel b) =
+    rw (stopped_so s.runner (stores_do s.runner s.bytes s.lengths) (is_channel s.runner.limits) Refusal.NotAChannel Refusal.NoLimits (g _)) refl
+unlimited_entry s g (read_frame now stream b) =
+    rw (stopped_so s.runner (stores_do s.runner s.bytes s.lengths) (is_framed s.runner.limits stream) Refusal.NotFramed Refusal.NoLimits (g _)) refl
+unlimited_entry s g (write_record channel buffer) = rw (stopped_write (carriage s.runner channel s.bytes buffer) s.runner s.bytes buffer Refusal.NoLimits (g _)) refl
+unlimited_entry s g (write_frame stream buffer) = rw (stopped_write (Frames.carriage s.runner stream) s.runner s.bytes buffer Refusal.NoLimits (g _)) refl
 
 unlimited_list : (es : List Entry) (s : State) → Unlimited s.runner → (e : Entry) → answer_entry (after_entries s es) e ≡ Call.Refused 10
 unlimited_list [] s g e = unlimited_entry s g e
@@ -269,7 +295,7 @@ request_by channel s =
 
 -- DEMAND 1, OF REFUSALS
 pub refusals : Refusals
-unfolding answer_entry Calls.«open»
+unfolding answer_entry Calls.«open» Channel.write_record Frames.write_frame
 refusals = record {
   call_kept = λ s c n e. (refused s c n e).same;
   message_kept = λ s buffer n e.
@@ -279,7 +305,10 @@ refusals = record {
   entry_kept = λ s e n a. (kept s e n a).same;
   buffer_kept = λ s channel buffer n e.
       subst (IfRefused Unit (λ m. (Channel.write_record s.runner channel s.bytes buffer).buffer ≡ buffer)) e
-      (record_buffer (stop s.runner (bytes_do s.runner.limits s.bytes)) s channel buffer refl);
+      (write_buffer s (write_record channel buffer) (carriage s.runner channel s.bytes buffer) buffer (pays channel (has_ended s.runner)));
+  frame_buffer_kept = λ s stream buffer n e.
+      subst (IfRefused Unit (λ m. (Frames.write_frame s.runner stream s.bytes buffer).buffer ≡ buffer)) e
+      (write_buffer s (write_frame stream buffer) (Frames.carriage s.runner stream) buffer (Laid.pays stream (out_of Stdout s.runner).ended (out_of Stderr s.runner).ended));
   entry_number = λ s e n a. (kept s e n a).known;
   stale_kept = stale;
   stale_read = stale_entry;
@@ -289,6 +318,8 @@ refusals = record {
   write_kept = write_kept;
   lay_kept = lay_kept;
   close_kept = close_kept;
+  frame_kept = λ stream f payload buffer. write_refused (Among (25 ∷ 43 ∷ [])) refl refl buffer stream f payload;
+  frame_number = λ stream b x e. read_refused (Among (43 ∷ 44 ∷ [])) refl refl stream b x e;
   read_number = λ channel b x e. (let own = Among (20 ∷ 21 ∷ 22 ∷ 23 ∷ []) in subst (RefusedBy own) e (reads_by own refl refl refl refl channel b));
   request_number = λ channel b x e. subst Untold e (request_by channel b);
 }

@@ -34,13 +34,15 @@ use Rattle.octets.specs.Bytes.{be32_at, number_at}
 use Rattle.octets.specs.Text as Text
 use Rattle.codec.specs.Codec.{header, bytes_of, kinded, fitting, checked, read}
 use Rattle.channel.specs.Calls as Channel
-use Rattle.channel.specs.Calls.{WriteAfter, is_channel, asked, is_left, told, wrote, wrote_buffer, sent_as, sent_buffer}
+use Rattle.carrier.specs.Carrier.{WriteAfter, asked, told, wrote, wrote_buffer}
+use Rattle.carrier.specs.Writes.{Writes, left, taken, writes}
+use Rattle.channel.specs.Calls.{is_channel, is_left, sent_as, sent_buffer, carriage}
 use Rattle.exits.specs.Exit.{is_told, is_untold, request, ending}
 use Rattle.account.specs.Account.{Tally, timeout_r, give_up_a, abandon_a, tick_a, exit_r, exit_a, adds, add, start, tally_of}
 use Rattle.calls.specs.Call as Call
 use Rattle.calls.specs.Call.{Conf, Call, Answer}
 use Rattle.account.specs.Claim.{Opens, is_terminal, any_terminal}
-use Rattle.account.specs.Records.{Entry, EntryDone, call, read_record, write_record, next_entry, wrote_as, answer_entry, after_entries, run_entries, call_of, roomy, made}
+use Rattle.account.specs.Records.{Entry, EntryDone, call, read_record, write_record, next_entry, wrote_as, answers, answer_entry, after_entries, run_entries, call_of, roomy, made}
 use Rattle.account.specs.Step as Step
 use Rattle.account.specs.Step.{State}
 use Rattle.account.specs.TurnClaim.{Has, closing, answer_after, carried, taken_in, sent_in}
@@ -51,9 +53,7 @@ use Rattle.account.proofs.Plain.{said, next, answer, begun, after_all, run}
 use Rattle.account.proofs.Finish.{Ends, ends, ends_answer}
 use Rattle.account.proofs.Lists.{plain_of}
 use Rattle.account.proofs.Demand.{goes, answer_same, same_run, same_answer, same_account as plain_account}
-use Rattle.channel.specs.Ended.{Writes, left, taken}
-use Rattle.channel.proofs.Ended.{writes}
-use Rattle.account.proofs.EachRecord.{Does, answers}
+use Rattle.account.proofs.EachRecord.{Does}
 use Rattle.account.proofs.Records.{Good, does, made_so, good_open, good_entry, good_at, same_account}
 use Rattle.account.proofs.Session.{conf, message, answers_of, open_ok, named_four}
 use Rattle.account.proofs.Told.{tallied, taken_told}
@@ -302,7 +302,7 @@ Closes false status w =
     (w.writing.answer ≡ (Ok (Some ((Message.Terminal (whole_with status)), (length (ending 1 status))))))
     × (w.buffer ≡ ending 1 status ++ drop (length (ending 1 status)) (zeros 43))
 
-closes_by : (s : State) (status : Option Status) (b met : Bool) (w : WriteAfter) → Writes s.runner 1 s.bytes (zeros 43) met w → met ≡ true → is_untold status ≡ b
+closes_by : (s : State) (status : Option Status) (b met : Bool) (w : WriteAfter) → Writes (carriage s.runner 1 s.bytes (zeros 43)) s.runner s.bytes (zeros 43) met w → met ≡ true → is_untold status ≡ b
     → stop s.runner (bytes_do s.runner.limits s.bytes) ≡ Ok tt → ((n : ℕ) → choose s.runner n ≡ Choice.Terminal)
     → outcome_of s.runner ≡ whole_with status → s.runner.limits.chunk ≡ 4 → Closes b status w
 unfolding asked told wrote wrote_buffer sent_as sent_buffer is_left Calls.next_message said_for buffer_after
@@ -339,7 +339,7 @@ module _ (status : Option Status) (bytes lengths : List ℕ) (h : 16 ≤ length 
 
   -- then Terminal is written, or left
   pub channel_closes : (b : Bool) → is_untold status ≡ b → Closes b status last
-  unfolding Plain.enough
+  unfolding Plain.enough Channel.write_record
   channel_closes b u =
       let s : State = after_entries begins (records status) in
       let f = good_at channel 0 bytes lengths channel_opens (records status) in
@@ -349,7 +349,7 @@ module _ (status : Option Status) (bytes lengths : List ℕ) (h : 16 ≤ length 
       ∙ same_answer channel 0 bytes lengths channel_opens (channel_calls status) next_one ∙ (channel_plain status bytes lengths h).1 in
       let d : Ends s next_one = ends next_one s (ap is_terminal says) in
       let outcome : outcome_of s.runner ≡ whole_with status = cc (ends_answer s next_one d) in
-      closes_by s status b _ _ (writes s.runner 1 s.bytes (zeros 43) g) (ap (λ (c : Conf). is_channel c.limits && roomy c (zeros 43)) f.same) u g
+      closes_by s status b _ _ (writes (carriage s.runner 1 s.bytes (zeros 43)) s.runner s.bytes (zeros 43) g) (ap (λ (c : Conf). is_channel c.limits && roomy c (zeros 43)) f.same) u g
       (λ n. still s.runner _ n d.chosen) outcome (ap (λ (c : Conf). c.limits.chunk) f.same)
 
   pub channel_left : is_untold status ≡ true → answer_after channel 0 bytes lengths (records status) written ≡ Call.Refused 40

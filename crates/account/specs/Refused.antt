@@ -13,10 +13,13 @@ use Rattle.codec.specs.Codec as Codec
 use Rattle.exec.specs.Written.{WrittenAfter}
 use Rattle.exits.specs.Exit as Exit
 use Rattle.channel.specs.Calls as Channel
+use Rattle.framing.specs.declared.Frame.{Frame}
+use Rattle.framing.specs.Framing as Framing
+use Rattle.frames.specs.Calls as Frames
 use Rattle.calls.specs.Call as Call
 use Rattle.calls.specs.Call.{Conf, Call, Answer}
 use Rattle.account.specs.Step.{State, replied, next, answer, opened}
-use Rattle.account.specs.Records.{Entry, write_record, next_entry, answer_entry, after_entries, among, of_entry}
+use Rattle.account.specs.Records.{Entry, write_record, write_frame, next_entry, answer_entry, after_entries, among, of_entry}
 
 -- what a call may be refused by
 abbrev pub of_calls : List ℕ
@@ -37,11 +40,14 @@ pub record Refusals : Type 0 where
   pub message_kept : (s : State) (buffer : List ℕ) (n : ℕ) → answer s (Call.next_message buffer) ≡ Call.Refused n
       → (Calls.next_message s.runner s.bytes buffer).buffer ≡ buffer
   pub call_number : (s : State) (c : Call) (n : ℕ) → answer s c ≡ Call.Refused n → among n of_calls ≡ true
-  -- so does a record that is refused
+  -- so does a record or a frame that is refused
   pub entry_kept : (s : State) (e : Entry) (n : ℕ) → answer_entry s e ≡ Call.Refused n → next_entry s e ≡ s
   -- and a record that is not written leaves the record buffer
   pub buffer_kept : (s : State) (channel : ℕ) (buffer : List ℕ) (n : ℕ) → answer_entry s (write_record channel buffer) ≡ Call.Refused n
       → (Channel.write_record s.runner channel s.bytes buffer).buffer ≡ buffer
+  -- and one whose frames are not written
+  pub frame_buffer_kept : (s : State) (stream : ℕ) (buffer : List ℕ) (n : ℕ) → answer_entry s (write_frame stream buffer) ≡ Call.Refused n
+      → (Frames.write_frame s.runner stream s.bytes buffer).buffer ≡ buffer
   pub entry_number : (s : State) (e : Entry) (n : ℕ) → answer_entry s e ≡ Call.Refused n → (among n of_calls || among n (of_entry e)) ≡ true
   -- 'Same id, lower generation: Stale, and nothing else happens, not even the tick of cancel'
   pub stale_kept : (s : State) (c : Call) → answer s c ≡ Call.Stale → next s c ≡ s
@@ -54,10 +60,12 @@ pub record Refusals : Type 0 where
   pub unopened : (conf : Conf) (now : ℕ) (bytes lengths : List ℕ) (n : ℕ) → open_answer conf now bytes lengths ≡ Call.Refused n
       → (store slots : List ℕ) (es : List Entry) (e : Entry)
       → answer_entry (after_entries (record { runner = (opened conf now bytes lengths).runner; bytes = store; lengths = slots }) es) e ≡ Call.Refused 10
-  -- what writes the bytes of a record, without a runner
+  -- what writes the bytes of a record, or of a frame, without a runner
   pub write_kept : (channel : ℕ) (rec : Record) (payload buffer : List ℕ) → Unwritten (20 ∷ 25 ∷ []) (Codec.write channel rec payload buffer) buffer
   pub lay_kept : (channel : ℕ) (rec : Record) (buffer : List ℕ) → Unwritten (25 ∷ []) (Codec.lay channel rec buffer) buffer
   pub close_kept : (channel : ℕ) (status : Option Status) (buffer : List ℕ) → Unwritten (25 ∷ 40 ∷ []) (Exit.close channel status buffer) buffer
+  pub frame_kept : (stream : ℕ) (f : Frame) (payload buffer : List ℕ) → Unwritten (25 ∷ 43 ∷ []) (Framing.write stream f payload buffer) buffer
   -- and what reads them, which changes nothing
   pub read_number : (channel : ℕ) (bytes : List ℕ) (x : Refusal) → Codec.read channel bytes ≡ Err x → among (number x) (20 ∷ 21 ∷ 22 ∷ 23 ∷ []) ≡ true
   pub request_number : (channel : ℕ) (bytes : List ℕ) (x : Refusal) → Exit.read channel bytes ≡ Err x → among (number x) (20 ∷ 21 ∷ 22 ∷ 41 ∷ []) ≡ true
+  pub frame_number : (stream : ℕ) (bytes : List ℕ) (x : Refusal) → Framing.read stream bytes ≡ Err x → among (number x) (43 ∷ 44 ∷ []) ≡ true

@@ -11,7 +11,7 @@ use Rattle.calls.specs.Call as Call
 use Rattle.calls.specs.Call.{Conf, Call, Answer, Message, count}
 use Rattle.account.specs.Step.{opened}
 use Rattle.account.specs.Claim.{is_terminal}
-use Rattle.account.specs.Records.{Entry, EntryDone, call, read_record, write_record, answer_entry, after_entries, run_entries}
+use Rattle.account.specs.Records.{Entry, EntryDone, call, read_record, write_record, read_frame, write_frame, answer_entry, after_entries, run_entries}
 
 -- something stands in a list
 abbrev pub Has : {A : Type 0} → A → List A → Type 0
@@ -58,11 +58,13 @@ offered x Call.memory_bound = []
 offered x Call.buffered = []
 offered x Call.high_water = []
 
--- a record offers none
+-- a record or a frame offers none
 abbrev pub offered_in : Stream → Entry → List ℕ
 offered_in x (call c) = offered x c
 offered_in x (read_record now channel b) = []
 offered_in x (write_record channel buffer) = []
+offered_in x (read_frame now stream b) = []
+offered_in x (write_frame stream buffer) = []
 
 -- the bytes of it that a message carries, and so an answer, to a call or a record
 abbrev pub carried_by : Stream → Message → List ℕ

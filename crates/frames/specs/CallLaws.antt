@@ -1,10 +1,12 @@
 -- Laws of the frame calls: what their inner functions ask and give (a frame that was read is whole, a message's frames have room).
-use Rattle.std.specs.Prelude.{Bool, true, false, ◌&&◌, List, [], ◌∷◌, ◌++◌, ◌≡◌, refl, ℕ, ◌+◌, ◌-◌, ◌≤◌, leb, length, take, drop, Option, Result, Some, None, Ok, Err}
+use Rattle.std.specs.Prelude.{Bool, true, false, not, ◌&&◌, List, [], ◌∷◌, ◌++◌, ◌≡◌, refl, ℕ, ◌+◌, ◌-◌, ◌≤◌, leb, length, take, drop, Option, Result, Some, None, Ok, Err}
 use Rattle.std.proofs.lemmas.Bool.{false≢true}
 use Rattle.std.proofs.Common.{sym, ap, ◌∙◌, arith, leb-true, append_assoc, append-nil, length-drop, length-take-le, take_all, drop-drop}
 use Rattle.std.proofs.Math.Seq.{drop-length}
 use Rattle.exec.specs.declared.Limits.{Limits}
 use Rattle.exec.specs.declared.Refusal.{Refusal}
+use Rattle.exec.specs.declared.Unit as Units
+use Rattle.exec.specs.declared.Unit.TheVariants.{Bytes, Frames}
 use Rattle.exec.specs.declared.Stream.{Stream}
 use Rattle.exec.specs.declared.Stream.TheVariants.{Stdout, Stderr}
 use Rattle.exec.specs.Written.{WrittenAfter, written_after}
@@ -12,7 +14,7 @@ use Rattle.runner.specs.declared.answer.Message.{Message}
 use Rattle.runner.specs.declared.answer.After.{After}
 use Rattle.runner.specs.declared.runner.Runner.{Runner}
 use Rattle.runner.specs.Message.{MessageAfter, message_after}
-use Rattle.carrier.specs.Carrier.{accepted, room, asked}
+use Rattle.carrier.specs.Carrier.{is_bytes, accepted, room, asked}
 use Rattle.carrier.specs.SaidLaws.{Within, SaidWithin, said_within}
 use Rattle.framing.specs.declared.Frame.{Frame}
 use Rattle.framing.specs.declared.Frame.TheVariants.{Update, Data, Reset}
@@ -33,6 +35,16 @@ and_r false b h = absurd (false≢true h)
 
 pub framed_stream : (l : Limits) (s : ℕ) → is_framed l s ≡ true → is_stream s ≡ true
 framed_stream l s h = and_r _ _ h
+
+pub framed_plain : (l : Limits) (s : ℕ) → is_framed l s ≡ true → is_plain l ≡ true
+framed_plain l s h = and_l (is_plain l) (is_small l) (and_l (is_plain l && is_small l) (is_stream s) h)
+
+unit_bytes : (u : Units.Unit) → is_bytes u ≡ true → u ≡ Bytes
+unit_bytes Bytes h = refl
+unit_bytes Frames h = absurd (false≢true h)
+
+pub plain_bytes : (l : Limits) → is_plain l ≡ true → l.input.unit ≡ Bytes
+plain_bytes l h = unit_bytes l.input.unit (and_r (not l.shared) (is_bytes l.input.unit) (and_l (not l.shared && is_bytes l.input.unit) (is_bytes l.output.unit) h))
 
 pub framed_small : (l : Limits) (s : ℕ) → is_framed l s ≡ true → (l.chunk ≤ 16384) × (l.input.size ≤ 2147483647)
 framed_small l s h =
