@@ -21,7 +21,7 @@ use Rattle.framing.specs.declared.Frame.TheVariants.{Update, Data, Reset}
 use Rattle.framing.specs.Framing.{is_stream, start, size, fits, bytes_of, header, is_writable, read, lay}
 use Rattle.framing.specs.FramingLaws.{header_laid, lay_all}
 use Rattle.framing.proofs.RoundTrip.{Says, read_is}
-use Rattle.frames.specs.Calls.{is_plain, is_small, is_framed, reset_unless, length_all, bytes_all, laid}
+use Rattle.frames.specs.Calls.{is_plain, most_payload, most_window, is_small, is_framed, reset_unless, length_all, bytes_all, laid}
 
 -- ---- what is framed
 
@@ -46,11 +46,17 @@ unit_bytes Frames h = absurd (false≢true h)
 pub plain_bytes : (l : Limits) → is_plain l ≡ true → l.input.unit ≡ Bytes
 plain_bytes l h = unit_bytes l.input.unit (and_r (not l.shared) (is_bytes l.input.unit) (and_l (not l.shared && is_bytes l.input.unit) (is_bytes l.output.unit) h))
 
-pub framed_small : (l : Limits) (s : ℕ) → is_framed l s ≡ true → (l.chunk ≤ 16384) × (l.input.size ≤ 2147483647)
+two_most : (n a m b k c : ℕ) → leb n a && leb m b && leb k c ≡ true → (n ≤ a) × (m ≤ b)
+two_most n a m b k c h =
+    let two = and_l (leb n a && leb m b) (leb k c) h in
+    (leb-true n a (and_l (leb n a) (leb m b) two), leb-true m b (and_r (leb n a) (leb m b) two))
+
+-- so a payload's length fits 24 bits, and the units of a Credit 31
+pub framed_small : (l : Limits) (s : ℕ) → is_framed l s ≡ true → (l.chunk ≤ 16777215) × (l.input.size ≤ 2147483647)
 framed_small l s h =
     let small : is_small l ≡ true = and_r (is_plain l) (is_small l) (and_l (is_plain l && is_small l) (is_stream s) h) in
-    let two = and_l (leb l.chunk 16384 && leb l.input.size 2147483647) (leb l.output.size 2147483647) small in
-    (leb-true _ _ (and_l _ _ two), leb-true _ _ (and_r (leb l.chunk 16384) (leb l.input.size 2147483647) two))
+    let p = two_most l.chunk most_payload l.input.size most_window l.output.size most_window small in
+    (omega (arith, p.0), omega (arith, p.1))
 
 -- ---- reading
 
@@ -160,7 +166,7 @@ unfolding Sayable Layable SaidWithin Within
 fits_said l s n f h (Ok None) k = tt
 fits_said l s n f h (Ok (Some m)) k = (framed_stream l s f, message m k)
   where
-    small : (l.chunk ≤ 16384) × (l.input.size ≤ 2147483647)
+    small : (l.chunk ≤ 16777215) × (l.input.size ≤ 2147483647)
     small = framed_small l s f
 
     message : (m : Message) → Within l m → Layable m n

@@ -27,9 +27,15 @@ use Rattle.framing.specs.Framing.{is_stream, start, size, bytes_of, read}
 abbrev pub is_plain : Limits → Bool
 is_plain l = not l.shared && is_bytes l.input.unit && is_bytes l.output.unit
 
--- a chunk of at most 16,384 (RFC 9113, 4.2), and windows of at most 2^31 - 1 (6.9.1)
+-- the longest payload that every peer takes (RFC 9113, 4.2), and the largest window (6.9.1)
+abbrev pub most_payload : ℕ
+most_payload = 16384
+
+abbrev pub most_window : ℕ
+most_window = 2147483647
+
 abbrev pub is_small : Limits → Bool
-is_small l = leb l.chunk 16384 && leb l.input.size 2147483647 && leb l.output.size 2147483647
+is_small l = leb l.chunk most_payload && leb l.input.size most_window && leb l.output.size most_window
 
 abbrev pub is_framed : Limits → (s : ℕ) → Bool
 is_framed l s = is_plain l && is_small l && is_stream s
