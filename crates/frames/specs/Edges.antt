@@ -114,6 +114,13 @@ available r = (credit_at 0 r.credits).available ∷ (credit_at 1 r.credits).avai
 refused : List ℕ → Refusal → Type 0
 refused b x = reads granted b ≡ Carrier.read_after (Carrier.unread x granted) (zeros 16) []
 
+-- "the initial windows are 0": nothing may be sent at first, nor come in
+initial : (available opened ≡ 0 ∷ 0 ∷ [])
+    × (answer (reads opened (frame 1 0 0 1 (104 ∷ []))) ≡ Err Refusal.Window)
+    × (answer (reads granted (frame 1 0 0 1 (104 ∷ []))) ≡ Ok (Some Applied))
+unfolding writes reads frame available answer
+initial = (refl, refl, refl)
+
 -- "WINDOW_UPDATE is credit", of stdout's pool on s and of stderr's on s + 2; of no units it is credit's 3
 updates : (answer (reads granted (frame 4 8 0 1 (0 ∷ 0 ∷ 0 ∷ 8 ∷ []))) ≡ Ok (Some Applied))
     × (available (reads granted (frame 4 8 0 1 (0 ∷ 0 ∷ 0 ∷ 8 ∷ []))).reading.runner ≡ 8 ∷ 0 ∷ [])
