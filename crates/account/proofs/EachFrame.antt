@@ -8,6 +8,7 @@ use Prim.Native.Nat.{ℕ}
 use lib.Dec.{eqb}
 use lib.ListN.{length, drop}
 use Rattle.exec.specs.declared.Key.{Key}
+use Rattle.exec.specs.declared.Pool.TheVariants as Pool
 use Rattle.exec.specs.declared.Refusal.{Refusal}
 use Rattle.exec.specs.declared.Refusal.TheVariants.{NotFramed}
 use Rattle.exec.specs.declared.Stream.TheVariants.{Stdout, Stderr}
@@ -91,7 +92,8 @@ module _ (s : State) (now stream : ℕ) (b : List ℕ) (g : stop s.runner (store
   parsed_does : s.runner.limits.input.unit ≡ Bytes → (p : Result Frame Refusal) → ((x : Refusal) → p ≡ Err x → Among of_frames_read x)
       → Does e (frame_calls (conf_of s.runner) now b p (read_as (after p).reading.answer)) s (leaves (after p)) (read_as (after p).reading.answer)
   unfolding Does frame_calls parsed_read Frames.made Step.next Step.answer k
-  parsed_does plain (Ok (Frame.Update x units)) h = (refl, heard_as_lem (Calls.credit s.runner s.runner.key (Frames.pool_of x) units).answer)
+  parsed_does plain (Ok (Frame.Update Stdout units)) h = (refl, heard_as_lem (Calls.credit s.runner s.runner.key Pool.Stdout units).answer)
+  parsed_does plain (Ok (Frame.Update Stderr units)) h = (refl, heard_as_lem (Calls.credit s.runner s.runner.key Pool.Stderr units).answer)
   parsed_does plain (Ok (Frame.Data Stdout n ends)) h = data_does plain (drop 9 b) ends
   parsed_does plain (Ok (Frame.Data Stderr n ends)) h = record { kept = refl; refusal = 43; answered = refl; own = refl }
   parsed_does plain (Ok (Frame.Reset x)) h = (refl, noted_as_lem (Calls.reset s.runner now).answer)

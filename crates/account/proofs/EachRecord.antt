@@ -70,7 +70,8 @@ frame_outputless conf now b (Ok (Frame.Data Stdout n ends)) a =
     either AllOutputless _ (Call.end_input conf.key ∷ []) (Call.input conf.key (drop 9 b) ∷ cond (ends && not (is_refused a)) (Call.end_input conf.key ∷ []) []) (tt, tt)
     (tt, either AllOutputless (ends && not (is_refused a)) (Call.end_input conf.key ∷ []) [] (tt, tt) tt)
 frame_outputless conf now b (Ok (Frame.Data Stderr n ends)) a = tt
-frame_outputless conf now b (Ok (Frame.Update x units)) a = (tt, tt)
+frame_outputless conf now b (Ok (Frame.Update Stdout units)) a = (tt, tt)
+frame_outputless conf now b (Ok (Frame.Update Stderr units)) a = (tt, tt)
 frame_outputless conf now b (Ok (Frame.Reset x)) a = (tt, tt)
 frame_outputless conf now b (Err x) a = tt
 

@@ -170,7 +170,8 @@ frame_so : (conf : Conf) (now : ℕ) (b : List ℕ) (p : Result Frame Refusal) (
 unfolding frame_calls
 frame_so conf now b (Ok (Frame.Data Stdout n ends)) a c k = data_so (ends && eqb (length (drop 9 b)) 0) ends (is_refused a) (Call.input conf.key (drop 9 b)) (Call.end_input conf.key) c k
 frame_so conf now b (Ok (Frame.Data Stderr n ends)) a c k = k
-frame_so conf now b (Ok (Frame.Update x units)) a c k = k
+frame_so conf now b (Ok (Frame.Update Stdout units)) a c k = k
+frame_so conf now b (Ok (Frame.Update Stderr units)) a c k = k
 frame_so conf now b (Ok (Frame.Reset x)) a c k = k
 frame_so conf now b (Err x) a c k = k
 

@@ -1,4 +1,4 @@
--- The workload's input is a queue: over every list of calls and records the bytes that input_written hands to the workload and
+-- The workload's input is a queue: over every list of calls, records and frames the bytes that input_written hands to the workload and
 -- those that pending_input shows next, joined, are a prefix of the bytes of the inputs answered Applied, joined, whether a call
 -- brought them or a record that was read.
 use Rattle.std.specs.Prelude.{Bool, true, false, cond, ◌≡◌, List, [], ◌∷◌, ◌++◌, ℕ, min}
@@ -111,14 +111,14 @@ abbrev pub brought : List Done → List ℕ
 brought [] = []
 brought (d ∷ ds) = brought_by d.call d.answer ++ brought ds
 
--- over a list of calls and records from a runner just opened, those of the calls that it makes
+-- over a list of calls, records and frames from a runner just opened, those of the calls that it makes
 abbrev pub handed_in : Conf → ℕ → (bytes lengths : List ℕ) → List Entry → List ℕ
 handed_in conf now bytes lengths es = handed (opened conf now bytes lengths) (calls_of conf (run_entries (opened conf now bytes lengths) es))
 
 abbrev pub brought_in : Conf → ℕ → (bytes lengths : List ℕ) → List Entry → List ℕ
 brought_in conf now bytes lengths es = brought (dones_of conf (run_entries (opened conf now bytes lengths) es))
 
--- for a runner that open answered ok, stores of any content, and every list of calls and records
+-- for a runner that open answered ok, stores of any content, and every list of calls, records and frames
 pub record InputFifo (conf : Conf) (now : ℕ) (bytes lengths : List ℕ) : Type 0 where
   -- what was handed over is a prefix of what was brought
   pub joined : (es : List Entry) → IsPrefix (handed_in conf now bytes lengths es) (brought_in conf now bytes lengths es)

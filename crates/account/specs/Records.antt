@@ -120,7 +120,8 @@ data_calls k ends b a =
 -- the calls that a frame's bytes make, where it is answered so: WINDOW_UPDATE credit on its stream's pool, DATA as above, RST_STREAM
 -- reset; DATA on the stream of stderr none
 unfoldable pub frame_calls : Conf → (now : ℕ) → (bytes : List ℕ) → Result Frame Refusal → Answer → List Call
-frame_calls conf now b (Ok (Frame.Update x units)) a = Call.credit conf.key (Frames.pool_of x) units ∷ []
+frame_calls conf now b (Ok (Frame.Update Stdout units)) a = Call.credit conf.key Pool.Stdout units ∷ []
+frame_calls conf now b (Ok (Frame.Update Stderr units)) a = Call.credit conf.key Pool.Stderr units ∷ []
 frame_calls conf now b (Ok (Frame.Data Stdout n ends)) a = data_calls conf.key ends (drop 9 b) a
 frame_calls conf now b (Ok (Frame.Data Stderr n ends)) a = []
 frame_calls conf now b (Ok (Frame.Reset x)) a = Call.reset now ∷ []
@@ -218,7 +219,7 @@ abbrev pub SilentIn : List EntryDone → Type 0
 SilentIn [] = Unit
 SilentIn (d ∷ ds) = (is_message d.answer ≡ false) × SilentIn ds
 
--- DEMAND 3 WHOLE, for a runner that open answered ok, stores of any content, and every list of calls and records
+-- DEMAND 3 WHOLE, for a runner that open answered ok, stores of any content, and every list of calls, records and frames
 pub record Whole (conf : Conf) (now : ℕ) (bytes lengths : List ℕ) : Type 0 where
   -- on each stream what was sent is a prefix of what was taken
   pub joined : (es : List Entry) (x : Stream) → IsPrefix (tally_of x (entry_account conf now bytes lengths es)).sent (tally_of x (entry_account conf now bytes lengths es)).taken

@@ -1,5 +1,5 @@
 -- The turn. 'The turn is taken when Terminal reports stdout untruncated; one row lost unreported ruins a carpet's length of pile.'
--- What such a Terminal says of the stream, over every list of calls and records: its rows are all sent, it is the program that
+-- What such a Terminal says of the stream, over every list of calls, records and frames: its rows are all sent, it is the program that
 -- closed it, none of it was reported lost, and no byte is taken or sent any more. All of it is told from the list of what was done;
 -- the account is not asked.
 use Rattle.std.specs.Prelude.{true, false, cond, ◌≡◌, List, [], ◌∷◌, ◌++◌, ◌⊎◌, ℕ, ◌<◌, take}
@@ -22,7 +22,7 @@ Has a (b ∷ bs) = (a ≡ b) ⊎ Has a bs
 abbrev pub closing : Stream → EntryDone
 closing x = record { entry = call (Call.output_closed x); answer = Call.Ok }
 
--- ---- what was taken and sent of a stream, by calls and records and their answers
+-- ---- what was taken and sent of a stream, by calls, records and frames and their answers
 
 -- the bytes of it that a call offers
 abbrev pub offered : Stream → Call → List ℕ
@@ -108,7 +108,7 @@ sent_in x (d ∷ ds) = carried x d.answer ++ sent_in x ds
 abbrev pub answer_after : Conf → ℕ → (bytes lengths : List ℕ) → List Entry → Entry → Answer
 answer_after conf now bytes lengths es e = answer_entry (after_entries (opened conf now bytes lengths) es) e
 
--- THE TURN, for a runner that open answered ok, stores of any content, and every list of calls and records
+-- THE TURN, for a runner that open answered ok, stores of any content, and every list of calls, records and frames
 pub record Turn (conf : Conf) (now : ℕ) (bytes lengths : List ℕ) : Type 0 where
   -- Terminal reports a stream untruncated: the bytes sent of it are the bytes taken of it, all of them
   pub rows : (es : List Entry) (e : Entry) (o : Outcome) (x : Stream) → answer_after conf now bytes lengths es e ≡ Call.Says (Call.Terminal o) → is_truncated o x ≡ false

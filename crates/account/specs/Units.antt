@@ -1,4 +1,4 @@
--- The units of the input's window: after every list of calls and records open + returnable + held + lost = size. Lost are those
+-- The units of the input's window: after every list of calls, records and frames open + returnable + held + lost = size. Lost are those
 -- charged by an input answered Late, counted from arguments and answers, and those of an inbox that was cleared as the input
 -- closed.
 use Rattle.std.specs.Prelude.{Bool, true, false, cond, not, ◌&&◌, ◌||◌, ◌≡◌, List, [], ◌∷◌, ℕ, ◌+◌, length}

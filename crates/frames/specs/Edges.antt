@@ -170,6 +170,14 @@ bad : refused [] Refusal.BadFrame
 unfolding writes reads frame refused
 bad = (refl, refl, refl, refl, refl, refl, refl, refl, refl)
 
+-- 42 "in the place of 13": behind 11, and before 25
+placed : ((Frames.read_frame granted 3 0 [] (zeros 15) []).reading.answer ≡ Err Refusal.StoreShort)
+    × ((Frames.write_frame granted 0 (zeros 15) []).writing.answer ≡ Err Refusal.StoreShort)
+    × ((Frames.write_frame granted 0 (zeros 16) []).writing.answer ≡ Err Refusal.NotFramed)
+    × ((Frames.write_frame granted 1 (zeros 16) []).writing.answer ≡ Err Refusal.BufferShort)
+unfolding writes reads
+placed = (refl, refl, refl, refl)
+
 numbers : (number Refusal.NotFramed ≡ 42) × (number Refusal.BadFrame ≡ 43) × (number Refusal.PaddedFrame ≡ 44)
 numbers = (refl, refl, refl)
 
