@@ -1,12 +1,13 @@
 -- A record that is read does what the call does that it makes, or makes none and is refused by a number of its own.
-use Rattle.std.specs.Prelude.{Result, Ok, Err, not}
+use Rattle.std.specs.Prelude.{Result, Ok, Err}
 use Rattle.exec.specs.declared.Receipt.{Receipt}
-use mathlib.Core.Bool.{Bool, true, false, cond, ◌&&◌}
+use mathlib.Core.Bool.{Bool, true, false, cond}
 use mathlib.Core.Path.{◌≡◌, refl}
 use mathlib.Core.List.{List, [], ◌∷◌}
 use Prim.Native.Nat.{ℕ, ◌+◌}
 use lib.Dec.{eqb}
 use lib.ListN.{length, drop, get_or}
+use Rattle.exec.specs.declared.Key.{Key}
 use Rattle.exec.specs.declared.Pool.TheVariants as Pool
 use Rattle.exec.specs.declared.Refusal.{Refusal}
 use Rattle.exec.specs.declared.Refusal.TheVariants.{NotAChannel, BadLength, UnknownKind, OtherChannel, BadType}
@@ -25,7 +26,7 @@ use Rattle.calls.specs.Call.{Conf, Call, Answer, is_refused}
 use Rattle.account.specs.Step as Step
 use Rattle.account.specs.Step.{State, replied, received_as}
 use Rattle.account.specs.Claim.{is_message}
-use Rattle.account.specs.Records.{Entry, call, read_record, write_record, read_frame, write_frame, leaves, read_as, call_of, frame_calls, is_untaken, roomy, written_call, made, among, of_reads, of_entry}
+use Rattle.account.specs.Records.{Entry, call, read_record, write_record, read_frame, write_frame, leaves, read_as, call_of, frame_calls, is_untaken, written_call, made, among, of_reads, of_entry}
 use Rattle.account.proofs.Lives.{conf_of}
 use Rattle.account.proofs.Flags.{either}
 
@@ -64,11 +65,14 @@ read_outputless conf now b (Ok (Record.Extended n)) = tt
 read_outputless conf now b (Err x) = tt
 read_outputless conf now b _ = (tt, tt)
 
+data_outputless : (alone behind : Bool) (k : Key) (b : List ℕ) → AllOutputless (cond alone (Call.end_input k ∷ []) (Call.input k b ∷ cond behind (Call.end_input k ∷ []) []))
+data_outputless true behind k b = (tt, tt)
+data_outputless false true k b = (tt, (tt, tt))
+data_outputless false false k b = (tt, tt)
+
 frame_outputless : (conf : Conf) (now : ℕ) (b : List ℕ) (p : Result Frame Refusal) (a : Answer) → AllOutputless (frame_calls conf now b p a)
 unfolding frame_calls
-frame_outputless conf now b (Ok (Frame.Data Stdout n ends)) a =
-    either AllOutputless _ (Call.end_input conf.key ∷ []) (Call.input conf.key (drop 9 b) ∷ cond (ends && not (is_refused a)) (Call.end_input conf.key ∷ []) []) (tt, tt)
-    (tt, either AllOutputless (ends && not (is_refused a)) (Call.end_input conf.key ∷ []) [] (tt, tt) tt)
+frame_outputless conf now b (Ok (Frame.Data Stdout n ends)) a = data_outputless _ _ conf.key (drop 9 b)
 frame_outputless conf now b (Ok (Frame.Data Stderr n ends)) a = tt
 frame_outputless conf now b (Ok (Frame.Update Stdout units)) a = (tt, tt)
 frame_outputless conf now b (Ok (Frame.Update Stderr units)) a = (tt, tt)
@@ -76,7 +80,7 @@ frame_outputless conf now b (Ok (Frame.Reset x)) a = (tt, tt)
 frame_outputless conf now b (Err x) a = tt
 
 write_outputless : (conf : Conf) (carries : Bool) (at : ℕ) (buffer : List ℕ) (a : Answer) → AllOutputless (written_call conf carries at buffer a)
-write_outputless conf carries at buffer a = either AllOutputless (carries && roomy conf buffer) _ [] (either AllOutputless (is_untaken a) [] _ tt (tt, tt)) tt
+write_outputless conf carries at buffer a = either AllOutputless _ _ [] (either AllOutputless (is_untaken a) [] _ tt (tt, tt)) tt
 
 pub record_outputless : (conf : Conf) (e : Entry) (a : Answer) → IsRecord e → AllOutputless (made conf e a)
 unfolding made
