@@ -12,7 +12,7 @@ use Rattle.exec.specs.Key.{admits}
 use Rattle.exec.specs.Limits.{cost, bytes_with, bytes_window, limits_for}
 use Rattle.ring.specs.Ring.{wrap, ring_read, ring_from, ring_write}
 use Rattle.ring.specs.Runs.{copied}
-use Rattle.octets.specs.Bytes.{number_at, be32_at}
+use Rattle.octets.specs.Bytes.{number_at, be32_at, be24_at}
 use Rattle.choice.specs.Order.{if_else, order}
 use Rattle.output.specs.Output.{output_fits}
 use Rattle.codec.specs.Codec as Codec
@@ -21,12 +21,15 @@ use Rattle.runner.specs.Life as Life
 use Rattle.runner.specs.Message as Message
 use Rattle.runner.specs.Range as Range
 use Rattle.runner.specs.Streams as Streams
+use Rattle.carrier.specs.Carrier as Carrier
 use Rattle.channel.specs.Calls as Channel
+use Rattle.framing.specs.Framing as Framing
+use Rattle.frames.specs.Calls as Frames
 use Rattle.calls.specs.Call as Call
 use Rattle.calls.specs.Call.{Conf, Call, Answer}
 use Rattle.account.specs.Step as Step
 use Rattle.account.specs.Step.{State}
-use Rattle.account.specs.Records.{EntryDone, call, next_entry, answer_entry, after_entries, run_entries}
+use Rattle.account.specs.Records.{Entry, EntryDone, call, read_frame, write_frame, next_entry, answer_entry, after_entries, run_entries}
 use Rattle.account.proofs.TurnSession.{channel, zeros, written, adjust}
 use Rattle.idle.specs.IdleClaim.{Woven, made, idle, alone, woven, amid, AllIdle}
 use Rattle.idle.specs.PollClaim.{Beat, polled, after_ticks, at_every_instant, at_deadlines}
@@ -103,8 +106,46 @@ on_channel = made (call (Call.launched (Ok tt)))
 pub channel_idle : AllIdle (Step.opened channel 0 (zeros 16) []) on_channel
     × (answers_of (amid (Step.opened channel 0 (zeros 16) []) on_channel)
     ≡ Call.Ok ∷ Call.Applied ∷ Call.Taken 3 ∷ Call.Says (Call.Credit 8) ∷ Call.Says Call.Started ∷ Call.Says (Call.Output Stdout (97 ∷ 98 ∷ 99 ∷ [])) ∷ [])
-unfolding Step.next Step.answer next_entry answer_entry Calls.«open» Calls.launched Calls.output Calls.tick Calls.deadline Calls.next_message Calls.credit Range.fresh Range.stop Range.in_range output_fits bytes_with admits cost wrap ring_read ring_from ring_write copied if_else order Life.pass_grace Life.pass_timeout Life.pass_settlement Life.pass_give_up Life.pass_abandonment Life.fire Life.ticked Life.deadline_of Life.note_started Life.note_launch Life.launched_next Life.is_ready Life.outcome_of Message.sendable_of Message.choose Message.output_paid Message.output_sent Message.effect Message.payload Message.buffer_after Message.said_for Streams.output_taken Streams.output_next Streams.output_store Streams.output_took Streams.credit_in Streams.credit_answer Streams.credit_next number_at be32_at Channel.admitted Channel.made Channel.parsed_read Channel.admitted_read Channel.read_record Channel.sent_as Channel.sent_buffer Channel.wrote Channel.wrote_buffer Channel.told Channel.asked Channel.is_left Channel.sent Channel.roomy_write Channel.admitted_write Channel.write_record Codec.header Codec.bytes_of Codec.laid_record Codec.kinded Codec.fitting Codec.checked Codec.read
+unfolding Step.next Step.answer next_entry answer_entry Calls.«open» Calls.launched Calls.output Calls.tick Calls.deadline Calls.next_message Calls.credit Range.fresh Range.stop Range.in_range output_fits bytes_with admits cost wrap ring_read ring_from ring_write copied if_else order Life.pass_grace Life.pass_timeout Life.pass_settlement Life.pass_give_up Life.pass_abandonment Life.fire Life.ticked Life.deadline_of Life.note_started Life.note_launch Life.launched_next Life.is_ready Life.outcome_of Message.sendable_of Message.choose Message.output_paid Message.output_sent Message.effect Message.payload Message.buffer_after Message.said_for Streams.output_taken Streams.output_next Streams.output_store Streams.output_took Streams.credit_in Streams.credit_answer Streams.credit_next number_at be32_at Carrier.admitted Carrier.accepted Carrier.readied Carrier.written Carrier.asked Carrier.wrote Carrier.wrote_buffer Carrier.told Carrier.sent Carrier.write Channel.made Channel.parsed_read Channel.read_record Channel.sent_as Channel.sent_buffer Channel.is_left Channel.write_record Codec.header Codec.bytes_of Codec.laid_record Codec.kinded Codec.fitting Codec.checked Codec.read
 channel_idle = ((refl, (refl, (refl, tt))), refl)
+
+-- and as frames on the streams 1 and 3: WINDOW_UPDATE of a byte, DATA on stderr's stream, and RST_STREAM read, and what is written into
+-- 43 bytes; the reset is at 4, and give-up at 7, a settlement time later
+abbrev update : List ℕ
+update = 0 ∷ 0 ∷ 4 ∷ 8 ∷ 0 ∷ 0 ∷ 0 ∷ 0 ∷ 1 ∷ 0 ∷ 0 ∷ 0 ∷ 1 ∷ []
+
+abbrev outbound : List ℕ
+outbound = 0 ∷ 0 ∷ 1 ∷ 0 ∷ 1 ∷ 0 ∷ 0 ∷ 0 ∷ 3 ∷ 120 ∷ []
+
+abbrev reset : List ℕ
+reset = 0 ∷ 0 ∷ 4 ∷ 3 ∷ 0 ∷ 0 ∷ 0 ∷ 0 ∷ 3 ∷ 0 ∷ 0 ∷ 0 ∷ 8 ∷ []
+
+abbrev framed : Entry
+framed = write_frame 1 (zeros 43)
+
+abbrev in_frames : List Woven
+in_frames = made (call (Call.launched (Ok tt)))
+    ∷ made (read_frame 0 1 update)
+    ∷ idle 9
+    ∷ made (call (Call.output Stdout (97 ∷ [])))
+    ∷ made framed
+    ∷ made (read_frame 0 1 outbound)
+    ∷ idle 3
+    ∷ made framed
+    ∷ made framed
+    ∷ made (read_frame 4 1 reset)
+    ∷ idle 6
+    ∷ made (call Call.deadline)
+    ∷ made (call Call.next_request)
+    ∷ made framed
+    ∷ []
+
+pub frames_idle : AllIdle (begins short) in_frames
+    × (answers_of (amid (begins short) in_frames)
+    ≡ Call.Ok ∷ Call.Applied ∷ Call.Taken 1 ∷ Call.Says (Call.Credit 1) ∷ Call.Refused 43 ∷ Call.Says Call.Started ∷ Call.Says (Call.Output Stdout (97 ∷ []))
+    ∷ Call.Ok ∷ Call.Time (Some 7) ∷ Call.Asks (Call.Terminate Cause.Reset) ∷ Call.Nothing ∷ [])
+unfolding Step.next Step.answer next_entry answer_entry Calls.«open» Calls.launched Calls.output Calls.tick Calls.deadline Calls.next_message Calls.credit Range.fresh Range.stop Range.in_range output_fits bytes_with admits cost wrap ring_read ring_from ring_write copied if_else order Life.pass_grace Life.pass_timeout Life.pass_settlement Life.pass_give_up Life.pass_abandonment Life.fire Life.ticked Life.deadline_of Life.note_started Life.note_launch Life.launched_next Life.is_ready Life.outcome_of Message.sendable_of Message.choose Message.output_paid Message.output_sent Message.effect Message.payload Message.buffer_after Message.said_for Streams.output_taken Streams.output_next Streams.output_store Streams.output_took Streams.credit_in Streams.credit_answer Streams.credit_next number_at be32_at Carrier.admitted Carrier.accepted Carrier.readied Carrier.written Carrier.asked Carrier.wrote Carrier.wrote_buffer Carrier.told Carrier.sent Carrier.write Calls.next_request Calls.reset Life.close_runner_input Life.end_grace Life.begin_termination Life.terminate Life.silenced Life.give_up_soon Life.cut_off Life.cut_off_once Life.detach_next Message.wish_for Message.wish Message.wish_effect be24_at Framing.number31_at Framing.is_whole Framing.stream_of Framing.data_in Framing.of_four Framing.kinded Framing.on_stream Framing.read Framing.header Framing.bytes_of Frames.made Frames.parsed_read Frames.read_frame Frames.sent_as Frames.laid Frames.write_frame
+frames_idle = ((refl, (refl, (refl, tt))), refl)
 
 -- ---- what a tick put in may move: two timers that no answer shows, so that the two runs do not end in the same state
 
