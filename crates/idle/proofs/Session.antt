@@ -5,6 +5,7 @@ use mathlib.Core.Path.{◌≡◌, refl, sym, ◌∙◌, ap}
 use mathlib.Core.List.{List, [], ◌∷◌, map}
 use Prim.Native.Nat.{ℕ}
 use Rattle.exec.specs.declared.Cause.TheVariants as Cause
+use Rattle.exec.specs.declared.Outcome.{Outcome}
 use Rattle.exec.specs.declared.Settlement as Settlements
 use Rattle.exec.specs.declared.Settlement.TheVariants as Settlement
 use Rattle.exec.specs.declared.Stream.TheVariants.{Stdout, Stderr}
@@ -140,12 +141,16 @@ in_frames = made (call (Call.launched (Ok tt)))
     ∷ made framed
     ∷ []
 
-pub frames_idle : AllIdle (begins short) in_frames
-    × (answers_of (amid (begins short) in_frames)
-    ≡ Call.Ok ∷ Call.Applied ∷ Call.Taken 1 ∷ Call.Says (Call.Credit 1) ∷ Call.Refused 43 ∷ Call.Says Call.Started ∷ Call.Says (Call.Output Stdout (97 ∷ []))
-    ∷ Call.Ok ∷ Call.Time (Some 7) ∷ Call.Asks (Call.Terminate Cause.Reset) ∷ Call.Nothing ∷ [])
+abbrev in_frames_heard : List Answer
+in_frames_heard = Call.Ok ∷ Call.Applied ∷ Call.Taken 1 ∷ Call.Says (Call.Credit 1) ∷ Call.Refused 43 ∷ Call.Says Call.Started ∷ Call.Says (Call.Output Stdout (97 ∷ []))
+    ∷ Call.Ok ∷ Call.Time (Some 7) ∷ Call.Asks (Call.Terminate Cause.Reset) ∷ Call.Nothing ∷ []
+
+pub frames_idle : AllIdle (begins short) in_frames × (answers_of (amid (begins short) in_frames) ≡ in_frames_heard)
 unfolding Step.next Step.answer next_entry answer_entry Calls.«open» Calls.launched Calls.output Calls.tick Calls.deadline Calls.next_message Calls.credit Range.fresh Range.stop Range.in_range output_fits bytes_with admits cost wrap ring_read ring_from ring_write copied if_else order Life.pass_grace Life.pass_timeout Life.pass_settlement Life.pass_give_up Life.pass_abandonment Life.fire Life.ticked Life.deadline_of Life.note_started Life.note_launch Life.launched_next Life.is_ready Life.outcome_of Message.sendable_of Message.choose Message.output_paid Message.output_sent Message.effect Message.payload Message.buffer_after Message.said_for Streams.output_taken Streams.output_next Streams.output_store Streams.output_took Streams.credit_in Streams.credit_answer Streams.credit_next number_at be32_at Carrier.admitted Carrier.accepted Carrier.readied Carrier.written Carrier.asked Carrier.wrote Carrier.wrote_buffer Carrier.told Carrier.sent Carrier.write Calls.next_request Calls.reset Life.close_runner_input Life.end_grace Life.begin_termination Life.terminate Life.silenced Life.give_up_soon Life.cut_off Life.cut_off_once Life.detach_next Message.wish_for Message.wish Message.wish_effect be24_at Framing.number31_at Framing.is_whole Framing.stream_of Framing.data_in Framing.of_four Framing.kinded Framing.on_stream Framing.read Framing.header Framing.bytes_of Frames.made Frames.parsed_read Frames.read_frame Frames.sent_as Frames.laid Frames.write_frame
 frames_idle = ((refl, (refl, (refl, tt))), refl)
+
+pub frames_alone : answers_of (run_entries (begins short) (alone in_frames)) ≡ in_frames_heard
+frames_alone = ap answers_of (sym ((idle_ticks short 0 (0 ∷ 0 ∷ 0 ∷ []) []).answers in_frames frames_idle.0)) ∙ frames_idle.1
 
 -- ---- what a tick put in may move: two timers that no answer shows, so that the two runs do not end in the same state
 
@@ -156,6 +161,32 @@ ended result ws = made (call (Call.launched (Ok tt)))
     ∷ made (call (Call.output_closed Stdout))
     ∷ made (call (Call.output_closed Stderr))
     ∷ ws
+
+-- each message written as frames; and behind Terminal DATA of a byte that ends the input: two calls, each late
+abbrev last_data : List ℕ
+last_data = 0 ∷ 0 ∷ 1 ∷ 0 ∷ 1 ∷ 0 ∷ 0 ∷ 0 ∷ 1 ∷ 120 ∷ []
+
+abbrev told_in_frames : List Woven
+told_in_frames = ended Settlement.Settled (idle 0
+    ∷ made framed
+    ∷ made framed
+    ∷ idle 1000
+    ∷ made framed
+    ∷ made framed
+    ∷ made framed
+    ∷ idle 1000
+    ∷ made (read_frame 1000 1 last_data)
+    ∷ [])
+
+abbrev whole : Outcome
+whole = record { status = None; cause = None; launch_failure = None; stdout_truncated = false; stderr_truncated = false; reusable = true }
+
+pub told_idle : AllIdle (begins none) told_in_frames
+    × (answers_of (amid (begins none) told_in_frames)
+    ≡ Call.Ok ∷ Call.Ok ∷ Call.Ok ∷ Call.Ok ∷ Call.Ok
+    ∷ Call.Says Call.Started ∷ Call.Says Call.InputClosed ∷ Call.Says (Call.End Stdout) ∷ Call.Says (Call.End Stderr) ∷ Call.Says (Call.Terminal whole) ∷ Call.Late ∷ [])
+unfolding Step.next Step.answer next_entry answer_entry Calls.«open» Calls.launched Calls.tick Calls.deadline Calls.next_message Range.fresh Range.stop Range.in_range output_fits bytes_with admits wrap ring_read ring_from ring_write copied if_else order Life.pass_grace Life.pass_timeout Life.pass_settlement Life.pass_give_up Life.pass_abandonment Life.fire Life.ticked Life.deadline_of Life.note_started Life.note_launch Life.launched_next Life.is_ready Life.outcome_of Message.sendable_of Message.choose Message.output_paid Message.output_sent Message.effect Message.payload Message.buffer_after Message.said_for number_at be32_at Carrier.admitted Carrier.accepted Carrier.readied Carrier.written Carrier.asked Carrier.wrote Carrier.wrote_buffer Carrier.told Carrier.sent Carrier.write Life.close_runner_input Life.end_grace Life.begin_termination Life.terminate be24_at Framing.number31_at Framing.is_whole Framing.stream_of Framing.data_in Framing.kinded Framing.on_stream Framing.read Framing.header Framing.bytes_of Frames.made Frames.parsed_read Frames.read_frame Frames.sent_as Frames.laid Frames.write_frame Calls.exited Calls.settled Calls.output_closed Calls.input Calls.end_input Life.drop_launch Life.drop_streams Life.note_exit Life.note_exit_once Life.exited_next Life.settled_next Streams.closed_next Streams.received Streams.input_answer Streams.input_next Streams.input_store Streams.input_lengths Streams.end_answer Frames.then_end Frames.data_made
+told_idle = ((refl, (refl, (refl, tt))), refl)
 
 -- an abandonment that finds nothing to abandon
 abbrev fenced : List Woven
