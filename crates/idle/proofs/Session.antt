@@ -145,12 +145,13 @@ abbrev in_frames_heard : List Answer
 in_frames_heard = Call.Ok ∷ Call.Applied ∷ Call.Taken 1 ∷ Call.Says (Call.Credit 1) ∷ Call.Refused 43 ∷ Call.Says Call.Started ∷ Call.Says (Call.Output Stdout (97 ∷ []))
     ∷ Call.Ok ∷ Call.Time (Some 7) ∷ Call.Asks (Call.Terminate Cause.Reset) ∷ Call.Nothing ∷ []
 
-pub frames_idle : AllIdle (begins short) in_frames × (answers_of (amid (begins short) in_frames) ≡ in_frames_heard)
+-- with the ticks and, by the claim, without
+pub frames_idle : AllIdle (begins short) in_frames
+    × (answers_of (amid (begins short) in_frames) ≡ in_frames_heard)
+    × (answers_of (run_entries (begins short) (alone in_frames)) ≡ in_frames_heard)
 unfolding Step.next Step.answer next_entry answer_entry Calls.«open» Calls.launched Calls.output Calls.tick Calls.deadline Calls.next_message Calls.credit Range.fresh Range.stop Range.in_range output_fits bytes_with admits cost wrap ring_read ring_from ring_write copied if_else order Life.pass_grace Life.pass_timeout Life.pass_settlement Life.pass_give_up Life.pass_abandonment Life.fire Life.ticked Life.deadline_of Life.note_started Life.note_launch Life.launched_next Life.is_ready Life.outcome_of Message.sendable_of Message.choose Message.output_paid Message.output_sent Message.effect Message.payload Message.buffer_after Message.said_for Streams.output_taken Streams.output_next Streams.output_store Streams.output_took Streams.credit_in Streams.credit_answer Streams.credit_next number_at be32_at Carrier.admitted Carrier.accepted Carrier.readied Carrier.written Carrier.asked Carrier.wrote Carrier.wrote_buffer Carrier.told Carrier.sent Carrier.write Calls.next_request Calls.reset Life.close_runner_input Life.end_grace Life.begin_termination Life.terminate Life.silenced Life.give_up_soon Life.cut_off Life.cut_off_once Life.detach_next Message.wish_for Message.wish Message.wish_effect be24_at Framing.number31_at Framing.is_whole Framing.stream_of Framing.data_in Framing.of_four Framing.kinded Framing.on_stream Framing.read Framing.header Framing.bytes_of Frames.made Frames.parsed_read Frames.read_frame Frames.sent_as Frames.laid Frames.write_frame
-frames_idle = ((refl, (refl, (refl, tt))), refl)
-
-pub frames_alone : answers_of (run_entries (begins short) (alone in_frames)) ≡ in_frames_heard
-frames_alone = ap answers_of (sym ((idle_ticks short 0 (0 ∷ 0 ∷ 0 ∷ []) []).answers in_frames frames_idle.0)) ∙ frames_idle.1
+frames_idle =
+    let a : AllIdle (begins short) in_frames = (refl, (refl, (refl, tt))) in (a, refl, ap answers_of (sym ((idle_ticks short 0 (0 ∷ 0 ∷ 0 ∷ []) []).answers in_frames a)))
 
 -- ---- what a tick put in may move: two timers that no answer shows, so that the two runs do not end in the same state
 
