@@ -300,3 +300,12 @@ computed = record {
 pub at_instants : answers_of (amid (begins short) (polled (at_every_instant (seen [] 100)))) ≡ told (10 ∷ 15 ∷ 18 ∷ []) 100
 at_instants =
     ap answers_of (sym ((polls short 0 (0 ∷ 0 ∷ 0 ∷ []) []).both (seen [] 100))) ∙ ap (λ (bs : List Beat). answers_of (amid (begins short) (polled bs))) computed.deadlines
+
+-- ---- a deadline that a frame sets: RST_STREAM read at 4, give-up at 7, however late the clock
+
+abbrev cut : List ℕ → List Beat
+cut ticks = record { ticks = []; clock = 4; entry = read_frame 4 1 reset } ∷ record { ticks = ticks; clock = 100; entry = framed } ∷ []
+
+pub cut_due : at_deadlines (begins short) (cut []) ≡ cut (7 ∷ [])
+unfolding Step.next Step.answer next_entry Calls.«open» Calls.tick Calls.deadline Calls.reset Range.fresh Range.stop Range.in_range output_fits bytes_with Life.close_runner_input Life.end_grace Life.give_up Life.abandon_launch Life.abandon_open_streams Life.begin_termination Life.terminate Life.pass_grace Life.pass_timeout Life.pass_settlement Life.give_up_unless_clean Life.pass_give_up Life.drop_launch Life.drop_streams Life.pass_abandonment Life.fire Life.ticked Life.deadline_of Life.silenced Life.give_up_soon Life.cut_off Life.cut_off_once Life.detach_next number_at be32_at be24_at Carrier.admitted Carrier.accepted Framing.number31_at Framing.is_whole Framing.stream_of Framing.of_four Framing.kinded Framing.on_stream Framing.read Frames.made Frames.parsed_read Frames.read_frame
+cut_due = refl
