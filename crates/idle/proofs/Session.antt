@@ -149,7 +149,7 @@ in_frames_heard = Call.Ok ∷ Call.Applied ∷ Call.Taken 1 ∷ Call.Says (Call.
 pub frames_idle : AllIdle (begins short) in_frames
     × (answers_of (amid (begins short) in_frames) ≡ in_frames_heard)
     × (answers_of (run_entries (begins short) (alone in_frames)) ≡ in_frames_heard)
-unfolding Step.next Step.answer next_entry answer_entry Calls.«open» Calls.launched Calls.output Calls.tick Calls.deadline Calls.next_message Calls.credit Range.fresh Range.stop Range.in_range output_fits bytes_with admits cost wrap ring_read ring_from ring_write copied if_else order Life.pass_grace Life.pass_timeout Life.pass_settlement Life.pass_give_up Life.pass_abandonment Life.fire Life.ticked Life.deadline_of Life.note_started Life.note_launch Life.launched_next Life.is_ready Life.outcome_of Message.sendable_of Message.choose Message.output_paid Message.output_sent Message.effect Message.payload Message.buffer_after Message.said_for Streams.output_taken Streams.output_next Streams.output_store Streams.output_took Streams.credit_in Streams.credit_answer Streams.credit_next number_at be32_at Carrier.admitted Carrier.accepted Carrier.readied Carrier.written Carrier.asked Carrier.wrote Carrier.wrote_buffer Carrier.told Carrier.sent Carrier.write Calls.next_request Calls.reset Life.close_runner_input Life.end_grace Life.begin_termination Life.terminate Life.silenced Life.give_up_soon Life.cut_off Life.cut_off_once Life.detach_next Message.wish_for Message.wish Message.wish_effect be24_at Framing.number31_at Framing.is_whole Framing.stream_of Framing.data_in Framing.of_four Framing.kinded Framing.on_stream Framing.read Framing.header Framing.bytes_of Frames.made Frames.parsed_read Frames.read_frame Frames.sent_as Frames.laid Frames.write_frame
+unfolding Step.next Step.answer next_entry answer_entry Calls.«open» Calls.launched Calls.output Calls.tick Calls.deadline Calls.next_message Calls.credit Range.fresh Range.stop Range.in_range output_fits bytes_with admits cost wrap ring_read ring_from ring_write copied if_else order Life.pass_grace Life.pass_timeout Life.pass_settlement Life.pass_give_up Life.pass_abandonment Life.fire Life.ticked Life.deadline_of Life.note_started Life.note_launch Life.launched_next Life.is_ready Message.sendable_of Message.choose Message.output_paid Message.output_sent Message.effect Message.payload Message.buffer_after Message.said_for Streams.output_taken Streams.output_next Streams.output_store Streams.output_took Streams.credit_in Streams.credit_answer Streams.credit_next number_at be32_at Carrier.admitted Carrier.accepted Carrier.readied Carrier.written Carrier.asked Carrier.wrote Carrier.wrote_buffer Carrier.told Carrier.sent Carrier.write Calls.next_request Calls.reset Life.end_grace Life.begin_termination Life.terminate Life.silenced Life.give_up_soon Life.cut_off Life.cut_off_once Life.detach_next Message.wish_for Message.wish Message.wish_effect be24_at Framing.number31_at Framing.is_whole Framing.stream_of Framing.data_in Framing.of_four Framing.kinded Framing.on_stream Framing.read Framing.header Framing.bytes_of Frames.made Frames.parsed_read Frames.read_frame Frames.sent_as Frames.laid Frames.write_frame
 frames_idle =
     let a : AllIdle (begins short) in_frames = (refl, (refl, (refl, tt))) in (a, refl, ap answers_of (sym ((idle_ticks short 0 (0 ∷ 0 ∷ 0 ∷ []) []).answers in_frames a)))
 
@@ -186,7 +186,7 @@ pub told_idle : AllIdle (begins none) told_in_frames
     × (answers_of (amid (begins none) told_in_frames)
     ≡ Call.Ok ∷ Call.Ok ∷ Call.Ok ∷ Call.Ok ∷ Call.Ok
     ∷ Call.Says Call.Started ∷ Call.Says Call.InputClosed ∷ Call.Says (Call.End Stdout) ∷ Call.Says (Call.End Stderr) ∷ Call.Says (Call.Terminal whole) ∷ Call.Late ∷ [])
-unfolding Step.next Step.answer next_entry answer_entry Calls.«open» Calls.launched Calls.tick Calls.deadline Calls.next_message Range.fresh Range.stop Range.in_range output_fits bytes_with admits wrap ring_read ring_from ring_write copied if_else order Life.pass_grace Life.pass_timeout Life.pass_settlement Life.pass_give_up Life.pass_abandonment Life.fire Life.ticked Life.deadline_of Life.note_started Life.note_launch Life.launched_next Life.is_ready Life.outcome_of Message.sendable_of Message.choose Message.output_paid Message.output_sent Message.effect Message.payload Message.buffer_after Message.said_for number_at be32_at Carrier.admitted Carrier.accepted Carrier.readied Carrier.written Carrier.asked Carrier.wrote Carrier.wrote_buffer Carrier.told Carrier.sent Carrier.write Life.close_runner_input Life.end_grace Life.begin_termination Life.terminate be24_at Framing.number31_at Framing.is_whole Framing.stream_of Framing.data_in Framing.kinded Framing.on_stream Framing.read Framing.header Framing.bytes_of Frames.made Frames.parsed_read Frames.read_frame Frames.sent_as Frames.laid Frames.write_frame Calls.exited Calls.settled Calls.output_closed Calls.input Calls.end_input Life.drop_launch Life.drop_streams Life.note_exit Life.note_exit_once Life.exited_next Life.settled_next Streams.closed_next Streams.received Streams.input_answer Streams.input_next Streams.input_store Streams.input_lengths Streams.end_answer Frames.then_end Frames.data_made
+unfolding Step.next Step.answer next_entry answer_entry Calls.«open» Calls.launched Calls.tick Calls.deadline Calls.next_message Range.fresh Range.stop Range.in_range output_fits bytes_with admits if_else order Life.pass_grace Life.pass_timeout Life.pass_settlement Life.pass_give_up Life.pass_abandonment Life.fire Life.ticked Life.deadline_of Life.note_started Life.note_launch Life.launched_next Life.is_ready Life.outcome_of Message.sendable_of Message.choose Message.effect Message.said_for number_at be32_at Carrier.admitted Carrier.accepted Carrier.readied Carrier.written Carrier.asked Carrier.wrote Carrier.told Carrier.sent Carrier.write Life.close_runner_input be24_at Framing.number31_at Framing.is_whole Framing.stream_of Framing.data_in Framing.kinded Framing.on_stream Framing.read Frames.made Frames.parsed_read Frames.read_frame Frames.sent_as Frames.write_frame Calls.exited Calls.settled Calls.output_closed Calls.input Calls.end_input Life.drop_launch Life.drop_streams Life.note_exit Life.note_exit_once Life.exited_next Life.settled_next Streams.closed_next Streams.received Streams.input_answer Streams.input_next Streams.end_answer Frames.then_end Frames.data_made
 told_idle = ((refl, (refl, (refl, tt))), refl)
 
 -- an abandonment that finds nothing to abandon
@@ -307,5 +307,5 @@ abbrev cut : List ℕ → List Beat
 cut ticks = record { ticks = []; clock = 4; entry = read_frame 4 1 reset } ∷ record { ticks = ticks; clock = 100; entry = framed } ∷ []
 
 pub cut_due : at_deadlines (begins short) (cut []) ≡ cut (7 ∷ [])
-unfolding Step.next Step.answer next_entry Calls.«open» Calls.tick Calls.deadline Calls.reset Range.fresh Range.stop Range.in_range output_fits bytes_with Life.close_runner_input Life.end_grace Life.give_up Life.abandon_launch Life.abandon_open_streams Life.begin_termination Life.terminate Life.pass_grace Life.pass_timeout Life.pass_settlement Life.give_up_unless_clean Life.pass_give_up Life.drop_launch Life.drop_streams Life.pass_abandonment Life.fire Life.ticked Life.deadline_of Life.silenced Life.give_up_soon Life.cut_off Life.cut_off_once Life.detach_next number_at be32_at be24_at Carrier.admitted Carrier.accepted Framing.number31_at Framing.is_whole Framing.stream_of Framing.of_four Framing.kinded Framing.on_stream Framing.read Frames.made Frames.parsed_read Frames.read_frame
+unfolding Step.next Step.answer next_entry Calls.«open» Calls.tick Calls.deadline Calls.reset Range.fresh Range.stop Range.in_range output_fits bytes_with Life.end_grace Life.give_up Life.begin_termination Life.terminate Life.pass_grace Life.pass_timeout Life.pass_settlement Life.give_up_unless_clean Life.pass_give_up Life.pass_abandonment Life.fire Life.ticked Life.deadline_of Life.silenced Life.give_up_soon Life.cut_off Life.cut_off_once Life.detach_next number_at be32_at be24_at Carrier.admitted Carrier.accepted Framing.number31_at Framing.is_whole Framing.stream_of Framing.of_four Framing.kinded Framing.on_stream Framing.read Frames.made Frames.parsed_read Frames.read_frame
 cut_due = refl
