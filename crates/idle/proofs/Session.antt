@@ -26,6 +26,7 @@ use Rattle.carrier.specs.Carrier as Carrier
 use Rattle.channel.specs.Calls as Channel
 use Rattle.framing.specs.Framing as Framing
 use Rattle.frames.specs.Calls as Frames
+use Rattle.input.specs.Input as Input
 use Rattle.calls.specs.Call as Call
 use Rattle.calls.specs.Call.{Conf, Call, Answer}
 use Rattle.account.specs.Step as Step
@@ -153,6 +154,28 @@ unfolding Step.next Step.answer next_entry answer_entry Calls.«open» Calls.lau
 frames_idle =
     let a : AllIdle (begins short) in_frames = (refl, (refl, (refl, tt))) in (a, refl, ap answers_of (sym ((idle_ticks short 0 (0 ∷ 0 ∷ 0 ∷ []) []).answers in_frames a)))
 
+abbrev last_data : List ℕ
+last_data = 0 ∷ 0 ∷ 1 ∷ 0 ∷ 1 ∷ 0 ∷ 0 ∷ 0 ∷ 1 ∷ 120 ∷ []
+
+-- DATA that ends the input, which is two calls at one instant: the byte is taken, and more is refused
+abbrev ending_data : List Woven
+ending_data = made (call (Call.launched (Ok tt)))
+    ∷ made framed
+    ∷ idle 9
+    ∷ made (read_frame 0 1 last_data)
+    ∷ idle 9
+    ∷ made (read_frame 0 1 last_data)
+    ∷ made (call (Call.input_written 1))
+    ∷ idle 3
+    ∷ made framed
+    ∷ []
+
+pub data_idle : AllIdle (begins short) ending_data
+    × (answers_of (amid (begins short) ending_data)
+    ≡ Call.Ok ∷ Call.Says (Call.Credit 1) ∷ Call.Applied ∷ Call.Refused 6 ∷ Call.Came 0 ∷ Call.Says Call.Started ∷ [])
+unfolding Step.next Step.answer next_entry answer_entry Calls.«open» Calls.launched Calls.tick Calls.deadline Calls.next_message Range.fresh Range.stop Range.in_range output_fits bytes_with admits cost wrap ring_read ring_from ring_write copied if_else order Life.pass_grace Life.pass_timeout Life.pass_settlement Life.pass_give_up Life.pass_abandonment Life.fire Life.ticked Life.deadline_of Life.note_started Life.note_launch Life.launched_next Life.is_ready Message.sendable_of Message.choose Message.effect Message.said_for number_at be32_at Carrier.admitted Carrier.accepted Carrier.readied Carrier.written Carrier.asked Carrier.wrote Carrier.told Carrier.sent Carrier.write be24_at Framing.number31_at Framing.is_whole Framing.stream_of Framing.data_in Framing.kinded Framing.on_stream Framing.read Frames.made Frames.parsed_read Frames.read_frame Frames.sent_as Frames.write_frame Calls.input Calls.end_input Calls.input_written Streams.received Streams.input_answer Streams.input_next Streams.input_store Streams.input_lengths Streams.end_answer Streams.end_next Streams.written_next Streams.written_came Streams.written_lengths Input.receive_answer Input.receive_input Input.receive_bytes Input.receive_lengths Input.end_answer Input.end_input Input.written_input Input.written_came Frames.then_end Frames.data_made
+data_idle = ((refl, (refl, (refl, tt))), refl)
+
 -- ---- what a tick put in may move: two timers that no answer shows, so that the two runs do not end in the same state
 
 abbrev ended : Settlements.Settlement → List Woven → List Woven
@@ -164,9 +187,6 @@ ended result ws = made (call (Call.launched (Ok tt)))
     ∷ ws
 
 -- each message written as frames; and behind Terminal DATA of a byte that ends the input: two calls, each late
-abbrev last_data : List ℕ
-last_data = 0 ∷ 0 ∷ 1 ∷ 0 ∷ 1 ∷ 0 ∷ 0 ∷ 0 ∷ 1 ∷ 120 ∷ []
-
 abbrev told_in_frames : List Woven
 told_in_frames = ended Settlement.Settled (idle 0
     ∷ made framed
