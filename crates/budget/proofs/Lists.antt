@@ -99,7 +99,7 @@ module _ (conf : Conf) (now : ℕ) (bytes lengths : List ℕ) (op : Opens conf n
   abbrev calls : List Entry → List Call
   calls es = calls_of conf (run_entries o es)
 
-  -- a list with records is the list of its calls
+  -- a list with records, or RFC 9113's frames, is the list of its calls
   after_is : (es : List Entry) → after_entries o es ≡ after_all plain (calls es)
   after_is es = to_calls conf now bytes lengths op es ∙ same_after conf now bytes lengths op (calls es)
 

@@ -1,5 +1,5 @@
 -- What a write of the workload's input costs: how many frames its pop comes to with bytes still to take, as its answer tells: in one
--- call, whatever the state, and over every list of calls and records.
+-- call, whatever the state, and over every list of calls, records and RFC 9113's frames.
 use Rattle.std.specs.Prelude.{true, false, cond, ◌≡◌, List, [], ◌∷◌, ◌++◌, ℕ, ◌+◌, ◌-◌, ◌≤◌, min, eqb, length}
 use Rattle.exec.specs.declared.Limits.{Limits}
 use Rattle.exec.specs.declared.Unit.TheVariants.{Bytes, Frames}
@@ -68,7 +68,8 @@ abbrev pub left : List ℕ → List Done → List ℕ
 left fs [] = fs
 left fs (d ∷ ds) = left (left_by d.call d.answer fs) ds
 
--- THE BUDGET, for a runner that open answered ok, stores of any content, and every list of calls and records
+-- THE BUDGET, for a runner that open answered ok, stores of any content, and every list of calls, records and
+-- RFC 9113's frames, which an input in frames refuses (42)
 pub record Budget (conf : Conf) (now : ℕ) (bytes lengths : List ℕ) : Type 0 where
   -- EXACTLY: of an open input in frames, the number is `came_of` the frames that wait, for the bytes taken, n or all that wait: how many
   -- of them have fewer bytes than these before them (`came_before` and `came_all` of the ring)

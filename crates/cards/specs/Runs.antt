@@ -32,7 +32,7 @@ abbrev pub dones_of : List Line → List Done
 dones_of [] = []
 dones_of (l ∷ ls) = alike l.answer (made_of l.call) ++ dones_of ls
 
--- and as entries of a list of calls and records
+-- and as entries of a list of calls, records and frames
 abbrev pub entries_of : List Done → List EntryDone
 entries_of [] = []
 entries_of (d ∷ ds) = record { entry = call d.call; answer = d.answer } ∷ entries_of ds

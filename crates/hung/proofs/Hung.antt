@@ -226,7 +226,7 @@ plain conf now bytes lengths cs ds es d t n e l u below m v =
     either_part cs (Call.tick t ∷ (ds ++ (Call.tick n ∷ es))) o (live_open conf now bytes lengths)
     (λ f. from_tick conf d t below n ds es (after_all o cs) f after l (held_list conf d t below cs o opened u (left (waits_open conf now d bytes lengths e))) m v)
 
--- THE TIMEOUT ENDS A PROGRAM THAT HANGS, for a runner that open answered ok, stores of any content, and every list of calls and records
+-- THE TIMEOUT ENDS A PROGRAM THAT HANGS, for a runner that open answered ok, stores of any content, and every list of calls, records and frames
 pub hung : (conf : Conf) (now : ℕ) (bytes lengths : List ℕ) → Opens conf now bytes lengths → Hung conf now bytes lengths
 unfolding made
 hung conf now bytes lengths op cs ds es d t n e l u below m v =

@@ -18,7 +18,7 @@ abbrev pub Unended : ℕ → List Call → Type 0
 Unended t [] = Unit
 Unended t (c ∷ cs) = RunsOn t c × Unended t cs
 
--- THE TIMEOUT ENDS A PROGRAM THAT HANGS: cs is called before the tick at t, ds up to the tick at n, es after it; each holds calls and records
+-- THE TIMEOUT ENDS A PROGRAM THAT HANGS: cs is called before the tick at t, ds up to the tick at n, es after it; each holds calls, records and frames
 abbrev pub Hung : Conf → ℕ → (bytes lengths : List ℕ) → Type 0
 Hung conf now bytes lengths =
     (cs ds es : List Entry) (d t n : ℕ)

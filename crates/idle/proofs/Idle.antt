@@ -17,10 +17,10 @@ use Rattle.calls.specs.Call as Call
 use Rattle.calls.specs.Call.{Conf, Answer}
 use Rattle.account.specs.Step.{State, on_runner, next, answer, opened, fires}
 use Rattle.account.specs.Records.{Entry, EntryDone, call, next_entry, answer_entry, after_entries, run_entries}
-use Rattle.idle.specs.IdleClaim.{Woven, made, idle, alone, woven, amid, deadline_in, reported, is_before, AllIdle, AllSpared, message_buffer, record_buffer, IdleTicks}
+use Rattle.idle.specs.IdleClaim.{Woven, made, idle, alone, woven, amid, deadline_in, reported, is_before, AllIdle, AllSpared, message_buffer, record_buffer, frame_buffer, IdleTicks}
 use Rattle.idle.proofs.Calm.{calm_s}
 use Rattle.idle.proofs.Calls.{message_sees}
-use Rattle.idle.proofs.Records.{record_sees, entry_sees}
+use Rattle.idle.proofs.Records.{record_sees, frames_see, entry_sees}
 use Rattle.idle.proofs.Ticks.{tick_idle, tick_later}
 
 -- ---- states that are alike
@@ -45,7 +45,11 @@ module _ (s t : State) (h : calm_s s ≡ calm_s t) where
 
   alike_record : (channel : ℕ) (buffer : List ℕ) → record_buffer s channel buffer ≡ record_buffer t channel buffer
   alike_record channel buffer =
-      sym (record_sees channel s.bytes buffer s.runner).buffer ∙ ap (λ (x : State). record_buffer x channel buffer) h ∙ (record_sees channel t.bytes buffer t.runner).buffer
+      sym (record_sees s.bytes buffer s.runner channel).buffer ∙ ap (λ (x : State). record_buffer x channel buffer) h ∙ (record_sees t.bytes buffer t.runner channel).buffer
+
+  alike_frame : (stream : ℕ) (buffer : List ℕ) → frame_buffer s stream buffer ≡ frame_buffer t stream buffer
+  alike_frame stream buffer =
+      sym (frames_see s.bytes buffer s.runner stream).buffer ∙ ap (λ (x : State). frame_buffer x stream buffer) h ∙ (frames_see t.bytes buffer t.runner stream).buffer
 
 -- ---- a tick
 
@@ -128,7 +132,9 @@ module _ (conf : Conf) (now : ℕ) (bytes lengths : List ℕ) where
   idle_ticks = record {
     answers = λ ws a. idle_answers ws begins begins refl a;
     stores = λ ws a. (ap (λ (x : State). x.bytes) (alike_ends ws a), ap (λ (x : State). x.lengths) (alike_ends ws a));
-    buffers = λ ws channel buffer a. (alike_message _ (after_entries begins (alone ws)) (alike_ends ws a) buffer, alike_record _ (after_entries begins (alone ws)) (alike_ends ws a) channel buffer);
+    buffers = λ ws channel stream buffer a.
+        let t = after_entries begins (alone ws) in let h = alike_ends ws a in
+        (alike_message _ t h buffer, alike_record _ t h channel buffer, alike_frame _ t h stream buffer);
     whose = λ ws. (spared_idle ws begins begins refl, idle_spared ws begins begins refl);
     sharp = λ es d t r l e. told_otherwise t d (after_entries begins es) l e;
   }

@@ -5,6 +5,7 @@ use mathlib.Core.Path.{◌≡◌, refl, sym, ◌∙◌, ap}
 use mathlib.Core.List.{List, [], ◌∷◌, map}
 use Prim.Native.Nat.{ℕ}
 use Rattle.exec.specs.declared.Cause.TheVariants as Cause
+use Rattle.exec.specs.declared.Outcome.{Outcome}
 use Rattle.exec.specs.declared.Settlement as Settlements
 use Rattle.exec.specs.declared.Settlement.TheVariants as Settlement
 use Rattle.exec.specs.declared.Stream.TheVariants.{Stdout, Stderr}
@@ -12,7 +13,7 @@ use Rattle.exec.specs.Key.{admits}
 use Rattle.exec.specs.Limits.{cost, bytes_with, bytes_window, limits_for}
 use Rattle.ring.specs.Ring.{wrap, ring_read, ring_from, ring_write}
 use Rattle.ring.specs.Runs.{copied}
-use Rattle.octets.specs.Bytes.{number_at, be32_at}
+use Rattle.octets.specs.Bytes.{number_at, be32_at, be24_at}
 use Rattle.choice.specs.Order.{if_else, order}
 use Rattle.output.specs.Output.{output_fits}
 use Rattle.codec.specs.Codec as Codec
@@ -21,12 +22,16 @@ use Rattle.runner.specs.Life as Life
 use Rattle.runner.specs.Message as Message
 use Rattle.runner.specs.Range as Range
 use Rattle.runner.specs.Streams as Streams
+use Rattle.carrier.specs.Carrier as Carrier
 use Rattle.channel.specs.Calls as Channel
+use Rattle.framing.specs.Framing as Framing
+use Rattle.frames.specs.Calls as Frames
+use Rattle.input.specs.Input as Input
 use Rattle.calls.specs.Call as Call
 use Rattle.calls.specs.Call.{Conf, Call, Answer}
 use Rattle.account.specs.Step as Step
 use Rattle.account.specs.Step.{State}
-use Rattle.account.specs.Records.{EntryDone, call, next_entry, answer_entry, after_entries, run_entries}
+use Rattle.account.specs.Records.{Entry, EntryDone, call, read_frame, write_frame, next_entry, answer_entry, after_entries, run_entries}
 use Rattle.account.proofs.TurnSession.{channel, zeros, written, adjust}
 use Rattle.idle.specs.IdleClaim.{Woven, made, idle, alone, woven, amid, AllIdle}
 use Rattle.idle.specs.PollClaim.{Beat, polled, after_ticks, at_every_instant, at_deadlines}
@@ -103,8 +108,73 @@ on_channel = made (call (Call.launched (Ok tt)))
 pub channel_idle : AllIdle (Step.opened channel 0 (zeros 16) []) on_channel
     × (answers_of (amid (Step.opened channel 0 (zeros 16) []) on_channel)
     ≡ Call.Ok ∷ Call.Applied ∷ Call.Taken 3 ∷ Call.Says (Call.Credit 8) ∷ Call.Says Call.Started ∷ Call.Says (Call.Output Stdout (97 ∷ 98 ∷ 99 ∷ [])) ∷ [])
-unfolding Step.next Step.answer next_entry answer_entry Calls.«open» Calls.launched Calls.output Calls.tick Calls.deadline Calls.next_message Calls.credit Range.fresh Range.stop Range.in_range output_fits bytes_with admits cost wrap ring_read ring_from ring_write copied if_else order Life.pass_grace Life.pass_timeout Life.pass_settlement Life.pass_give_up Life.pass_abandonment Life.fire Life.ticked Life.deadline_of Life.note_started Life.note_launch Life.launched_next Life.is_ready Life.outcome_of Message.sendable_of Message.choose Message.output_paid Message.output_sent Message.effect Message.payload Message.buffer_after Message.said_for Streams.output_taken Streams.output_next Streams.output_store Streams.output_took Streams.credit_in Streams.credit_answer Streams.credit_next number_at be32_at Channel.admitted Channel.made Channel.parsed_read Channel.admitted_read Channel.read_record Channel.sent_as Channel.sent_buffer Channel.wrote Channel.wrote_buffer Channel.told Channel.asked Channel.is_left Channel.sent Channel.roomy_write Channel.admitted_write Channel.write_record Codec.header Codec.bytes_of Codec.laid_record Codec.kinded Codec.fitting Codec.checked Codec.read
+unfolding Step.next Step.answer next_entry answer_entry Calls.«open» Calls.launched Calls.output Calls.tick Calls.deadline Calls.next_message Calls.credit Range.fresh Range.stop Range.in_range output_fits bytes_with admits cost wrap ring_read ring_from ring_write copied if_else order Life.pass_grace Life.pass_timeout Life.pass_settlement Life.pass_give_up Life.pass_abandonment Life.fire Life.ticked Life.deadline_of Life.note_started Life.note_launch Life.launched_next Life.is_ready Life.outcome_of Message.sendable_of Message.choose Message.output_paid Message.output_sent Message.effect Message.payload Message.buffer_after Message.said_for Streams.output_taken Streams.output_next Streams.output_store Streams.output_took Streams.credit_in Streams.credit_answer Streams.credit_next number_at be32_at Carrier.admitted Carrier.accepted Carrier.readied Carrier.written Carrier.asked Carrier.wrote Carrier.wrote_buffer Carrier.told Carrier.sent Carrier.write Channel.made Channel.parsed_read Channel.read_record Channel.sent_as Channel.sent_buffer Channel.is_left Channel.write_record Codec.header Codec.bytes_of Codec.laid_record Codec.kinded Codec.fitting Codec.checked Codec.read
 channel_idle = ((refl, (refl, (refl, tt))), refl)
+
+-- and as frames on the streams 1 and 3: WINDOW_UPDATE of a byte, DATA on stderr's stream, and RST_STREAM read, and what is written into
+-- 43 bytes; the reset is at 4, and give-up at 7, a settlement time later
+abbrev update : List ℕ
+update = 0 ∷ 0 ∷ 4 ∷ 8 ∷ 0 ∷ 0 ∷ 0 ∷ 0 ∷ 1 ∷ 0 ∷ 0 ∷ 0 ∷ 1 ∷ []
+
+abbrev outbound : List ℕ
+outbound = 0 ∷ 0 ∷ 1 ∷ 0 ∷ 1 ∷ 0 ∷ 0 ∷ 0 ∷ 3 ∷ 120 ∷ []
+
+abbrev reset : List ℕ
+reset = 0 ∷ 0 ∷ 4 ∷ 3 ∷ 0 ∷ 0 ∷ 0 ∷ 0 ∷ 3 ∷ 0 ∷ 0 ∷ 0 ∷ 8 ∷ []
+
+abbrev framed : Entry
+framed = write_frame 1 (zeros 43)
+
+abbrev in_frames : List Woven
+in_frames = made (call (Call.launched (Ok tt)))
+    ∷ made (read_frame 0 1 update)
+    ∷ idle 9
+    ∷ made (call (Call.output Stdout (97 ∷ [])))
+    ∷ made framed
+    ∷ made (read_frame 0 1 outbound)
+    ∷ idle 3
+    ∷ made framed
+    ∷ made framed
+    ∷ made (read_frame 4 1 reset)
+    ∷ idle 6
+    ∷ made (call Call.deadline)
+    ∷ made (call Call.next_request)
+    ∷ made framed
+    ∷ []
+
+abbrev in_frames_heard : List Answer
+in_frames_heard = Call.Ok ∷ Call.Applied ∷ Call.Taken 1 ∷ Call.Says (Call.Credit 1) ∷ Call.Refused 43 ∷ Call.Says Call.Started ∷ Call.Says (Call.Output Stdout (97 ∷ []))
+    ∷ Call.Ok ∷ Call.Time (Some 7) ∷ Call.Asks (Call.Terminate Cause.Reset) ∷ Call.Nothing ∷ []
+
+-- with the ticks and, by the claim, without
+pub frames_idle : AllIdle (begins short) in_frames
+    × (answers_of (amid (begins short) in_frames) ≡ in_frames_heard)
+    × (answers_of (run_entries (begins short) (alone in_frames)) ≡ in_frames_heard)
+unfolding Step.next Step.answer next_entry answer_entry Calls.«open» Calls.launched Calls.output Calls.tick Calls.deadline Calls.next_message Calls.credit Range.fresh Range.stop Range.in_range output_fits bytes_with admits cost wrap ring_read ring_from ring_write copied if_else order Life.pass_grace Life.pass_timeout Life.pass_settlement Life.pass_give_up Life.pass_abandonment Life.fire Life.ticked Life.deadline_of Life.note_started Life.note_launch Life.launched_next Life.is_ready Message.sendable_of Message.choose Message.output_paid Message.output_sent Message.effect Message.payload Message.buffer_after Message.said_for Streams.output_taken Streams.output_next Streams.output_store Streams.output_took Streams.credit_in Streams.credit_answer Streams.credit_next number_at be32_at Carrier.admitted Carrier.accepted Carrier.readied Carrier.written Carrier.asked Carrier.wrote Carrier.wrote_buffer Carrier.told Carrier.sent Carrier.write Calls.next_request Calls.reset Life.end_grace Life.begin_termination Life.terminate Life.silenced Life.give_up_soon Life.cut_off Life.cut_off_once Life.detach_next Message.wish_for Message.wish Message.wish_effect be24_at Framing.number31_at Framing.is_whole Framing.stream_of Framing.data_in Framing.of_four Framing.kinded Framing.on_stream Framing.read Framing.header Framing.bytes_of Frames.made Frames.parsed_read Frames.read_frame Frames.sent_as Frames.laid Frames.write_frame
+frames_idle =
+    let a : AllIdle (begins short) in_frames = (refl, (refl, (refl, tt))) in (a, refl, ap answers_of (sym ((idle_ticks short 0 (0 ∷ 0 ∷ 0 ∷ []) []).answers in_frames a)))
+
+abbrev last_data : List ℕ
+last_data = 0 ∷ 0 ∷ 1 ∷ 0 ∷ 1 ∷ 0 ∷ 0 ∷ 0 ∷ 1 ∷ 120 ∷ []
+
+-- DATA that ends the input, which is two calls at one instant: the byte is taken, and more is refused
+abbrev ending_data : List Woven
+ending_data = made (call (Call.launched (Ok tt)))
+    ∷ made framed
+    ∷ idle 9
+    ∷ made (read_frame 0 1 last_data)
+    ∷ idle 9
+    ∷ made (read_frame 0 1 last_data)
+    ∷ made (call (Call.input_written 1))
+    ∷ idle 3
+    ∷ made framed
+    ∷ []
+
+pub data_idle : AllIdle (begins short) ending_data
+    × (answers_of (amid (begins short) ending_data)
+    ≡ Call.Ok ∷ Call.Says (Call.Credit 1) ∷ Call.Applied ∷ Call.Refused 6 ∷ Call.Came 0 ∷ Call.Says Call.Started ∷ [])
+unfolding Step.next Step.answer next_entry answer_entry Calls.«open» Calls.launched Calls.tick Calls.deadline Calls.next_message Range.fresh Range.stop Range.in_range output_fits bytes_with admits cost wrap ring_read ring_from ring_write copied if_else order Life.pass_grace Life.pass_timeout Life.pass_settlement Life.pass_give_up Life.pass_abandonment Life.fire Life.ticked Life.deadline_of Life.note_started Life.note_launch Life.launched_next Life.is_ready Message.sendable_of Message.choose Message.effect Message.said_for number_at be32_at Carrier.admitted Carrier.accepted Carrier.readied Carrier.written Carrier.asked Carrier.wrote Carrier.told Carrier.sent Carrier.write be24_at Framing.number31_at Framing.is_whole Framing.stream_of Framing.data_in Framing.kinded Framing.on_stream Framing.read Frames.made Frames.parsed_read Frames.read_frame Frames.sent_as Frames.write_frame Calls.input Calls.end_input Calls.input_written Streams.received Streams.input_answer Streams.input_next Streams.input_store Streams.input_lengths Streams.end_answer Streams.end_next Streams.written_next Streams.written_came Streams.written_lengths Input.receive_answer Input.receive_input Input.receive_bytes Input.receive_lengths Input.end_answer Input.end_input Input.written_input Input.written_came Frames.then_end Frames.data_made
+data_idle = ((refl, (refl, (refl, tt))), refl)
 
 -- ---- what a tick put in may move: two timers that no answer shows, so that the two runs do not end in the same state
 
@@ -115,6 +185,29 @@ ended result ws = made (call (Call.launched (Ok tt)))
     ∷ made (call (Call.output_closed Stdout))
     ∷ made (call (Call.output_closed Stderr))
     ∷ ws
+
+-- each message written as frames; and behind Terminal DATA of a byte that ends the input: two calls, each late
+abbrev told_in_frames : List Woven
+told_in_frames = ended Settlement.Settled (idle 0
+    ∷ made framed
+    ∷ made framed
+    ∷ idle 1000
+    ∷ made framed
+    ∷ made framed
+    ∷ made framed
+    ∷ idle 1000
+    ∷ made (read_frame 1000 1 last_data)
+    ∷ [])
+
+abbrev whole : Outcome
+whole = record { status = None; cause = None; launch_failure = None; stdout_truncated = false; stderr_truncated = false; reusable = true }
+
+pub told_idle : AllIdle (begins none) told_in_frames
+    × (answers_of (amid (begins none) told_in_frames)
+    ≡ Call.Ok ∷ Call.Ok ∷ Call.Ok ∷ Call.Ok ∷ Call.Ok
+    ∷ Call.Says Call.Started ∷ Call.Says Call.InputClosed ∷ Call.Says (Call.End Stdout) ∷ Call.Says (Call.End Stderr) ∷ Call.Says (Call.Terminal whole) ∷ Call.Late ∷ [])
+unfolding Step.next Step.answer next_entry answer_entry Calls.«open» Calls.launched Calls.tick Calls.deadline Calls.next_message Range.fresh Range.stop Range.in_range output_fits bytes_with admits if_else order Life.pass_grace Life.pass_timeout Life.pass_settlement Life.pass_give_up Life.pass_abandonment Life.fire Life.ticked Life.deadline_of Life.note_started Life.note_launch Life.launched_next Life.is_ready Life.outcome_of Message.sendable_of Message.choose Message.effect Message.said_for number_at be32_at Carrier.admitted Carrier.accepted Carrier.readied Carrier.written Carrier.asked Carrier.wrote Carrier.told Carrier.sent Carrier.write Life.close_runner_input be24_at Framing.number31_at Framing.is_whole Framing.stream_of Framing.data_in Framing.kinded Framing.on_stream Framing.read Frames.made Frames.parsed_read Frames.read_frame Frames.sent_as Frames.write_frame Calls.exited Calls.settled Calls.output_closed Calls.input Calls.end_input Life.drop_launch Life.drop_streams Life.note_exit Life.note_exit_once Life.exited_next Life.settled_next Streams.closed_next Streams.received Streams.input_answer Streams.input_next Streams.end_answer Frames.then_end Frames.data_made
+told_idle = ((refl, (refl, (refl, tt))), refl)
 
 -- an abandonment that finds nothing to abandon
 abbrev fenced : List Woven
@@ -227,3 +320,12 @@ computed = record {
 pub at_instants : answers_of (amid (begins short) (polled (at_every_instant (seen [] 100)))) ≡ told (10 ∷ 15 ∷ 18 ∷ []) 100
 at_instants =
     ap answers_of (sym ((polls short 0 (0 ∷ 0 ∷ 0 ∷ []) []).both (seen [] 100))) ∙ ap (λ (bs : List Beat). answers_of (amid (begins short) (polled bs))) computed.deadlines
+
+-- ---- a deadline that a frame sets: RST_STREAM read at 4, give-up at 7, however late the clock
+
+abbrev cut : List ℕ → List Beat
+cut ticks = record { ticks = []; clock = 4; entry = read_frame 4 1 reset } ∷ record { ticks = ticks; clock = 100; entry = framed } ∷ []
+
+pub cut_due : at_deadlines (begins short) (cut []) ≡ cut (7 ∷ [])
+unfolding Step.next Step.answer next_entry Calls.«open» Calls.tick Calls.deadline Calls.reset Range.fresh Range.stop Range.in_range output_fits bytes_with Life.end_grace Life.give_up Life.begin_termination Life.terminate Life.pass_grace Life.pass_timeout Life.pass_settlement Life.give_up_unless_clean Life.pass_give_up Life.pass_abandonment Life.fire Life.ticked Life.deadline_of Life.silenced Life.give_up_soon Life.cut_off Life.cut_off_once Life.detach_next number_at be32_at be24_at Carrier.admitted Carrier.accepted Framing.number31_at Framing.is_whole Framing.stream_of Framing.of_four Framing.kinded Framing.on_stream Framing.read Frames.made Frames.parsed_read Frames.read_frame
+cut_due = refl

@@ -3,6 +3,7 @@
 use Rattle.std.specs.Prelude.{Bool, true, ◌≡◌, List, [], ◌∷◌, ℕ, ◌≤◌, ltb, Option, Some, None}
 use Rattle.runner.specs.Calls as Calls
 use Rattle.channel.specs.Calls as Channel
+use Rattle.frames.specs.Calls as Frames
 use Rattle.calls.specs.Call as Call
 use Rattle.calls.specs.Call.{Conf, Answer}
 use Rattle.account.specs.Step.{State, next, answer, opened}
@@ -10,7 +11,7 @@ use Rattle.account.specs.Records.{Entry, EntryDone, call, next_entry, after_entr
 
 -- ---- two runs
 
--- what the second run makes: an entry of the first, a call or a record, or a tick put in
+-- what the second run makes: an entry of the first, a call, a record or a frame, or a tick put in
 pub data Woven : Type 0 where
   made : Entry → Woven
   idle : (now : ℕ) → Woven
@@ -82,16 +83,19 @@ AllSpared s ws = AllBefore (λ (x : State) (t : ℕ). x) s ws
 
 -- ---- the claim
 
--- the buffer that next_message, and a record written, would leave
+-- the buffer that next_message, a record written, and a frame written, would leave
 abbrev pub message_buffer : State → List ℕ → List ℕ
 message_buffer s buffer = (Calls.next_message s.runner s.bytes buffer).buffer
 
 abbrev pub record_buffer : State → ℕ → List ℕ → List ℕ
 record_buffer s channel buffer = (Channel.write_record s.runner channel s.bytes buffer).buffer
 
--- IDLE TICKS, for every open, a refused one too, stores of any content, and every list of calls and records with ticks put in
+abbrev pub frame_buffer : State → ℕ → List ℕ → List ℕ
+frame_buffer s stream buffer = (Frames.write_frame s.runner stream s.bytes buffer).buffer
+
+-- IDLE TICKS, for every open, a refused one too, stores of any content, and every list of calls, records and frames with ticks put in
 pub record IdleTicks (conf : Conf) (now : ℕ) (bytes lengths : List ℕ) : Type 0 where
-  -- every other call or record answers alike in both runs, payloads included
+  -- every other call, record or frame answers alike in both runs, payloads included
   pub answers : (ws : List Woven) → AllIdle (opened conf now bytes lengths) ws
       → amid (opened conf now bytes lengths) ws ≡ run_entries (opened conf now bytes lengths) (alone ws)
   -- both stores end alike
@@ -99,9 +103,10 @@ pub record IdleTicks (conf : Conf) (now : ℕ) (bytes lengths : List ℕ) : Type
       → ((after_entries (opened conf now bytes lengths) (woven ws)).bytes ≡ (after_entries (opened conf now bytes lengths) (alone ws)).bytes)
       × ((after_entries (opened conf now bytes lengths) (woven ws)).lengths ≡ (after_entries (opened conf now bytes lengths) (alone ws)).lengths)
   -- and so does a buffer that is lent next, every byte of it
-  pub buffers : (ws : List Woven) (channel : ℕ) (buffer : List ℕ) → AllIdle (opened conf now bytes lengths) ws
+  pub buffers : (ws : List Woven) (channel stream : ℕ) (buffer : List ℕ) → AllIdle (opened conf now bytes lengths) ws
       → (message_buffer (after_entries (opened conf now bytes lengths) (woven ws)) buffer ≡ message_buffer (after_entries (opened conf now bytes lengths) (alone ws)) buffer)
       × (record_buffer (after_entries (opened conf now bytes lengths) (woven ws)) channel buffer ≡ record_buffer (after_entries (opened conf now bytes lengths) (alone ws)) channel buffer)
+      × (frame_buffer (after_entries (opened conf now bytes lengths) (woven ws)) stream buffer ≡ frame_buffer (after_entries (opened conf now bytes lengths) (alone ws)) stream buffer)
   -- it makes no difference which run is asked for its deadline
   pub whose : (ws : List Woven)
       → (AllSpared (opened conf now bytes lengths) ws → AllIdle (opened conf now bytes lengths) ws)

@@ -84,7 +84,7 @@ when_due s (idle t ∷ ws) = cond (is_before t (reported s)) (when_due s ws) (id
 
 -- ---- the claim
 
--- HOW OFTEN TO TICK, for every open, a refused one too, stores of any content, and every list of calls and records
+-- HOW OFTEN TO TICK, for every open, a refused one too, stores of any content, and every list of calls, records and frames
 pub record Polls (conf : Conf) (now : ℕ) (bytes lengths : List ℕ) : Type 0 where
   -- a host that misses no deadline is answered as one that ticks at every instant
   pub answers : (bs : List Beat) → AllPunctual (opened conf now bytes lengths) bs
