@@ -6,8 +6,9 @@ use std::io::Write;
 use steps::session::Session;
 
 // No frame that a peer sends on these streams: no bytes; a header cut short; a length of 3 and of 1 with 2 bytes behind the header;
-// HEADERS, as the clients sent them; PING; PING's type on stream 1; DATA on streams 0, 2 and 4; DATA on stderr's stream, plain and
-// padded; WINDOW_UPDATE of 3 and of 5 bytes, and RST_STREAM of the same; padded DATA of a wrong length, and on stream 2.
+// HEADERS, as the clients sent them; PING, SETTINGS' answer and WINDOW_UPDATE of the connection, stream 0; PING's type on stream 1;
+// DATA on streams 0, 2 and 4; DATA on stderr's stream, plain, padded, and as an End, which is what a runner writes; WINDOW_UPDATE of
+// 3 and of 5 bytes, and RST_STREAM of the same; padded DATA of a wrong length, and on stream 2.
 const BAD: &[&[u8]] = &[
     b"",
     b"\x00\x00\x04\x08\x00\x00\x00\x00",
@@ -16,12 +17,15 @@ const BAD: &[&[u8]] = &[
     b"\x00\x00\x08\x01\x04\x00\x00\x00\x01\x83\x86\x41\x83\xa0\xe7\xa7\x84",
     b"\x00\x00\x04\x01\x05\x00\x00\x00\x03\x83\x86\xbe\x84",
     b"\x00\x00\x08\x06\x00\x00\x00\x00\x00\x00\x00\x00\x00\x00\x00\x00\x00",
+    b"\x00\x00\x00\x04\x01\x00\x00\x00\x00",
+    b"\x00\x00\x04\x08\x00\x00\x00\x00\x00\x00\x00\x00\x08",
     b"\x00\x00\x08\x06\x00\x00\x00\x00\x01\x00\x00\x00\x00\x00\x00\x00\x00",
     b"\x00\x00\x02\x00\x00\x00\x00\x00\x00hi",
     b"\x00\x00\x02\x00\x00\x00\x00\x00\x02hi",
     b"\x00\x00\x02\x00\x00\x00\x00\x00\x04hi",
     b"\x00\x00\x02\x00\x00\x00\x00\x00\x03hi",
     b"\x00\x00\x03\x00\x08\x00\x00\x00\x03\x00hi",
+    b"\x00\x00\x00\x00\x01\x00\x00\x00\x03",
     b"\x00\x00\x03\x08\x00\x00\x00\x00\x01\x00\x00\x08",
     b"\x00\x00\x05\x08\x00\x00\x00\x00\x01\x00\x00\x00\x08\x00",
     b"\x00\x00\x03\x03\x00\x00\x00\x00\x01\x00\x00\x08",
@@ -50,7 +54,8 @@ const CREDIT: &[&[u8]] = &[
 ];
 
 // Input: of 5 bytes, at its end too; of no bytes; 4 and 3 bytes, which fit the window of 8; 2 bytes at the end, which do not, so that
-// the end is not made; the last byte that fits; one more; the end; and what comes behind it, of which none is looked at.
+// the end is not made; the last byte that fits; one more; the end; and what comes behind it, 6 whatever its length; but what is
+// padded is 44 and what is for stderr is 43, as before.
 const INPUT: &[&[u8]] = &[
     b"\x00\x00\x05\x00\x00\x00\x00\x00\x01abcde",
     b"\x00\x00\x05\x00\x01\x00\x00\x00\x01abcde",
@@ -66,6 +71,8 @@ const INPUT: &[&[u8]] = &[
     b"\x00\x00\x05\x00\x00\x00\x00\x00\x01abcde",
     b"\x00\x00\x00\x00\x00\x00\x00\x00\x01",
     b"\x00\x00\x00\x00\x01\x00\x00\x00\x01",
+    b"\x00\x00\x03\x00\x09\x00\x00\x00\x01\x00hi",
+    b"\x00\x00\x02\x00\x00\x00\x00\x00\x03hi",
 ];
 
 // Input of 4 and 3 bytes; of 2 at the end; of one at the end; and of one more.
