@@ -99,7 +99,8 @@ const LATE: &[&[u8]] = &[
 ];
 
 // The reserved bits before the stream and before the units are set, of credit for stdout and stderr and of input. All flags that
-// mean nothing are set: all eight of credit; of input all but END_STREAM (1) and PADDED (8), and then all but PADDED.
+// mean nothing are set: all eight of credit; of input all but END_STREAM (1) and PADDED (8), and then all but PADDED. The credit of
+// stdout, 3 and 5, is then all of its window.
 const UNREAD: &[&[u8]] = &[
     b"\x00\x00\x04\x08\x00\x80\x00\x00\x01\x80\x00\x00\x03",
     b"\x00\x00\x04\x08\x00\x80\x00\x00\x03\x80\x00\x00\x03",
@@ -107,11 +108,13 @@ const UNREAD: &[&[u8]] = &[
     b"\x00\x00\x04\x08\xff\x00\x00\x00\x01\x00\x00\x00\x05",
     b"\x00\x00\x01\x00\xf6\x00\x00\x00\x01b",
     b"\x00\x00\x01\x00\xf7\x00\x00\x00\x01c",
+    b"\x00\x00\x04\x08\x00\x00\x00\x00\x01\x00\x00\x00\x01",
 ];
 
 pub(crate) fn run(to: &mut impl Write) -> io::Result<()> {
     let mut store = [0u8; 16];
     let mut buffer = [0u8; 43];
+    initial(to, &mut store, &mut buffer)?;
     refused(to, &mut store, &mut buffer)?;
     closed(to, &mut store, &mut buffer)?;
     unread(to, &mut store, &mut buffer)
@@ -133,6 +136,21 @@ fn all<W: Write>(session: &mut Session<W, On>, frames: &[&[u8]]) -> io::Result<(
         session.read(frame)?;
     }
     Ok(())
+}
+
+// Before any credit: input is refused, and output waits, each stream's for its own.
+fn initial<W: Write>(to: &mut W, store: &mut [u8], buffer: &mut [u8]) -> io::Result<()> {
+    writeln!(to, "# the initial windows of 0")?;
+    let mut session = Session::open(to, bytes(4, 8, 8), On(1), store)?;
+    session.launched()?;
+    session.read(b"\x00\x00\x02\x00\x00\x00\x00\x00\x01hi")?;
+    session.output()?;
+    session.write(buffer)?;
+    session.read(b"\x00\x00\x02\x00\x00\x00\x00\x00\x01hi")?;
+    session.read(b"\x00\x00\x04\x08\x00\x00\x00\x00\x03\x00\x00\x00\x08")?;
+    session.write(buffer)?;
+    session.read(b"\x00\x00\x04\x08\x00\x00\x00\x00\x01\x00\x00\x00\x08")?;
+    session.write(buffer)
 }
 
 fn refused<W: Write>(to: &mut W, store: &mut [u8], buffer: &mut [u8]) -> io::Result<()> {

@@ -89,11 +89,6 @@ impl<'a, W: Write, C: Carrier> Session<'a, W, C> {
         self.line(call, after.answer)
     }
 
-    // The workload closes its input.
-    pub fn input_closed(&mut self) -> io::Result<()> {
-        self.step("input_closed", self.runner.input_closed())
-    }
-
     pub fn launched(&mut self) -> io::Result<()> {
         self.step("launched", self.runner.launched(Ok(())))
     }
@@ -149,6 +144,11 @@ impl<'a, W: Write, C: Carrier> Session<'a, W, C> {
         self.step(format_args!("input_written,{n}"), came)
     }
 
+    // The workload closes its input.
+    pub fn input_closed(&mut self) -> io::Result<()> {
+        self.step("input_closed", self.runner.input_closed())
+    }
+
     // The workload's streams close; it exits with a status, if that is known, and settles, once the input's end was asked for.
     pub fn ended(&mut self, status: Option<Status>) -> io::Result<()> {
         self.closed(Stream::Stdout)?;
@@ -174,7 +174,7 @@ impl<'a, W: Write, C: Carrier> Session<'a, W, C> {
         )
     }
 
-    pub fn request(&mut self) -> io::Result<()> {
+    fn request(&mut self) -> io::Result<()> {
         self.step("request", self.runner.next_request())
     }
 
