@@ -1,8 +1,9 @@
 // A session on channel 5, of small windows: records both ways, the refusals of a record, and the end of the session.
-use crate::session::{Session, channel};
+use crate::carried::{Records, channel};
 use exec::Status;
 use std::io;
 use std::io::Write;
+use steps::session::Session;
 
 // The end of the input, and what is refused, one after the other: an empty record; kind 98, which a runner writes and does
 // not read; data cut short; data whose length counts the header too; data for channel 6; extended data of type 2, and of type 1,
@@ -26,13 +27,13 @@ pub(crate) fn run(to: &mut impl Write) -> io::Result<()> {
     // 43 bytes are just enough, as they are more than chunk + 13.
     let mut buffer = [0u8; 43];
     let mut short = [0u8; 42];
-    let mut session = Session::open(to, channel(4, 8), 5, 5, &mut store)?;
+    let mut session = Session::open(to, channel(4, 8), Records::of(5, 5), &mut store)?;
     session.launched()?;
     session.read(b"\x5d\x00\x00\x00\x05\x00\x00\x00\x08")?;
     session.output()?;
     session.write(&mut buffer)?;
     session.read(b"\x5e\x00\x00\x00\x05\x00\x00\x00\x02hi")?;
-    session.taken()?;
+    session.taken(2)?;
     // One byte less is refused, with a message waiting that is then told.
     session.write(&mut short)?;
     session.write(&mut buffer)?;

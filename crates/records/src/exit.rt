@@ -1,10 +1,22 @@
 // How sessions on channel 5 end, of small windows and no output: what their Terminal writes, what is refused by 40 and the way
 // on from there; and the reader of the requests that tell it.
-use crate::print::{Answer, Hex};
-use crate::session::{Session, channel};
+use crate::carried::{Records, channel};
+use codec::Record;
 use exec::Status;
-use std::io;
 use std::io::Write;
+use std::{fmt, io};
+use steps::print::{Answer, Given, Hex};
+use steps::session::{Session, first};
+
+// A record that was read.
+#[derive(Clone, Copy)]
+struct Read(Record);
+
+impl Given for Read {
+    fn put<W: fmt::Write>(&self, f: &mut fmt::Formatter<W>) -> fmt::Result {
+        write!(f, "{:?}", self.0)
+    }
+}
 
 // Requests for channel 5, of which the largest code alone is told: no bytes; CLOSE; a kind alone, and
 // with a channel cut short; nothing behind the channel, 6 and 5; a code for channel 6; the largest code, and one more; a reply
@@ -79,8 +91,8 @@ fn told<'a, W: Write>(
     status: Option<Status>,
     store: &'a mut [u8],
     buffer: &mut [u8],
-) -> io::Result<Session<'a, W>> {
-    let mut session = Session::open(to, channel(4, 8), 5, 5, store)?;
+) -> io::Result<Session<'a, W, Records>> {
+    let mut session = Session::open(to, channel(4, 8), Records::of(5, 5), store)?;
     session.launched()?;
     session.read(b"\x60\x00\x00\x00\x05")?;
     session.ended(status)?;
@@ -96,7 +108,7 @@ fn cut(to: &mut impl Write, records: &[u8; 43]) -> io::Result<()> {
         to,
         "record,{},{}",
         Hex(close),
-        Answer(codec::read(close, 5))
+        Answer(codec::read(close, 5).map(Read))
     )
 }
 
@@ -106,8 +118,14 @@ fn bus(to: &mut impl Write, store: &mut [u8], buffer: &mut [u8]) -> io::Result<(
     let mut left = told(to, Some(Status::Signaled(7)), store, buffer)?;
     left.write(buffer)?;
     left.message(buffer)?;
-    left.close(buffer)?;
+    close(&mut left, buffer)?;
     left.write(buffer)
+}
+
+// Writes CLOSE, which takes no runner.
+fn close<W: Write>(left: &mut Session<W, Records>, buffer: &mut [u8]) -> io::Result<()> {
+    let written = codec::write(5, Record::Close, b"", buffer);
+    left.line("close", written.map(|n| first(buffer, n)))
 }
 
 // No request tells a negative code. A short buffer is met before that.

@@ -2,12 +2,11 @@
 // layouts of RFC 4254, 5.2, 5.3 and 6.10, and from the stops of documents 01 and 02.
 #![tactic(auto)]
 
+mod carried;
 mod channel5;
 mod exit;
 mod openssh;
 mod other;
-mod print;
-mod session;
 
 use std::io;
 

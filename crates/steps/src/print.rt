@@ -1,20 +1,25 @@
 // How a step's line says its arguments and its answer: bytes in hexadecimal, `-` where there are none, and commas between.
-use codec::Record;
 use exec::{Receipt, Refusal, Status};
 use runner::answer::{Message, Request};
 use std::fmt;
 
-// Bytes in hexadecimal.
+// How many bytes of a long text are shown.
+const SHOWN: usize = 64;
+
+// Bytes in hexadecimal, and of more than 64 the first ones.
 #[derive(Clone, Copy)]
-pub(crate) struct Hex<'a>(pub(crate) &'a [u8]);
+pub struct Hex<'a>(pub &'a [u8]);
 
 impl fmt::Display for Hex<'_> {
     fn fmt<W: fmt::Write>(&self, f: &mut fmt::Formatter<W>) -> fmt::Result {
         if self.0.is_empty() {
             return f.write_str("-");
         }
-        for byte in self.0 {
+        for byte in self.0.get(..SHOWN).unwrap_or(self.0) {
             write!(f, "{byte:02x}")?;
+        }
+        if SHOWN < self.0.len() {
+            return f.write_str("..");
         }
         Ok(())
     }
@@ -22,7 +27,7 @@ impl fmt::Display for Hex<'_> {
 
 // E and the code, or S and the number of the signal.
 #[derive(Clone, Copy)]
-pub(crate) struct Ended(pub(crate) Option<Status>);
+pub struct Ended(pub Option<Status>);
 
 impl fmt::Display for Ended {
     fn fmt<W: fmt::Write>(&self, f: &mut fmt::Formatter<W>) -> fmt::Result {
@@ -53,7 +58,7 @@ impl fmt::Display for Name {
 
 // What a call answered, or the number of its refusal.
 #[derive(Clone, Copy)]
-pub(crate) struct Answer<T>(pub(crate) Result<T, Refusal>);
+pub struct Answer<T>(pub Result<T, Refusal>);
 
 impl<T: Given> fmt::Display for Answer<T> {
     fn fmt<W: fmt::Write>(&self, f: &mut fmt::Formatter<W>) -> fmt::Result {
@@ -65,7 +70,7 @@ impl<T: Given> fmt::Display for Answer<T> {
 }
 
 // What a call that is not refused gives.
-pub(crate) trait Given: Copy {
+pub trait Given: Copy {
     fn put<W: fmt::Write>(&self, f: &mut fmt::Formatter<W>) -> fmt::Result;
 }
 
@@ -82,10 +87,9 @@ impl Given for usize {
     }
 }
 
-// How many bytes, and the bytes.
 // The frames that a write of the input came to: no bytes that were taken.
 #[derive(Clone, Copy)]
-pub(crate) struct Came(pub(crate) usize);
+pub struct Came(pub usize);
 
 impl Given for Came {
     fn put<W: fmt::Write>(&self, f: &mut fmt::Formatter<W>) -> fmt::Result {
@@ -93,6 +97,7 @@ impl Given for Came {
     }
 }
 
+// How many bytes, and the bytes.
 impl Given for &[u8] {
     fn put<W: fmt::Write>(&self, f: &mut fmt::Formatter<W>) -> fmt::Result {
         write!(f, "{},{}", self.len(), Hex(self))
@@ -102,12 +107,6 @@ impl Given for &[u8] {
 impl Given for Status {
     fn put<W: fmt::Write>(&self, f: &mut fmt::Formatter<W>) -> fmt::Result {
         write!(f, "{}", Ended(Some(*self)))
-    }
-}
-
-impl Given for Record {
-    fn put<W: fmt::Write>(&self, f: &mut fmt::Formatter<W>) -> fmt::Result {
-        write!(f, "{self:?}")
     }
 }
 
@@ -132,7 +131,7 @@ impl Given for Option<Request> {
     }
 }
 
-// A message without its record: a Terminal with the status that it tells.
+// A message without its bytes: a Terminal with the status that it tells.
 impl Given for Option<Message> {
     fn put<W: fmt::Write>(&self, f: &mut fmt::Formatter<W>) -> fmt::Result {
         match *self {
@@ -143,7 +142,7 @@ impl Given for Option<Message> {
     }
 }
 
-// A message and the bytes of its record.
+// A message and the bytes that carry it.
 impl Given for Option<(Message, &[u8])> {
     fn put<W: fmt::Write>(&self, f: &mut fmt::Formatter<W>) -> fmt::Result {
         match *self {
