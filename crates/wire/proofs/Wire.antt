@@ -2,31 +2,37 @@
 use Rattle.std.specs.Prelude.{Option, Result, Some, None, Ok, Err}
 use Rattle.exec.specs.declared.Receipt.{Receipt}
 use Rattle.exec.specs.declared.Refusal.{Refusal}
-use mathlib.Core.Bool.{Bool, true, false, ◌||◌, true≢false}
+use mathlib.Core.Bool.{Bool, true, false, ◌&&◌, ◌||◌, true≢false}
 use mathlib.Core.Path.{◌≡◌, refl, sym, ap, ◌∙◌, subst, subst⁻¹}
 use mathlib.Core.List.{List, [], ◌∷◌, ◌++◌, append-nil}
 use Prim.Native.Nat.{ℕ, ◌+◌, ◌≤◌}
 use native.Mathlib.Omega.{arith}
 use lib.ListN.{length, take, drop}
 use borrow.Author.Tests.{le-leb}
+use Rattle.exec.specs.declared.Limits.{Limits}
 use Rattle.exec.specs.declared.Outcome.{Outcome}
 use Rattle.exec.specs.declared.Stream.{Stream}
 use Rattle.exec.specs.Each.{Each, one}
 use Rattle.exec.specs.Stream.{every_stream, every_stream_lem}
 use Rattle.runner.specs.declared.answer.Message.{Message as Messages}
+use Rattle.ring.specs.Flags.{and_l}
+use Rattle.carrier.specs.Carrier.{is_bytes, room}
 use Rattle.channel.specs.Calls as Channel
+use Rattle.channel.specs.Calls.{is_channel}
+use Rattle.frames.specs.Calls as Frames
+use Rattle.frames.specs.Calls.{is_framed}
 use Rattle.calls.specs.Call as Call
 use Rattle.calls.specs.Call.{Conf, Call, Answer, Message}
 use Rattle.account.specs.Step as Step
 use Rattle.account.specs.Step.{State}
 use Rattle.account.specs.Claim.{Opens, IsPrefix, messages, is_message}
-use Rattle.account.specs.Records.{Entry, call, read_record, write_record, next_entry, read_as, wrote_as, answer_entry, after_entries, run_entries, is_untaken, roomy, made, SilentIn}
+use Rattle.account.specs.Records.{Entry, call, read_record, write_record, read_frame, write_frame, next_entry, read_as, wrote_as, answer_entry, after_entries, run_entries, is_untaken, roomy, made, SilentIn}
 use Rattle.account.specs.TurnClaim.{carried_by, taken_in, sent_in}
 use Rattle.account.proofs.Plain.{answer}
 use Rattle.account.proofs.Demand.{answer_same}
 use Rattle.account.proofs.Finish as Finish
 use Rattle.account.proofs.Finish.{Kind, kind}
-use Rattle.account.proofs.EachRecord.{Does}
+use Rattle.account.proofs.EachRecord.{Unmade, Does}
 use Rattle.account.proofs.Records.{Good, does, good_open, good_at, whole}
 use Rattle.account.proofs.Sides.{one_per, every_same}
 use Rattle.account.proofs.Told.{taken_told, sent_told}
@@ -55,13 +61,29 @@ read_unsaid : (a : Result (Option Receipt) Refusal) → said_in (read_as a) ≡ 
 read_unsaid (Ok (Some Receipt.Applied)) = refl
 read_unsaid _ = refl
 
+-- a channel's runner is none for frames
+unframed : (l : Limits) (s : ℕ) → is_channel l ≡ true → is_framed l s ≡ false
+unframed l s h =
+    let t : l.shared ≡ true = and_l l.shared (is_bytes l.input.unit) (and_l (l.shared && is_bytes l.input.unit) (is_bytes l.output.unit) h) in
+    rw t refl
+
 module _ (conf : Conf) (channel : ℕ) (o : OfChannel conf channel) where
+  -- so a frame that is written is refused
+  frame_unsaid : (s : State) (stream : ℕ) (buffer : List ℕ) → Good conf s → said_in (answer_entry s (write_frame stream buffer)) ≡ []
+  unfolding Does made
+  frame_unsaid s stream buffer g =
+      let d : Unmade (write_frame stream buffer) s (next_entry s (write_frame stream buffer)) (answer_entry s (write_frame stream buffer)) =
+      rw (unframed conf.limits stream o.limits) at (does conf (write_frame stream buffer) s g) in
+      ap said_in d.answered
+
   entry_heard : (e : Entry) (s : State) → Good conf s → Muted s.runner → Lone channel e
       → heard channel (on_wire s e) ≡ told_by speaks (ends s.runner) (said_in (answer_entry s e))
   unfolding on_wire answer_entry
   entry_heard (call c) s g v l =
       sym (ap (told_by speaks (ends s.runner)) (unsaid (Step.answer s c) (ap is_message (answer_same s c g.fine) ∙ quiet_call c s l)))
   entry_heard (read_record now other b) s g v l = sym (ap (told_by speaks (ends s.runner)) (read_unsaid (Channel.read_record s.runner now other b s.bytes s.lengths).reading.answer))
+  entry_heard (read_frame now stream b) s g v l = sym (ap (told_by speaks (ends s.runner)) (read_unsaid (Frames.read_frame s.runner now stream b s.bytes s.lengths).reading.answer))
+  entry_heard (write_frame stream buffer) s g v l = sym (ap (told_by speaks (ends s.runner)) (frame_unsaid s stream buffer g))
   entry_heard (write_record other buffer) s g v l =
       subst⁻¹ (λ (n : ℕ). heard channel (on_wire s (write_record n buffer)) ≡ told_by speaks (ends s.runner) (said_in (answer_entry s (write_record n buffer)))) l
       (record_told s g.fine v channel (subst⁻¹ (λ (k : Conf). OfChannel k channel) g.same o) buffer)
@@ -153,7 +175,7 @@ module _ (conf : Conf) (now : ℕ) (bytes lengths : List ℕ) (channel : ℕ) (o
       → answer_entry (after_entries begins es) (write_record channel buffer) ≡ Step.answer (after_entries begins es) (Call.next_message (take conf.limits.chunk (drop 13 buffer)))
   unfolding Does made
   asks_at es buffer h k u =
-      let r : roomy conf buffer ≡ true = le-leb (Channel.room conf.limits) (length buffer) (omega arith) in
+      let r : roomy conf buffer ≡ true = le-leb (room conf.limits) (length buffer) (omega arith) in
       (rw (o.limits, r, u) at (does conf (write_record channel buffer) (after_entries begins es) (good_at conf now bytes lengths op es))).1
 
   -- WHAT THE PEER KNOWS

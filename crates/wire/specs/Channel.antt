@@ -14,7 +14,7 @@ use Rattle.exits.specs.Exit as Exits
 use Rattle.channel.specs.Calls as Channel
 use Rattle.calls.specs.Call as Call
 use Rattle.account.specs.Step.{State}
-use Rattle.account.specs.Records.{Entry, call, read_record, write_record}
+use Rattle.account.specs.Records.{Entry, call, read_record, write_record, read_frame, write_frame}
 use Rattle.wire.specs.Messages.{ends_by}
 use Rattle.wire.specs.Heard.{Heard, Window, Bytes, Eof, Exit, Close, Unread}
 
@@ -44,6 +44,8 @@ on_wire s (call c) = []
 on_wire s (read_record now channel b) = []
 on_wire s (write_record channel buffer) =
     written (Channel.write_record s.runner channel s.bytes buffer).writing.answer (Channel.write_record s.runner channel s.bytes buffer).buffer
+on_wire s (read_frame now stream b) = []
+on_wire s (write_frame stream buffer) = []
 
 -- ---- what its peer hears
 

@@ -10,7 +10,7 @@ use Rattle.calls.specs.Call as Call
 use Rattle.calls.specs.Call.{Conf, Message}
 use Rattle.account.specs.Step.{answer, opened}
 use Rattle.account.specs.Claim.{IsPrefix, messages, is_terminal, terminal_message}
-use Rattle.account.specs.Records.{Entry, call, read_record, write_record, next_entry, answer_entry, after_entries, run_entries, is_untaken}
+use Rattle.account.specs.Records.{Entry, call, read_record, write_record, read_frame, write_frame, next_entry, answer_entry, after_entries, run_entries, is_untaken}
 use Rattle.account.specs.TurnClaim.{taken_in, sent_in}
 use Rattle.wire.specs.Messages.{said_from, is_end, any, no_ends}
 use Rattle.wire.specs.Heard.{Heard, Close, AllOf, bytes_in, units_in, is_eof, is_close, is_unread, joined, count, wire, told_by}
@@ -23,11 +23,13 @@ pub record OfChannel (conf : Conf) (channel : ℕ) : Type 0 where
   pub input : conf.limits.input.size < 2 ^ 32
   pub number : channel < 2 ^ 32
 
--- every message is taken by a record for the channel; other calls, and records read, are free
+-- every message is taken by a record for the channel; other calls, records read, and frames, which a channel's runner refuses, are free
 abbrev pub Lone : (channel : ℕ) → Entry → Type 0
 Lone channel (call c) = messages (c ∷ []) ≡ 0
 Lone channel (read_record now other b) = Unit
 Lone channel (write_record other buffer) = other ≡ channel
+Lone channel (read_frame now s b) = Unit
+Lone channel (write_frame s buffer) = Unit
 
 -- the units of a Credit
 abbrev pub credit_in : Message → List ℕ
