@@ -59,8 +59,8 @@ use Rattle.account.proofs.InputRange.{HeldIn}
 use Rattle.account.proofs.EachRecord.{Does}
 use Rattle.account.proofs.EachWrite.{told_does}
 use Rattle.wire.specs.Messages.{said_in}
-use Rattle.wire.specs.Heard.{Heard, Window, Bytes, Eof, Exit, Close, told_by}
-use Rattle.wire.specs.Channel.{packet, written, on_wire, hear, heard, exit_of, speaks}
+use Rattle.wire.specs.Heard.{told_by}
+use Rattle.wire.specs.Channel.{packet, written, on_wire, Heard, Window, Bytes, Eof, Exit, Close, hear, heard, exit_of, speaks}
 use Rattle.wire.specs.Claim.{OfChannel}
 use Rattle.std.proofs.lemmas.List.{map-append}
 use Rattle.wire.proofs.Ends.{Muted, ends, at, end_untold}

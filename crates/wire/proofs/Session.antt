@@ -32,8 +32,8 @@ use Rattle.calls.specs.Call as Call
 use Rattle.account.specs.Step as Step
 use Rattle.account.specs.Records.{Entry, call, next_entry, answer_entry, after_entries}
 use Rattle.account.proofs.TurnSession.{channel, zeros, written, records, zero_status, zero_closes, complete, channel_opens, channel_terminal, channel_taken}
-use Rattle.wire.specs.Heard.{Window, Bytes, Eof, Exit, Close, AllOf, bytes_in, joined, wire}
-use Rattle.wire.specs.Channel.{on_wire, heard}
+use Rattle.wire.specs.Heard.{AllOf, joined, wire}
+use Rattle.wire.specs.Channel.{on_wire, Window, Bytes, Eof, Exit, Close, bytes_in, heard}
 use Rattle.wire.specs.Claim.{OfChannel, Lone, heard_of}
 use Rattle.wire.proofs.Wire.{wired}
 
