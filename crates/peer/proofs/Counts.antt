@@ -4,10 +4,11 @@ use mathlib.Core.Path.{◌≡◌, refl, sym, ap, ◌∙◌, subst⁻¹}
 use mathlib.Core.List.{List, [], ◌∷◌, ◌++◌, append-nil}
 use Prim.Native.Nat.{◌+◌}
 use native.Mathlib.Omega.{arith}
+use Rattle.exec.specs.declared.Outcome.{Outcome}
 use Rattle.exec.specs.declared.Stream.{Stream}
 use Rattle.exec.specs.declared.Stream.TheVariants.{Stdout, Stderr}
 use Rattle.exec.specs.Each.{Each, one}
-use Rattle.exec.specs.Stream.{all, same_stream}
+use Rattle.exec.specs.Stream.{same_stream}
 use Rattle.calls.specs.Call as Call
 use Rattle.calls.specs.Call.{Message}
 use Rattle.account.specs.Claim.{terminal_message}
@@ -19,36 +20,36 @@ use Rattle.wire.specs.Heard.{joined, count, once, told_by}
 use Rattle.wire.proofs.Ends.{ends_all, OnceAt, Once, ends_so}
 use Rattle.wire.proofs.Follows.{count_append}
 use Rattle.wire.proofs.Order.{Final}
-use Rattle.peer.specs.Framed.{Heard, Reset, bytes_in, units_in, is_ended, is_reset, is_on, is_unread, reset_in, speaks}
+use Rattle.peer.specs.Framed.{Heard, Reset, bytes_in, units_in, is_ended, is_reset, is_on, is_unread, speaks}
 
 -- ---- a message
 
 -- of the resets of a Terminal holds what holds of none, of one, and of two
 resets_by : (P : List Heard → Type 0) → P [] → P (Reset Stdout ∷ []) → P (Reset Stderr ∷ []) → P (Reset Stdout ∷ Reset Stderr ∷ [])
-    → (t u : Bool) → P (joined (reset_in (record { stdout = t; stderr = u })) all)
-resets_by P none out err two true true = none
-resets_by P none out err two true false = err
-resets_by P none out err two false true = out
-resets_by P none out err two false false = two
+    → (o : Outcome) (t u : Bool) → P (speaks (record { stdout = t; stderr = u }) (Call.Terminal o))
+resets_by P none out err two o true true = none
+resets_by P none out err two o true false = err
+resets_by P none out err two o false true = out
+resets_by P none out err two o false false = two
 
 pub bytes_told : (x : Stream) (e : Each Bool) (m : Message) → joined (bytes_in x) (speaks e m) ≡ carried_by x m
 bytes_told x e (Call.Output y b) = append-nil _
-bytes_told x e (Call.Terminal o) = resets_by (λ (hs : List Heard). joined (bytes_in x) hs ≡ []) refl refl refl refl e.stdout e.stderr
+bytes_told x e (Call.Terminal o) = resets_by (λ (hs : List Heard). joined (bytes_in x) hs ≡ []) refl refl refl refl o e.stdout e.stderr
 bytes_told x e _ = refl
 
 pub units_told : (e : Each Bool) (m : Message) → joined units_in (speaks e m) ≡ credit_in m
-units_told e (Call.Terminal o) = resets_by (λ (hs : List Heard). joined units_in hs ≡ []) refl refl refl refl e.stdout e.stderr
+units_told e (Call.Terminal o) = resets_by (λ (hs : List Heard). joined units_in hs ≡ []) refl refl refl refl o e.stdout e.stderr
 units_told e _ = refl
 
 pub unread_none : (e : Each Bool) (m : Message) → count is_unread (speaks e m) ≡ 0
-unread_none e (Call.Terminal o) = resets_by (λ (hs : List Heard). count is_unread hs ≡ 0) refl refl refl refl e.stdout e.stderr
+unread_none e (Call.Terminal o) = resets_by (λ (hs : List Heard). count is_unread hs ≡ 0) refl refl refl refl o e.stdout e.stderr
 unread_none e _ = refl
 
 -- ---- how many
 
 module _ (x : Stream) where
   ended_told : (e : Each Bool) (m : Message) → count (is_ended x) (speaks e m) ≡ once (is_end x m)
-  ended_told e (Call.Terminal o) = resets_by (λ (hs : List Heard). count (is_ended x) hs ≡ 0) refl refl refl refl e.stdout e.stderr
+  ended_told e (Call.Terminal o) = resets_by (λ (hs : List Heard). count (is_ended x) hs ≡ 0) refl refl refl refl o e.stdout e.stderr
   ended_told e _ = refl
 
   -- an End of a stream whose End was not told makes one more
@@ -72,15 +73,15 @@ module _ (x : Stream) where
       omega arith
 
   -- Terminal, which is the last, is one reset of a stream whose End was not told
-  one_reset : (x : Stream) (t u : Bool) → let e : Each Bool = record { stdout = t; stderr = u } in count (is_reset x) (joined (reset_in e) all) ≡ once (not (one x e))
-  one_reset Stdout true true = refl
-  one_reset Stdout true false = refl
-  one_reset Stdout false true = refl
-  one_reset Stdout false false = refl
-  one_reset Stderr true true = refl
-  one_reset Stderr true false = refl
-  one_reset Stderr false true = refl
-  one_reset Stderr false false = refl
+  one_reset : (x : Stream) (o : Outcome) (t u : Bool) → let e : Each Bool = record { stdout = t; stderr = u } in count (is_reset x) (speaks e (Call.Terminal o)) ≡ once (not (one x e))
+  one_reset Stdout o true true = refl
+  one_reset Stdout o true false = refl
+  one_reset Stdout o false true = refl
+  one_reset Stdout o false false = refl
+  one_reset Stderr o true true = refl
+  one_reset Stderr o true false = refl
+  one_reset Stderr o false true = refl
+  one_reset Stderr o false false = refl
 
   pub resets_told : (ms : List Message) (e : Each Bool) → Final ms
       → count (is_reset x) (told_by speaks e ms) ≡ once (any terminal_message ms && not (one x (ends_all ms e)))
@@ -91,23 +92,23 @@ module _ (x : Stream) where
           → count (is_reset x) (told_by speaks (ends_by m e) ms) ≡ once (any terminal_message ms && not (one x (ends_all ms (ends_by m e))))
           → count (is_reset x) (speaks e m ++ told_by speaks (ends_by m e) ms) ≡ once ((terminal_message m || any terminal_message ms) && not (one x (ends_all ms (ends_by m e))))
       by (Call.Terminal o) f h =
-          subst⁻¹ (λ (ns : List Message). count (is_reset x) (joined (reset_in e) all ++ told_by speaks e ns) ≡ once (not (one x (ends_all ns e)))) (f refl)
-          (ap (count (is_reset x)) (append-nil (joined (reset_in e) all)) ∙ one_reset x e.stdout e.stderr)
+          subst⁻¹ (λ (ns : List Message). count (is_reset x) (speaks e (Call.Terminal o) ++ told_by speaks e ns) ≡ once (not (one x (ends_all ns e)))) (f refl)
+          (ap (count (is_reset x)) (append-nil (speaks e (Call.Terminal o))) ∙ one_reset x o e.stdout e.stderr)
       by _ f h = h
 
   -- of a stream whose End was told no frame is any more
-  no_reset : (x : Stream) (t u : Bool) → let e : Each Bool = record { stdout = t; stderr = u } in one x e ≡ true → count (is_on x) (joined (reset_in e) all) ≡ 0
-  no_reset Stdout true true h = refl
-  no_reset Stdout true false h = refl
-  no_reset Stdout false u h = absurd (true≢false (sym h))
-  no_reset Stderr true true h = refl
-  no_reset Stderr false true h = refl
-  no_reset Stderr t false h = absurd (true≢false (sym h))
+  no_reset : (x : Stream) (o : Outcome) (t u : Bool) → let e : Each Bool = record { stdout = t; stderr = u } in one x e ≡ true → count (is_on x) (speaks e (Call.Terminal o)) ≡ 0
+  no_reset Stdout o true true h = refl
+  no_reset Stdout o true false h = refl
+  no_reset Stdout o false u h = absurd (true≢false (sym h))
+  no_reset Stderr o true true h = refl
+  no_reset Stderr o false true h = refl
+  no_reset Stderr o t false h = absurd (true≢false (sym h))
 
   none_of : (e : Each Bool) (m : Message) → one x e ≡ true → is_of x m ≡ false → count (is_on x) (speaks e m) ≡ 0
   none_of e (Call.Output y b) t f = rw f refl
   none_of e (Call.End y) t f = rw f refl
-  none_of e (Call.Terminal o) t f = no_reset x e.stdout e.stderr t
+  none_of e (Call.Terminal o) t f = no_reset x o e.stdout e.stderr t
   none_of e _ t f = refl
 
   pub none_on : (ms : List Message) (e : Each Bool) → one x e ≡ true → any (is_of x) ms ≡ false → count (is_on x) (told_by speaks e ms) ≡ 0

@@ -3,3 +3,4 @@ pub mod Cut
 pub mod Read
 pub mod Counts
 pub mod Peer
+pub mod Session

@@ -121,6 +121,10 @@ module _ (conf : Conf) (now : ℕ) (bytes lengths : List ℕ) (s : ℕ) (op : Op
       let z = ends_told x ms no_ends (told_once conf now bytes lengths op es) in
       ap (count (is_ended x)) (follows es l) ∙ omega (arith, z, ap once none) ∙ ap once (told_ends conf now bytes lengths op es x)
 
+  seen_by : (b : Bool) → 1 ≤ once b → b ≡ true
+  seen_by true h = refl
+  seen_by false h = absurd (omega arith)
+
   resets_at : (es : List Entry) (x : Stream) → AllOf (Lone s) es
       → count (is_reset x) (heard_of conf now bytes lengths s es)
       ≡ once (any terminal_message (said conf now bytes lengths es) && not (any (is_end x) (said conf now bytes lengths es)))
@@ -162,8 +166,10 @@ module _ (conf : Conf) (now : ℕ) (bytes lengths : List ℕ) (s : ℕ) (op : Op
     front = λ es x l. has_front conf now bytes lengths op speaks bytes_in bytes_told es _ (follows es l) x;
     windows = λ es l. ap (joined units_in) (follows es l) ∙ joined_told speaks units_in credit_in units_told no_ends (said conf now bytes lengths es);
     ends = ends_at;
+    seen = λ es x l n. seen_by (any (is_end x) (said conf now bytes lengths es)) (omega (arith, n, ends_at es x l));
     mute = mute_at;
     resets = resets_at;
+    unbroken = λ es x l t. resets_at es x l ∙ rw t refl;
     over = over_at;
     last = λ es e ds t. silent_wire on_wire unwired ds _ ((whole conf now bytes lengths op).once es e ds t);
     whole = λ es e o x l a u. has_whole conf now bytes lengths op speaks bytes_in bytes_told es _ (follows es l) x e o a u;

@@ -6,7 +6,6 @@ use Rattle.exec.specs.declared.Refusal.{Refusal}
 use Rattle.exec.specs.declared.Stream.{Stream}
 use Rattle.exec.specs.declared.Stream.TheVariants.{Stdout, Stderr}
 use Rattle.exec.specs.Each.{Each}
-use Rattle.exec.specs.Stream.{all}
 use Rattle.runner.specs.declared.answer.Message.{Message}
 use Rattle.runner.specs.declared.runner.Runner.{Runner}
 use Rattle.runner.specs.Range.{stop, bytes_do}
@@ -28,7 +27,7 @@ use Rattle.account.specs.Records.{message_in, wrote_as, answers, answer_entry}
 use Rattle.account.proofs.Plain as Plain
 use Rattle.account.proofs.Demand.{Fine, goes}
 use Rattle.wire.specs.Messages.{said_in}
-use Rattle.wire.specs.Heard.{joined, told_by}
+use Rattle.wire.specs.Heard.{told_by}
 use Rattle.wire.proofs.Ends.{ends}
 use Rattle.wire.proofs.Follows.{Hears, hears_append}
 use Rattle.peer.specs.Framed as Framed
@@ -120,7 +119,7 @@ module _ (s : ℕ) where
       message_heard (Message.Terminal o) b h = terminal t u
         where
           terminal : (t u : Bool) → let fs = reset_unless t Stdout ++ reset_unless u Stderr in
-              Hears (heard s) (take (length_all fs) (laid s fs b)) (joined (reset_in (record { stdout = t; stderr = u })) all ++ [])
+              Hears (heard s) (take (length_all fs) (laid s fs b)) (speaks (record { stdout = t; stderr = u }) (Call.Terminal o) ++ [])
           terminal true true = laid_heard [] b tt tt
           terminal true false = laid_heard (Reset Stderr ∷ []) b (reset_fits Stderr, tt) (omega (arith, h), tt)
           terminal false true = laid_heard (Reset Stdout ∷ []) b (reset_fits Stdout, tt) (omega (arith, h), tt)

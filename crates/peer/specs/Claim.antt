@@ -49,14 +49,20 @@ pub record Peer (conf : Conf) (now : ℕ) (bytes lengths : List ℕ) (s : ℕ) :
   -- of each stream one END_STREAM where its End was told, and none before
   pub ends : (es : List Entry) (x : Stream) → AllOf (Lone s) es
       → count (is_ended x) (heard_of conf now bytes lengths s es) ≡ once (any (is_end x) (said conf now bytes lengths es))
+  -- so where the peer sees a stream ended, its End was told: of each stream by itself, which a channel does not tell
+  pub seen : (es : List Entry) (x : Stream) → AllOf (Lone s) es → 1 ≤ count (is_ended x) (heard_of conf now bytes lengths s es)
+      → any (is_end x) (said conf now bytes lengths es) ≡ true
   -- and no frame on it behind that: no bytes, no second end, no reset
   pub mute : (es ds : List Entry) (x : Stream) → AllOf (Lone s) (es ++ ds) → count (is_ended x) (heard_of conf now bytes lengths s es) ≡ 1
       → count (is_on x) (heard_of conf now bytes lengths s (es ++ ds)) ≡ count (is_on x) (heard_of conf now bytes lengths s es)
-  -- one RST_STREAM where Terminal was told and its End was not, and none before
+  -- one RST_STREAM where Terminal was told and its End was not
   pub resets : (es : List Entry) (x : Stream) → AllOf (Lone s) es
       → count (is_reset x) (heard_of conf now bytes lengths s es)
       ≡ once (any terminal_message (said conf now bytes lengths es) && not (any (is_end x) (said conf now bytes lengths es)))
-  -- so by Terminal each stream has ended, once, by one of the two
+  -- so none before Terminal
+  pub unbroken : (es : List Entry) (x : Stream) → AllOf (Lone s) es → any terminal_message (said conf now bytes lengths es) ≡ false
+      → count (is_reset x) (heard_of conf now bytes lengths s es) ≡ 0
+  -- by which each stream has ended, once, by one of the two
   pub over : (es : List Entry) (x : Stream) → AllOf (Lone s) es → any terminal_message (said conf now bytes lengths es) ≡ true
       → count (is_ended x) (heard_of conf now bytes lengths s es) + count (is_reset x) (heard_of conf now bytes lengths s es) ≡ 1
   -- and nothing stands on the wire behind it, whatever is called
