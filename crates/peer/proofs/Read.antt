@@ -67,12 +67,12 @@ module _ (s : ℕ) where
     where
       by : (f : Frame) → read s (bytes_of s f p) ≡ Ok f → Says s (bytes_of s f p) f → drop (start f) (bytes_of s f p) ≡ p → length (bytes_of s f p) ≡ start f + size f
           → hear s (bytes_of s f p) ≡ as_heard f p
-      by (Update Stdout units) e h d n = rw (e, h.frame.0, h.frame.2, here, h.frame.3) refl
+      by (Update Stdout units) e h d n = rw (e, h.frame.0, h.frame.2, here) (ap Window h.frame.3)
       by (Update Stderr units) e h d n = rw (e, h.frame.0, h.frame.2, apart, beside) refl
-      by (Data Stdout k false) e h d n = rw (e, h.frame.0, h.frame.2, here, h.frame.3, d) refl
-      by (Data Stderr k false) e h d n = rw (e, h.frame.0, h.frame.2, apart, beside, h.frame.3, d) refl
-      by (Data Stdout k true) e h d n = rw (e, h.frame.0, h.frame.2, here, h.frame.3, n) refl
-      by (Data Stderr k true) e h d n = rw (e, h.frame.0, h.frame.2, apart, beside, h.frame.3, n) refl
+      by (Data Stdout k false) e h d n = rw (e, h.frame.0, h.frame.2, here, h.frame.3) (ap (Bytes Stdout) d)
+      by (Data Stderr k false) e h d n = rw (e, h.frame.0, h.frame.2, apart, beside, h.frame.3) (ap (Bytes Stderr) d)
+      by (Data Stdout k true) e h d n = rw (e, h.frame.0, h.frame.2, here, h.frame.3) (ap (λ (m : ℕ). read_if (eqb m 9) (Ended Stdout)) n)
+      by (Data Stderr k true) e h d n = rw (e, h.frame.0, h.frame.2, apart, beside, h.frame.3) (ap (λ (m : ℕ). read_if (eqb m 9) (Ended Stderr)) n)
       by (Reset Stdout) e h d n = rw (e, h.frame.0, h.frame.2, here) refl
       by (Reset Stderr) e h d n = rw (e, h.frame.0, h.frame.2, apart, beside) refl
 
