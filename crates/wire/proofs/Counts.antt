@@ -4,7 +4,7 @@ use Rattle.exec.specs.declared.Status.{Status}
 use mathlib.Core.Bool.{Bool, true, false, cond, ◌||◌}
 use mathlib.Core.Path.{◌≡◌, refl, sym, ap, ◌∙◌}
 use mathlib.Core.List.{List, [], ◌∷◌, ◌++◌, append-nil}
-use Prim.Native.Nat.{ℕ, suc, ◌+◌}
+use Prim.Native.Nat.{◌+◌}
 use native.Mathlib.Omega.{arith}
 use Rattle.exec.specs.declared.Stream.{Stream}
 use Rattle.exec.specs.Each.{Each, one, every}
@@ -14,10 +14,10 @@ use Rattle.calls.specs.Call.{Message}
 use Rattle.account.specs.Claim.{terminal_message}
 use Rattle.account.specs.TurnClaim.{carried_by}
 use Rattle.account.proofs.Flags.{either}
-use Rattle.wire.specs.Messages.{any, ends_by}
-use Rattle.wire.specs.Heard.{Heard, Eof, Exit, Close, bytes_in, units_in, is_eof, is_close, is_unread, joined, count, told_by}
-use Rattle.wire.specs.Channel.{exit_of, speaks}
-use Rattle.wire.specs.Claim.{credit_in, once}
+use Rattle.wire.specs.Messages.{credit_in, any, ends_by}
+use Rattle.wire.specs.Heard.{joined, count, once, told_by}
+use Rattle.wire.specs.Channel.{Heard, Eof, Exit, Close, bytes_in, units_in, is_eof, is_close, is_unread, exit_of, speaks}
+use Rattle.wire.proofs.Follows.{count_append}
 use Rattle.wire.proofs.Ends.{ends_all, OnceAt, Once}
 use Rattle.wire.proofs.Order.{Final}
 
@@ -41,22 +41,10 @@ units_told e _ = refl
 
 -- ---- how many
 
-count_append : (p : Heard → Bool) (l k : List Heard) → count p (l ++ k) ≡ count p l + count p k
-count_append p [] k = omega arith
-count_append p (x ∷ l) k = by (p x) (count p (l ++ k)) (count p l) (count_append p l k)
-  where
-    by : (b : Bool) (n m : ℕ) → n ≡ m + count p k → cond b (suc n) n ≡ cond b (suc m) m + count p k
-    by true n m h = omega arith
-    by false n m h = h
-
-pub unread_none : (e : Each Bool) (ms : List Message) → count is_unread (told_by speaks e ms) ≡ 0
-unread_none e [] = refl
-unread_none e (m ∷ ms) = count_append is_unread (speaks e m) (told_by speaks (ends_by m e) ms) ∙ (let y = by m in let z = unread_none (ends_by m e) ms in omega arith)
-  where
-    by : (m : Message) → count is_unread (speaks e m) ≡ 0
-    by (Call.End y) = either (λ (hs : List Heard). count is_unread hs ≡ 0) (every (ends_by (Call.End y) e)) (Eof ∷ []) [] refl refl
-    by (Call.Terminal o) = exit_by (λ hs. count is_unread (hs ++ (Close ∷ [])) ≡ 0) refl (λ s. refl) o.status
-    by _ = refl
+pub unread_none : (e : Each Bool) (m : Message) → count is_unread (speaks e m) ≡ 0
+unread_none e (Call.End y) = either (λ (hs : List Heard). count is_unread hs ≡ 0) (every (ends_by (Call.End y) e)) (Eof ∷ []) [] refl refl
+unread_none e (Call.Terminal o) = exit_by (λ hs. count is_unread (hs ++ (Close ∷ [])) ≡ 0) refl (λ s. refl) o.status
+unread_none e _ = refl
 
 -- Terminal, which is the last, is one CLOSE
 pub closes_told : (e : Each Bool) (ms : List Message) → Final ms → count is_close (told_by speaks e ms) ≡ once (any terminal_message ms)

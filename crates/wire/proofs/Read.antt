@@ -40,23 +40,27 @@ use Rattle.exits.specs.Exit as Exits
 use Rattle.exits.specs.Exit.{request, is_told, is_untold, ending}
 use Rattle.exits.specs.RoundTrip.{Tells, forth}
 use Rattle.exits.proofs.Ended.{ended_reads}
-use Rattle.channel.specs.Calls.{WriteAfter, wrote, wrote_buffer, sent_as, sent_buffer, part_back, has_ended, asked, told, is_left}
-use Rattle.channel.specs.Ended.{Writes, taken, tells}
-use Rattle.channel.proofs.Ended.{writes}
+use Rattle.carrier.specs.Carrier.{WriteAfter, part_back, asked, wrote, wrote_buffer, told, Carriage}
+use Rattle.carrier.specs.CarrierLaws.{part_in, part_reaches}
+use Rattle.carrier.specs.Writes.{Writes, taken, tells, writes}
+use Rattle.channel.specs.Calls.{write_record, sent_as, sent_buffer, has_ended, laying, is_left, carriage}
+use Rattle.channel.proofs.Ended.{pays}
 use Rattle.calls.specs.Call as Call
 use Rattle.calls.specs.Call.{Answer}
 use Rattle.account.specs.Step.{State}
-use Rattle.account.specs.Records.{write_record, answer_entry}
+use Rattle.account.specs.Records as Records
+use Rattle.account.specs.Records.{answers, answer_entry}
 use Rattle.account.proofs.Plain as Plain
 use Rattle.account.proofs.Plain.{said}
 use Rattle.account.proofs.Demand.{Fine, goes, answer_same}
 use Rattle.account.proofs.Lives.{conf_of}
 use Rattle.account.proofs.Sides.{last_of}
 use Rattle.account.proofs.InputRange.{HeldIn}
-use Rattle.account.proofs.EachRecord.{Does, answers, told_does, part_in, part_long}
+use Rattle.account.proofs.EachRecord.{Does}
+use Rattle.account.proofs.EachWrite.{told_does}
 use Rattle.wire.specs.Messages.{said_in}
-use Rattle.wire.specs.Heard.{Heard, Window, Bytes, Eof, Exit, Close, told_by}
-use Rattle.wire.specs.Channel.{packet, written, on_wire, hear, heard, exit_of, speaks}
+use Rattle.wire.specs.Heard.{told_by}
+use Rattle.wire.specs.Channel.{packet, written, on_wire, Heard, Window, Bytes, Eof, Exit, Close, hear, heard, exit_of, speaks}
 use Rattle.wire.specs.Claim.{OfChannel}
 use Rattle.std.proofs.lemmas.List.{map-append}
 use Rattle.wire.proofs.Ends.{Muted, ends, at, end_untold}
@@ -125,21 +129,21 @@ module _ (channel : ℕ) where
 
     -- the payload is the one that was put into the part
     payload_heard : (rec : Record) (k : ℕ) (buffer pay part : List ℕ) → 13 ≤ length buffer → length pay ≡ size rec
-        → drop (start rec) (take (start rec + size rec) (laid_record channel rec (part_back k buffer (pay ++ drop (size rec) part)))) ≡ pay
+        → drop (start rec) (take (start rec + size rec) (laid_record channel rec (part_back 13 k buffer (pay ++ drop (size rec) part)))) ≡ pay
     payload_heard rec k buffer pay part h l =
         let m : size rec ≤ length (pay ++ drop (size rec) part) = simp length-append (omega (arith, l)) in
-        let b : List ℕ = part_back k buffer (pay ++ drop (size rec) part) in
-        ap (drop (start rec)) (laid_front channel rec b (part_long k buffer (pay ++ drop (size rec) part) (size rec) h m))
+        let b : List ℕ = part_back 13 k buffer (pay ++ drop (size rec) part) in
+        ap (drop (start rec)) (laid_front channel rec b (part_reaches 13 k buffer (pay ++ drop (size rec) part) (size rec) h m))
         ∙ payload_back channel rec (take (size rec) (drop 13 b))
-        ∙ part_in k buffer (pay ++ drop (size rec) part) (size rec) h m
+        ∙ part_in 13 k buffer (pay ++ drop (size rec) part) (size rec) h m
         ∙ take_at pay (drop (size rec) part) (size rec) l
 
     output_heard : (rec : Record) (k : ℕ) (buffer pay part : List ℕ) → 13 ≤ length buffer → length pay ≡ size rec → Fits rec
         → (f : List ℕ → Heard) → ((b : List ℕ) → as_heard rec b ≡ f (drop (start rec) b))
-        → heard channel (packet (take (start rec + size rec) (laid_record channel rec (part_back k buffer (pay ++ drop (size rec) part))))) ≡ f pay ∷ []
+        → heard channel (packet (take (start rec + size rec) (laid_record channel rec (part_back 13 k buffer (pay ++ drop (size rec) part))))) ≡ f pay ∷ []
     output_heard rec k buffer pay part h l fits f g =
         let p : List ℕ = pay ++ drop (size rec) part in
-        laid_heard rec (part_back k buffer p) (part_long k buffer p (size rec) h (simp length-append (omega (arith, l)))) fits
+        laid_heard rec (part_back 13 k buffer p) (part_reaches 13 k buffer p (size rec) h (simp length-append (omega (arith, l)))) fits
         ∙ ap (λ (x : Heard). x ∷ []) (g _ ∙ ap f (payload_heard rec k buffer pay part h l))
 
     -- A MESSAGE THAT IS WRITTEN IS WHAT THE PEER HEARS
@@ -147,14 +151,14 @@ module _ (channel : ℕ) where
         → ((x : Stream) (n : ℕ) → Choice.Output x n ≡ m → (length (payload r x n store) ≡ n) × (n < 2 ^ 32))
         → ((x : Stream) → Choice.End x ≡ m → ended ≡ every (on_one x (λ (b : Bool). true) e))
         → is_left (said_for m r) ≡ false
-        → heard channel (written (wrote channel ended (said_for m r)) (wrote_buffer channel ended (said_for m r) (part_back k buffer (buffer_after m r store part))))
+        → heard channel (written (wrote (laying channel ended) (said_for m r)) (wrote_buffer (laying channel ended) (said_for m r) (part_back 13 k buffer (buffer_after m r store part))))
         ≡ told_by speaks e (said_in (said m r store))
     unfolding said_for buffer_after wrote wrote_buffer sent_as sent_buffer is_left said
     choice_heard Choice.Credit r store part buffer k ended e h small l last u =
-        laid_heard (Record.Adjust r.input.window.returnable) (part_back k buffer part) (part_long k buffer part 0 h (omega arith)) small
+        laid_heard (Record.Adjust r.input.window.returnable) (part_back 13 k buffer part) (part_reaches 13 k buffer part 0 h (omega arith)) small
     choice_heard (Choice.End x) r store part buffer k false e h small l last u = ap (λ (b : Bool). cond b (Eof ∷ []) [] ++ []) (last x refl)
     choice_heard (Choice.End x) r store part buffer k true e h small l last u =
-        laid_heard Record.Eof (part_back k buffer part) (part_long k buffer part 0 h (omega arith)) (omega arith)
+        laid_heard Record.Eof (part_back 13 k buffer part) (part_reaches 13 k buffer part 0 h (omega arith)) (omega arith)
         ∙ ap (λ (b : Bool). cond b (Eof ∷ []) [] ++ []) (last x refl)
     choice_heard (Choice.Output Stdout n) r store part buffer k ended e h small l last u =
         output_heard (Record.Data n) k buffer (payload r Stdout n store) part h (l Stdout n refl).0 (l Stdout n refl).1 (Bytes Stdout) (λ b. refl)
@@ -190,13 +194,16 @@ module _ (s : State) (f : Fine s) (v : Muted s.runner) (channel : ℕ) (o : OfCh
       let most = b.queued in let within = b.queue.most in let k = o.chunk in
       (payload_length s.runner s.bytes part x n good e, omega arith)
 
-  spoken : 13 ≤ length buffer → answers (tells s.runner channel s.bytes buffer) ≡ said (choose s.runner (length part)) s.runner s.bytes
-  unfolding Does Plain.answer
-  spoken h = (told_does s channel buffer good h).1 ∙ answer_same s (Call.next_message part) f
+  k : Carriage
+  k = carriage s.runner channel s.bytes buffer
 
-  written_heard : (met : Bool) (w : WriteAfter) → Writes s.runner channel s.bytes buffer met w
+  spoken : 13 ≤ length buffer → answers (tells k s.runner s.bytes buffer) ≡ said (choose s.runner (length part)) s.runner s.bytes
+  unfolding Does Plain.answer k
+  spoken h = (told_does s (Records.write_record channel buffer) k buffer (pays channel (has_ended s.runner)) good h).1 ∙ answer_same s (Call.next_message part) f
+
+  written_heard : (met : Bool) (w : WriteAfter) → Writes k s.runner s.bytes buffer met w
       → heard channel (written w.writing.answer w.buffer) ≡ told_by speaks (ends s.runner) (said_in (answers w))
-  unfolding told asked Calls.next_message
+  unfolding told asked Calls.next_message k
   written_heard met w (taken u h) =
       rw good (choice_heard channel o.number (choose s.runner (length part)) s.runner s.bytes part buffer s.runner.limits.chunk (has_ended s.runner) (ends s.runner) (omega (arith, h)) small fitting
       (λ x c. last_of x (ends s.runner) (at x s.runner ∙ end_untold (length part) s.runner x v c)) (rw good at u))
@@ -204,6 +211,6 @@ module _ (s : State) (f : Fine s) (v : Muted s.runner) (channel : ℕ) (o : OfCh
   written_heard met w _ = refl
 
   -- A RECORD THAT IS WRITTEN IS HEARD AS ITS MESSAGE
-  pub record_told : heard channel (on_wire s (write_record channel buffer)) ≡ told_by speaks (ends s.runner) (said_in (answer_entry s (write_record channel buffer)))
-  unfolding on_wire answer_entry
-  record_told = written_heard _ _ (writes s.runner channel s.bytes buffer good)
+  pub record_told : heard channel (on_wire s (Records.write_record channel buffer)) ≡ told_by speaks (ends s.runner) (said_in (answer_entry s (Records.write_record channel buffer)))
+  unfolding on_wire answer_entry write_record k
+  record_told = written_heard _ _ (writes k s.runner s.bytes buffer good)

@@ -1,70 +1,69 @@
 -- What a peer can know from the bytes of a channel.
 use Rattle.std.specs.Prelude.{Option, Result, Some, None, Ok, Err}
-use Rattle.exec.specs.declared.Receipt.{Receipt}
 use Rattle.exec.specs.declared.Refusal.{Refusal}
-use mathlib.Core.Bool.{Bool, true, false, ◌||◌, true≢false}
-use mathlib.Core.Path.{◌≡◌, refl, sym, ap, ◌∙◌, subst, subst⁻¹}
+use mathlib.Core.Bool.{true, false, ◌&&◌, true≢false}
+use mathlib.Core.Path.{◌≡◌, refl, sym, ap, ◌∙◌, subst⁻¹}
 use mathlib.Core.List.{List, [], ◌∷◌, ◌++◌, append-nil}
 use Prim.Native.Nat.{ℕ, ◌+◌, ◌≤◌}
 use native.Mathlib.Omega.{arith}
 use lib.ListN.{length, take, drop}
 use borrow.Author.Tests.{le-leb}
+use Rattle.exec.specs.declared.Limits.{Limits}
 use Rattle.exec.specs.declared.Outcome.{Outcome}
 use Rattle.exec.specs.declared.Stream.{Stream}
-use Rattle.exec.specs.Each.{Each, one}
+use Rattle.exec.specs.Each.{one}
 use Rattle.exec.specs.Stream.{every_stream, every_stream_lem}
 use Rattle.runner.specs.declared.answer.Message.{Message as Messages}
+use Rattle.ring.specs.Flags.{and_l}
+use Rattle.carrier.specs.Carrier.{is_bytes, room}
 use Rattle.channel.specs.Calls as Channel
+use Rattle.channel.specs.Calls.{is_channel}
+use Rattle.frames.specs.Calls as Frames
+use Rattle.frames.specs.Calls.{is_framed}
 use Rattle.calls.specs.Call as Call
 use Rattle.calls.specs.Call.{Conf, Call, Answer, Message}
 use Rattle.account.specs.Step as Step
 use Rattle.account.specs.Step.{State}
-use Rattle.account.specs.Claim.{Opens, IsPrefix, messages, is_message}
-use Rattle.account.specs.Records.{Entry, call, read_record, write_record, next_entry, read_as, wrote_as, answer_entry, after_entries, run_entries, is_untaken, roomy, made, SilentIn}
-use Rattle.account.specs.TurnClaim.{carried_by, taken_in, sent_in}
-use Rattle.account.proofs.Plain.{answer}
-use Rattle.account.proofs.Demand.{answer_same}
-use Rattle.account.proofs.Finish as Finish
-use Rattle.account.proofs.Finish.{Kind, kind}
+use Rattle.account.specs.Claim.{Opens, is_message}
+use Rattle.account.specs.Records.{Entry, call, read_record, write_record, read_frame, write_frame, wrote_as, answer_entry, after_entries, is_untaken, roomy, made}
+use Rattle.account.specs.TurnClaim.{carried_by}
 use Rattle.account.proofs.EachRecord.{Does}
-use Rattle.account.proofs.Records.{Good, does, good_open, good_at, whole}
-use Rattle.account.proofs.Sides.{one_per, every_same}
-use Rattle.account.proofs.Told.{taken_told, sent_told}
-use Rattle.account.proofs.Turn.{turn}
-use Rattle.wire.specs.Messages.{said_in, said_from, is_end, any, no_ends}
-use Rattle.wire.specs.Heard.{Close, AllOf, bytes_in, units_in, is_eof, is_close, is_unread, joined, count, wire, told_by}
-use Rattle.wire.specs.Channel.{written, on_wire, hear, heard, exit_of, speaks}
-use Rattle.wire.specs.Claim.{OfChannel, Lone, credit_in, once, heard_of, said, Wire}
-use Rattle.wire.proofs.Ends.{Muted, ends, ends_all, Once, unsaid, ends_so}
-use Rattle.wire.proofs.Order.{from_open, fresh_ends, fresh_muted, ordered}
+use Rattle.account.proofs.Records.{Good, does, good_at, whole}
+use Rattle.account.proofs.Sides.{every_same}
+use Rattle.wire.specs.Messages.{said_in, said_from, said, credit_in, is_end, any, no_ends}
+use Rattle.wire.specs.Heard.{AllOf, joined, count, once, told_by}
+use Rattle.wire.specs.Channel.{written, on_wire, Heard, Close, bytes_in, units_in, is_eof, is_close, is_unread, hear, heard, exit_of, speaks}
+use Rattle.wire.specs.Claim.{OfChannel, Lone, heard_of, Wire}
+use Rattle.wire.proofs.Ends.{Muted, ends, ends_all}
+use Rattle.wire.proofs.Order.{from_open, ordered}
 use Rattle.wire.proofs.Read.{record_told}
-use Rattle.wire.proofs.Follows.{joined_append, all_front, joined_told, list_heard, sent_said, none_carried, said_append}
+use Rattle.std.proofs.lemmas.List.{map-append}
+use Rattle.wire.proofs.Follows.{joined_append, all_front, once_true, Steps, joined_told, none_told, none_carried, said_append, call_unsaid, read_unsaid, unmade_unsaid, silent_wire, told_ends, told_once, follows_so, has, has_sent, has_front, has_whole}
 use Rattle.wire.proofs.Counts.{bytes_told, units_told, unread_none, closes_told, eofs_told}
 
 -- ---- an entry
 
-quiet_call : (c : Call) (s : State) → messages (c ∷ []) ≡ 0 → is_message (answer s c) ≡ false
-quiet_call c s e = by c (kind c s) e
-  where
-    by : (c : Call) → Kind s c → messages (c ∷ []) ≡ 0 → is_message (answer s c) ≡ false
-    by c (Finish.quiet q) e = q
-    by c (Finish.speaks b) e = absurd (omega arith)
-
--- a record that is read says nothing
-read_unsaid : (a : Result (Option Receipt) Refusal) → said_in (read_as a) ≡ []
-read_unsaid (Ok (Some Receipt.Applied)) = refl
-read_unsaid _ = refl
+-- a channel's runner is none for frames
+unframed : (l : Limits) (s : ℕ) → is_channel l ≡ true → is_framed l s ≡ false
+unframed l s h =
+    let t : l.shared ≡ true = and_l l.shared (is_bytes l.input.unit) (and_l (l.shared && is_bytes l.input.unit) (is_bytes l.output.unit) h) in
+    rw t refl
 
 module _ (conf : Conf) (channel : ℕ) (o : OfChannel conf channel) where
   entry_heard : (e : Entry) (s : State) → Good conf s → Muted s.runner → Lone channel e
       → heard channel (on_wire s e) ≡ told_by speaks (ends s.runner) (said_in (answer_entry s e))
-  unfolding on_wire answer_entry
-  entry_heard (call c) s g v l =
-      sym (ap (told_by speaks (ends s.runner)) (unsaid (Step.answer s c) (ap is_message (answer_same s c g.fine) ∙ quiet_call c s l)))
+  unfolding on_wire answer_entry made
+  entry_heard (call c) s g v l = sym (ap (told_by speaks (ends s.runner)) (call_unsaid c s g.fine l))
   entry_heard (read_record now other b) s g v l = sym (ap (told_by speaks (ends s.runner)) (read_unsaid (Channel.read_record s.runner now other b s.bytes s.lengths).reading.answer))
   entry_heard (write_record other buffer) s g v l =
       subst⁻¹ (λ (n : ℕ). heard channel (on_wire s (write_record n buffer)) ≡ told_by speaks (ends s.runner) (said_in (answer_entry s (write_record n buffer)))) l
       (record_told s g.fine v channel (subst⁻¹ (λ (k : Conf). OfChannel k channel) g.same o) buffer)
+  entry_heard (read_frame now stream b) s g v l = sym (ap (told_by speaks (ends s.runner)) (read_unsaid (Frames.read_frame s.runner now stream b s.bytes s.lengths).reading.answer))
+  entry_heard (write_frame stream buffer) s g v l =
+      sym (ap (told_by speaks (ends s.runner)) (unmade_unsaid conf (write_frame stream buffer) s g (rw (unframed conf.limits stream o.limits) refl)))
+
+  steps : Steps speaks conf on_wire (heard channel) (Lone channel)
+  steps e s g v l rest = map-append (hear channel) (on_wire s e) rest ∙ ap (λ (hs : List Heard). hs ++ heard channel rest) (entry_heard e s g v l)
 
 -- ---- where nothing is said, nothing stands on the wire
 
@@ -80,95 +79,68 @@ unwired (write_record channel buffer) s h =
     unsent (Channel.write_record s.runner channel s.bytes buffer).writing.answer (Channel.write_record s.runner channel s.bytes buffer).buffer h
 unwired _ s h = refl
 
-silent_wire : (es : List Entry) (s : State) → SilentIn (run_entries s es) → wire on_wire s es ≡ []
-silent_wire [] s h = refl
-silent_wire (e ∷ es) s h = rw (unwired e s h.0) (silent_wire es (next_entry s e) h.1)
-
 -- ---- the claim
 
 module _ (conf : Conf) (now : ℕ) (bytes lengths : List ℕ) (channel : ℕ) (op : Opens conf now bytes lengths) (o : OfChannel conf channel) where
-  abbrev begins : State
-  begins = Step.opened conf now bytes lengths
-
   follows : (es : List Entry) → AllOf (Lone channel) es → heard_of conf now bytes lengths channel es ≡ told_by speaks no_ends (said conf now bytes lengths es)
-  follows es l =
-      list_heard speaks conf on_wire (hear channel) (Lone channel) (entry_heard conf channel o) es begins (good_open conf now bytes lengths op) (fresh_muted conf now bytes lengths op) l
-      ∙ ap (λ (e : Each Bool). told_by speaks e (said conf now bytes lengths es)) (fresh_ends conf now bytes lengths op)
+  follows es l = follows_so conf now bytes lengths op speaks on_wire (heard channel) (Lone channel) refl (steps conf channel o) es l
 
-  has : (es : List Entry) (x : Stream) → AllOf (Lone channel) es
+  has_at : (es : List Entry) (x : Stream) → AllOf (Lone channel) es
       → joined (bytes_in x) (heard_of conf now bytes lengths channel es) ≡ joined (carried_by x) (said conf now bytes lengths es)
-  has es x l = ap (joined (bytes_in x)) (follows es l) ∙ joined_told speaks (bytes_in x) (carried_by x) (bytes_told x) no_ends (said conf now bytes lengths es)
-
-  sent_at : (es : List Entry) (x : Stream) → AllOf (Lone channel) es → joined (bytes_in x) (heard_of conf now bytes lengths channel es) ≡ sent_in x (run_entries begins es)
-  sent_at es x l = has es x l ∙ sym (sent_said x (run_entries begins es))
-
-  front_at : (es : List Entry) (x : Stream) → AllOf (Lone channel) es
-      → IsPrefix (joined (bytes_in x) (heard_of conf now bytes lengths channel es)) (taken_in x (run_entries begins es))
-  front_at es x l =
-      let p = (whole conf now bytes lengths op).joined es x in
-      (p.0, sym (taken_told conf now bytes lengths op es x) ∙ p.1 ∙ ap (λ (b : List ℕ). b ++ p.0) (sent_told conf now bytes lengths op es x ∙ sym (sent_at es x l)))
-
-  -- the streams whose End was told
-  told_ends : (es : List Entry) (x : Stream) → one x (ends_all (said conf now bytes lengths es) no_ends) ≡ any (is_end x) (said conf now bytes lengths es)
-  told_ends es x =
-      ends_so (said conf now bytes lengths es) no_ends x ∙ ap (λ (b : Bool). b || any (is_end x) (said conf now bytes lengths es)) (one_per (λ (y : Stream). false) x)
+  has_at es x l = has conf now bytes lengths op speaks bytes_in bytes_told es _ (follows es l) x
 
   eofs_at : (es : List Entry) → AllOf (Lone channel) es
       → count is_eof (heard_of conf now bytes lengths channel es) ≡ once (every_stream (λ (x : Stream). any (is_end x) (said conf now bytes lengths es)))
   eofs_at es l =
       let ms : List Message = said conf now bytes lengths es in
-      let f : Once no_ends ms = subst (λ (e : Each Bool). Once e ms) (fresh_ends conf now bytes lengths op) (from_open conf now bytes lengths op es).0.once in
-      ap (count is_eof) (follows es l) ∙ (let z = eofs_told ms no_ends f in omega arith)
-      ∙ ap once (every_same (λ (x : Stream). one x (ends_all ms no_ends)) (λ (x : Stream). any (is_end x) ms) (told_ends es))
-
-  once_true : (b : Bool) → once b ≡ 1 → b ≡ true
-  once_true true e = refl
-  once_true false e = absurd (omega arith)
+      ap (count is_eof) (follows es l) ∙ (let z = eofs_told ms no_ends (told_once conf now bytes lengths op es) in omega arith)
+      ∙ ap once (every_same (λ (x : Stream). one x (ends_all ms no_ends)) (λ (x : Stream). any (is_end x) ms) (told_ends conf now bytes lengths op es))
 
   mute_at : (es ds : List Entry) (x : Stream) → AllOf (Lone channel) (es ++ ds) → count is_eof (heard_of conf now bytes lengths channel es) ≡ 1
       → joined (bytes_in x) (heard_of conf now bytes lengths channel (es ++ ds)) ≡ joined (bytes_in x) (heard_of conf now bytes lengths channel es)
   mute_at es ds x l n =
       let k : AllOf (Lone channel) es = all_front (Lone channel) es ds l in
+      let s : State = Step.opened conf now bytes lengths in
       let ms : List Message = said conf now bytes lengths es in
-      let ns : List Message = said_from (after_entries begins es) ds in
+      let ns : List Message = said_from (after_entries s es) ds in
       let e : any (is_end x) ms ≡ true = every_stream_lem (λ (y : Stream). any (is_end y) ms) (once_true _ (sym (eofs_at es k) ∙ n)) x in
-      has (es ++ ds) x l
-      ∙ ap (joined (carried_by x)) (said_append es ds begins)
+      has_at (es ++ ds) x l
+      ∙ ap (joined (carried_by x)) (said_append es ds s)
       ∙ joined_append (carried_by x) ms ns
       ∙ ap (λ (b : List ℕ). joined (carried_by x) ms ++ b) (none_carried x ns ((ordered conf now bytes lengths op).ended es ds x e))
       ∙ append-nil (joined (carried_by x) ms)
-      ∙ sym (has es x k)
+      ∙ sym (has_at es x k)
 
-  exits_at : (es : List Entry) (buffer : List ℕ) (t : Outcome) → answer_entry (after_entries begins es) (write_record channel buffer) ≡ Call.Says (Call.Terminal t)
-      → heard channel (on_wire (after_entries begins es) (write_record channel buffer)) ≡ exit_of t.status ++ (Close ∷ [])
+  exits_at : (es : List Entry) (buffer : List ℕ) (t : Outcome) → answer_entry (after_entries (Step.opened conf now bytes lengths) es) (write_record channel buffer) ≡ Call.Says (Call.Terminal t)
+      → heard channel (on_wire (after_entries (Step.opened conf now bytes lengths) es) (write_record channel buffer)) ≡ exit_of t.status ++ (Close ∷ [])
   exits_at es buffer t e =
-      let s : State = after_entries begins es in
+      let s : State = after_entries (Step.opened conf now bytes lengths) es in
       let g : Good conf s = good_at conf now bytes lengths op es in
       record_told s g.fine (from_open conf now bytes lengths op es).0.muted channel (subst⁻¹ (λ (k : Conf). OfChannel k channel) g.same o) buffer
       ∙ ap (λ (a : Answer). told_by speaks (ends s.runner) (said_in a)) e
       ∙ append-nil (exit_of t.status ++ (Close ∷ []))
 
   asks_at : (es : List Entry) (buffer : List ℕ) → conf.limits.chunk + 13 ≤ length buffer → 43 ≤ length buffer
-      → is_untaken (answer_entry (after_entries begins es) (write_record channel buffer)) ≡ false
-      → answer_entry (after_entries begins es) (write_record channel buffer) ≡ Step.answer (after_entries begins es) (Call.next_message (take conf.limits.chunk (drop 13 buffer)))
+      → is_untaken (answer_entry (after_entries (Step.opened conf now bytes lengths) es) (write_record channel buffer)) ≡ false
+      → answer_entry (after_entries (Step.opened conf now bytes lengths) es) (write_record channel buffer) ≡ Step.answer (after_entries (Step.opened conf now bytes lengths) es) (Call.next_message (take conf.limits.chunk (drop 13 buffer)))
   unfolding Does made
   asks_at es buffer h k u =
-      let r : roomy conf buffer ≡ true = le-leb (Channel.room conf.limits) (length buffer) (omega arith) in
-      (rw (o.limits, r, u) at (does conf (write_record channel buffer) (after_entries begins es) (good_at conf now bytes lengths op es))).1
+      let r : roomy conf buffer ≡ true = le-leb (room conf.limits) (length buffer) (omega arith) in
+      (rw (o.limits, r, u) at (does conf (write_record channel buffer) (after_entries (Step.opened conf now bytes lengths) es) (good_at conf now bytes lengths op es))).1
 
   -- WHAT THE PEER KNOWS
   pub wired : Wire conf now bytes lengths channel
   wired = record {
     follows = follows;
     asks = asks_at;
-    unread = λ es l. ap (count is_unread) (follows es l) ∙ unread_none no_ends (said conf now bytes lengths es);
-    sent = sent_at;
-    front = front_at;
+    unread = λ es l. ap (count is_unread) (follows es l) ∙ none_told speaks is_unread unread_none no_ends (said conf now bytes lengths es);
+    sent = λ es x l. has_sent conf now bytes lengths op speaks bytes_in bytes_told es _ (follows es l) x;
+    front = λ es x l. has_front conf now bytes lengths op speaks bytes_in bytes_told es _ (follows es l) x;
     windows = λ es l. ap (joined units_in) (follows es l) ∙ joined_told speaks units_in credit_in units_told no_ends (said conf now bytes lengths es);
     eofs = eofs_at;
     mute = mute_at;
     closes = λ es l. ap (count is_close) (follows es l) ∙ closes_told no_ends (said conf now bytes lengths es) (from_open conf now bytes lengths op es).1.final;
     exits = exits_at;
-    last = λ es e ds t. silent_wire ds _ ((whole conf now bytes lengths op).once es e ds t);
-    whole = λ es e t x l a u. sent_at es x l ∙ (turn conf now bytes lengths op).rows es e t x a u;
+    last = λ es e ds t. silent_wire on_wire unwired ds _ ((whole conf now bytes lengths op).once es e ds t);
+    whole = λ es e t x l a u. has_whole conf now bytes lengths op speaks bytes_in bytes_told es _ (follows es l) x e t a u;
   }

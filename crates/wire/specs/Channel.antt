@@ -1,12 +1,14 @@
 -- A channel of RFC 4254 as a wire: the records that the sender puts on it, what its peer's readers make of them, and what is to be
 -- heard of a message. The sender cuts what a write left by its answer; the peer has the bytes, and no message, length or answer.
-use Rattle.std.specs.Prelude.{Bool, cond, ◌&&◌, List, [], ◌∷◌, ◌++◌, map, ℕ, ◌-◌, eqb, length, take, drop, get_or, Option, Result, Some, None, Ok, Err}
+use Rattle.std.specs.Prelude.{Bool, true, false, cond, ◌&&◌, List, [], ◌∷◌, ◌++◌, map, ℕ, ◌-◌, eqb, length, take, drop, get_or, Option, Result, Some, None, Ok, Err}
 use Rattle.runner.specs.declared.answer.Message.{Message}
 use Rattle.codec.specs.declared.Record.{Record}
 use Rattle.exec.specs.declared.Status.{Status}
 use Rattle.exec.specs.declared.Refusal.{Refusal}
+use Rattle.exec.specs.declared.Stream.{Stream}
 use Rattle.exec.specs.declared.Stream.TheVariants.{Stdout, Stderr}
 use Rattle.exec.specs.Each.{Each, every}
+use Rattle.exec.specs.Stream.{same_stream}
 use Rattle.runner.specs.declared.answer.Message as Messages
 use Rattle.octets.specs.Bytes.{number_at}
 use Rattle.codec.specs.Codec as Codec
@@ -14,9 +16,8 @@ use Rattle.exits.specs.Exit as Exits
 use Rattle.channel.specs.Calls as Channel
 use Rattle.calls.specs.Call as Call
 use Rattle.account.specs.Step.{State}
-use Rattle.account.specs.Records.{Entry, call, read_record, write_record}
+use Rattle.account.specs.Records.{Entry, call, read_record, write_record, read_frame, write_frame}
 use Rattle.wire.specs.Messages.{ends_by}
-use Rattle.wire.specs.Heard.{Heard, Window, Bytes, Eof, Exit, Close, Unread}
 
 -- ---- what stands on it
 
@@ -44,8 +45,60 @@ on_wire s (call c) = []
 on_wire s (read_record now channel b) = []
 on_wire s (write_record channel buffer) =
     written (Channel.write_record s.runner channel s.bytes buffer).writing.answer (Channel.write_record s.runner channel s.bytes buffer).buffer
+on_wire s (read_frame now stream b) = []
+on_wire s (write_frame stream buffer) = []
 
 -- ---- what its peer hears
+
+-- what a record is heard as
+pub data Heard : Type 0 where
+  Window : (units : ℕ) → Heard  -- so many units more may be sent
+  Bytes : Stream → (payload : List ℕ) → Heard
+  Eof : Heard  -- no more bytes
+  Exit : Status → Heard  -- how the program ended
+  Close : Heard
+  Unread : Heard  -- the reader refused it
+
+-- what the peer has of it
+abbrev pub bytes_in : Stream → Heard → List ℕ
+bytes_in x (Window n) = []
+bytes_in x (Bytes y b) = cond (same_stream y x) b []
+bytes_in x Eof = []
+bytes_in x (Exit s) = []
+bytes_in x Close = []
+bytes_in x Unread = []
+
+abbrev pub units_in : Heard → List ℕ
+units_in (Window n) = n ∷ []
+units_in (Bytes x b) = []
+units_in Eof = []
+units_in (Exit s) = []
+units_in Close = []
+units_in Unread = []
+
+abbrev pub is_eof : Heard → Bool
+is_eof (Window n) = false
+is_eof (Bytes x b) = false
+is_eof Eof = true
+is_eof (Exit s) = false
+is_eof Close = false
+is_eof Unread = false
+
+abbrev pub is_close : Heard → Bool
+is_close (Window n) = false
+is_close (Bytes x b) = false
+is_close Eof = false
+is_close (Exit s) = false
+is_close Close = true
+is_close Unread = false
+
+abbrev pub is_unread : Heard → Bool
+is_unread (Window n) = false
+is_unread (Bytes x b) = false
+is_unread Eof = false
+is_unread (Exit s) = false
+is_unread Close = false
+is_unread Unread = true
 
 abbrev pub read_if : Bool → Heard → Heard
 read_if b h = cond b h Unread

@@ -1,6 +1,6 @@
 -- What a peer can know from the bytes of a channel. That a stream is truncated is not among them: RFC 4254 has no word for it, and the
 -- same bytes may stand for both (`proofs/Session`, `blind`).
-use Rattle.std.specs.Prelude.{Bool, true, false, cond, ◌≡◌, List, [], ◌∷◌, ◌++◌, ℕ, ◌+◌, ◌^◌, ◌≤◌, ◌<◌, length, take, drop}
+use Rattle.std.specs.Prelude.{true, false, ◌≡◌, List, [], ◌∷◌, ◌++◌, ℕ, ◌+◌, ◌^◌, ◌≤◌, ◌<◌, length, take, drop}
 use Rattle.exec.specs.declared.Outcome.{Outcome}
 use Rattle.exec.specs.declared.Stream.{Stream}
 use Rattle.exec.specs.Outcome.{is_truncated}
@@ -10,11 +10,11 @@ use Rattle.calls.specs.Call as Call
 use Rattle.calls.specs.Call.{Conf, Message}
 use Rattle.account.specs.Step.{answer, opened}
 use Rattle.account.specs.Claim.{IsPrefix, messages, is_terminal, terminal_message}
-use Rattle.account.specs.Records.{Entry, call, read_record, write_record, next_entry, answer_entry, after_entries, run_entries, is_untaken}
+use Rattle.account.specs.Records.{Entry, call, read_record, write_record, read_frame, write_frame, next_entry, answer_entry, after_entries, run_entries, is_untaken}
 use Rattle.account.specs.TurnClaim.{taken_in, sent_in}
-use Rattle.wire.specs.Messages.{said_from, is_end, any, no_ends}
-use Rattle.wire.specs.Heard.{Heard, Close, AllOf, bytes_in, units_in, is_eof, is_close, is_unread, joined, count, wire, told_by}
-use Rattle.wire.specs.Channel.{on_wire, heard, exit_of, speaks}
+use Rattle.wire.specs.Messages.{said, credit_in, is_end, any, no_ends}
+use Rattle.wire.specs.Heard.{AllOf, joined, count, once, wire, told_by}
+use Rattle.wire.specs.Channel.{on_wire, Heard, Close, bytes_in, units_in, is_eof, is_close, is_unread, heard, exit_of, speaks}
 
 -- limits of a channel, in u32 as open takes them, and a channel's number
 pub record OfChannel (conf : Conf) (channel : ℕ) : Type 0 where
@@ -23,28 +23,15 @@ pub record OfChannel (conf : Conf) (channel : ℕ) : Type 0 where
   pub input : conf.limits.input.size < 2 ^ 32
   pub number : channel < 2 ^ 32
 
--- every message is taken by a record for the channel; other calls, and records read, are free
+-- every message is taken by a record for the channel; other calls, records read, and frames, which a channel's runner refuses, are free
 abbrev pub Lone : (channel : ℕ) → Entry → Type 0
 Lone channel (call c) = messages (c ∷ []) ≡ 0
 Lone channel (read_record now other b) = Unit
 Lone channel (write_record other buffer) = other ≡ channel
+Lone channel (read_frame now s b) = Unit
+Lone channel (write_frame s buffer) = Unit
 
--- the units of a Credit
-abbrev pub credit_in : Message → List ℕ
-credit_in (Call.Credit n) = n ∷ []
-credit_in Call.Started = []
-credit_in (Call.Output x b) = []
-credit_in (Call.End x) = []
-credit_in Call.InputClosed = []
-credit_in (Call.Terminal o) = []
-
-abbrev pub once : Bool → ℕ
-once b = cond b 1 0
-
--- the messages told by a list from open, and what the peer heard of the records that it wrote
-abbrev pub said : Conf → ℕ → (bytes lengths : List ℕ) → List Entry → List Message
-said conf now bytes lengths es = said_from (opened conf now bytes lengths) es
-
+-- what the peer heard of the records that a list from open wrote
 abbrev pub heard_of : Conf → ℕ → (bytes lengths : List ℕ) → (channel : ℕ) → List Entry → List Heard
 heard_of conf now bytes lengths channel es = heard channel (wire on_wire (opened conf now bytes lengths) es)
 

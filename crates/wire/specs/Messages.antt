@@ -37,6 +37,21 @@ said_by (d ∷ ds) = said_in d.answer ++ said_by ds
 abbrev pub said_from : State → List Entry → List Message
 said_from s es = said_by (run_entries s es)
 
+-- by a list from open
+abbrev pub said : Conf → ℕ → (bytes lengths : List ℕ) → List Entry → List Message
+said conf now bytes lengths es = said_from (opened conf now bytes lengths) es
+
+-- ---- what they tell
+
+-- the units of a Credit
+abbrev pub credit_in : Message → List ℕ
+credit_in (Call.Credit n) = n ∷ []
+credit_in Call.Started = []
+credit_in (Call.Output x b) = []
+credit_in (Call.End x) = []
+credit_in Call.InputClosed = []
+credit_in (Call.Terminal o) = []
+
 -- ---- what they tell of a stream
 
 -- its End
