@@ -91,7 +91,7 @@ no_ends = alike false
 
 -- ---- the order that they keep
 
--- THE ORDER, for a runner that open answered ok, stores of any content, and every list of calls and records
+-- THE ORDER, for a runner that open answered ok, stores of any content, and every list of calls, records and frames
 pub record Ordered (conf : Conf) (now : ℕ) (bytes lengths : List ℕ) : Type 0 where
   -- once the End of a stream was told, no message is of it any more: no bytes, and no second End
   pub ended : (es ds : List Entry) (x : Stream) → any (is_end x) (said_from (opened conf now bytes lengths) es) ≡ true
