@@ -1,7 +1,5 @@
 -- What a peer can know from the frames of RFC 9113.
-use Rattle.std.specs.Prelude.{Option, Result, Some, None, Ok, Err}
-use Rattle.exec.specs.declared.Refusal.{Refusal}
-use mathlib.Core.Bool.{Bool, true, false, not, ◌&&◌, true≢false, false≢true}
+use mathlib.Core.Bool.{Bool, true, false, not, ◌&&◌, false≢true}
 use mathlib.Core.Path.{◌≡◌, refl, sym, ap, ◌∙◌, subst⁻¹}
 use mathlib.Core.List.{List, [], ◌++◌}
 use Prim.Native.Nat.{ℕ, ◌+◌, ◌≤◌}
@@ -11,10 +9,9 @@ use borrow.Author.Tests.{le-leb, not-true}
 use Rattle.exec.specs.declared.Limits.{Limits}
 use Rattle.exec.specs.declared.Stream.{Stream}
 use Rattle.exec.specs.declared.Stream.TheVariants.{Stdout, Stderr}
-use Rattle.exec.specs.Each.{Each, one}
+use Rattle.exec.specs.Each.{one}
 use Rattle.ring.specs.Flags.{and_l}
 use Rattle.runner.specs.State.{out_of}
-use Rattle.runner.specs.declared.answer.Message.{Message as Messages}
 use Rattle.carrier.specs.Carrier.{is_bytes, room}
 use Rattle.carrier.specs.Writes.{writes}
 use Rattle.channel.specs.Calls as Channel
@@ -37,8 +34,8 @@ use Rattle.wire.specs.Messages.{said_in, said_from, said, credit_in, is_end, any
 use Rattle.wire.specs.Heard.{AllOf, joined, count, once, told_by}
 use Rattle.wire.proofs.Ends.{ends, ends_all}
 use Rattle.wire.proofs.Order.{from_open, ordered}
-use Rattle.wire.proofs.Follows.{count_append, all_front, once_true, Hears, Steps, told_append, joined_told, none_told, said_append, call_unsaid, read_unsaid, unmade_unsaid, silent_wire, told_ends, told_once, follows_so, has_sent, has_front, has_whole}
-use Rattle.peer.specs.Framed.{written, on_wire, cut_by, bytes_in, units_in, is_ended, is_reset, is_on, is_unread, heard, speaks}
+use Rattle.wire.proofs.Follows.{count_append, all_front, once_true, Hears, unheard, Steps, told_append, joined_told, none_told, said_append, call_unsaid, read_unsaid, unmade_unsaid, unsent, silent_wire, told_ends, told_once, follows_so, has_sent, has_front, has_whole}
+use Rattle.peer.specs.Framed.{front, on_wire, cut_by, bytes_in, units_in, is_ended, is_reset, is_on, is_unread, heard, speaks}
 use Rattle.peer.specs.Claim.{Lone, heard_of, Peer}
 use Rattle.peer.proofs.Read.{good, frame_told}
 use Rattle.peer.proofs.Counts.{bytes_told, units_told, unread_none, ends_told, resets_told, none_on}
@@ -52,36 +49,27 @@ unchanneled l s h =
     let t : l.shared ≡ false = not-true l.shared (and_l (not l.shared) (is_bytes l.input.unit) p) in
     rw t refl
 
-unheard : (s : ℕ) (e : Each Bool) (ms : List Message) → ms ≡ [] → Hears (heard s) [] (told_by speaks e ms)
-unheard s e ms n = subst⁻¹ (λ (ns : List Message). Hears (heard s) [] (told_by speaks e ns)) n (λ rest. refl)
-
 module _ (conf : Conf) (s : ℕ) (framed : is_framed conf.limits s ≡ true) where
   framed_here : (st : State) → Good conf st → is_framed st.runner.limits s ≡ true
   framed_here st g = ap (λ (k : Conf). is_framed k.limits s) g.same ∙ framed
 
   steps : Steps speaks conf on_wire (heard s) (Lone s)
   unfolding on_wire answer_entry made
-  steps (call c) st g v l = unheard s (ends st.runner) _ (call_unsaid c st g.fine l)
-  steps (read_record now channel b) st g v l = unheard s (ends st.runner) _ (read_unsaid (Channel.read_record st.runner now channel b st.bytes st.lengths).reading.answer)
+  steps (call c) st g v l = unheard speaks (heard s) (ends st.runner) _ (call_unsaid c st g.fine l)
+  steps (read_record now channel b) st g v l = unheard speaks (heard s) (ends st.runner) _ (read_unsaid (Channel.read_record st.runner now channel b st.bytes st.lengths).reading.answer)
   steps (write_record channel buffer) st g v l =
-      unheard s (ends st.runner) _ (unmade_unsaid conf (write_record channel buffer) st g (rw (unchanneled conf.limits s framed) refl))
-  steps (read_frame now other b) st g v l = unheard s (ends st.runner) _ (read_unsaid (Frames.read_frame st.runner now other b st.bytes st.lengths).reading.answer)
+      unheard speaks (heard s) (ends st.runner) _ (unmade_unsaid conf (write_record channel buffer) st g (rw (unchanneled conf.limits s framed) refl))
+  steps (read_frame now other b) st g v l = unheard speaks (heard s) (ends st.runner) _ (read_unsaid (Frames.read_frame st.runner now other b st.bytes st.lengths).reading.answer)
   steps (Records.write_frame other buffer) st g v l =
       subst⁻¹ (λ (n : ℕ). Hears (heard s) (on_wire st (Records.write_frame n buffer)) (told_by speaks (ends st.runner) (said_in (answer_entry st (Records.write_frame n buffer))))) l
       (frame_told st g.fine s (framed_here st g) buffer)
 
 -- ---- where nothing is said, nothing stands on the wire
 
-unsent : (w : Result (Option (Messages × ℕ)) Refusal) (b : List ℕ) → is_message (wrote_as w b) ≡ false → written w b ≡ []
-unsent (Ok None) b e = refl
-unsent (Err x) b e = refl
-unsent (Ok (Some (Messages.Credit n, k))) b e = absurd (true≢false e)
-unsent _ b e = absurd (true≢false e)
-
 unwired : (e : Entry) (st : State) → is_message (answer_entry st e) ≡ false → on_wire st e ≡ []
 unfolding answer_entry on_wire
 unwired (Records.write_frame s buffer) st h =
-    unsent (Frames.write_frame st.runner s st.bytes buffer).writing.answer (Frames.write_frame st.runner s st.bytes buffer).buffer h
+    unsent front (Frames.write_frame st.runner s st.bytes buffer).writing.answer (Frames.write_frame st.runner s st.bytes buffer).buffer h
 unwired _ st h = refl
 
 -- ---- the claim

@@ -27,11 +27,11 @@ use Rattle.account.specs.Records.{message_in, wrote_as, answers, answer_entry}
 use Rattle.account.proofs.Plain as Plain
 use Rattle.account.proofs.Demand.{Fine, goes}
 use Rattle.wire.specs.Messages.{said_in}
-use Rattle.wire.specs.Heard.{told_by}
+use Rattle.wire.specs.Heard.{written, told_by}
 use Rattle.wire.proofs.Ends.{ends}
 use Rattle.wire.proofs.Follows.{Hears, hears_append}
 use Rattle.peer.specs.Framed as Framed
-use Rattle.peer.specs.Framed.{written, on_wire, Heard, Window, Bytes, Ended, Unread, read_if, hear, heard, reset_in, speaks}
+use Rattle.peer.specs.Framed.{front, on_wire, Heard, Window, Bytes, Ended, Unread, read_if, hear, heard, reset_in, speaks}
 use Rattle.peer.proofs.Cut.{cut_first}
 
 -- ---- one frame
@@ -127,7 +127,7 @@ module _ (s : ℕ) where
       message_heard _ b h = laid_heard [] b tt tt
 
       told_heard : (a : Result (Option Message) Refusal) (b : List ℕ) → Sayable s a (length b)
-          → Hears (heard s) (written (wrote lays a) (wrote_buffer lays a b)) (told_by speaks ends_are (said_in (wrote_as (wrote lays a) (wrote_buffer lays a b))))
+          → Hears (heard s) (written front (wrote lays a) (wrote_buffer lays a b)) (told_by speaks ends_are (said_in (wrote_as (wrote lays a) (wrote_buffer lays a b))))
       unfolding wrote wrote_buffer Sayable
       told_heard (Ok None) b h = λ rest. refl
       told_heard (Ok (Some m)) b h = message_heard m b h.1
@@ -160,7 +160,7 @@ module _ (st : State) (f : Fine st) (s : ℕ) (framed : is_framed st.runner.limi
   good = goes st (Call.next_message []) f
 
   written_heard : (met : Bool) (w : WriteAfter) → Writes (carriage st.runner s) st.runner st.bytes buffer met w
-      → Hears (heard s) (written w.writing.answer w.buffer) (told_by speaks (ends st.runner) (said_in (answers w)))
+      → Hears (heard s) (written front w.writing.answer w.buffer) (told_by speaks (ends st.runner) (said_in (answers w)))
   unfolding told
   written_heard met w (taken u h) =
       let a = asked 9 st.runner st.bytes buffer in

@@ -1,12 +1,13 @@
 -- Sessions on the streams 1 and 3, computed from the definitions: the bytes that stand on the wire, and what its peer hears. So the claim
 -- is not of lists that cannot be, and the bytes are pinned. A second one has the same bytes, and its Terminal reports stdout truncated:
 -- the wire does not tell. A third is broken off by the peer.
-use Rattle.std.specs.Prelude.{Ok}
+use Rattle.std.specs.Prelude.{true, Ok}
 use mathlib.Core.Path.{◌≡◌, refl, sym, ap, ◌∙◌}
 use mathlib.Core.List.{List, [], ◌∷◌, ◌++◌}
-use Prim.Native.Nat.{ℕ}
+use Prim.Native.Nat.{ℕ, ◌+◌}
 use native.Mathlib.Omega.{arith}
 use Rattle.exec.specs.declared.Settlement.TheVariants as Settlement
+use Rattle.exec.specs.declared.Stream.{Stream}
 use Rattle.exec.specs.declared.Stream.TheVariants.{Stdout, Stderr}
 use Rattle.exec.specs.Key.{admits}
 use Rattle.exec.specs.Limits.{cost, bytes_with}
@@ -25,16 +26,18 @@ use Rattle.carrier.specs.Carrier as Carrier
 use Rattle.frames.specs.Calls as Frames
 use Rattle.frames.specs.Calls.{is_framed}
 use Rattle.calls.specs.Call as Call
+use Rattle.account.specs.Claim.{terminal_message}
 use Rattle.account.specs.Step as Step
 use Rattle.account.specs.Step.{State}
 use Rattle.account.specs.Records.{Entry, call, read_frame, write_frame, next_entry, answer_entry, after_entries, run_entries}
 use Rattle.account.specs.TurnClaim.{taken_in}
 use Rattle.account.proofs.Session.{conf, open_ok}
 use Rattle.account.proofs.TurnSession.{zeros, zero_status, complete}
-use Rattle.wire.specs.Heard.{AllOf, joined, wire}
+use Rattle.wire.specs.Messages.{said, any}
+use Rattle.wire.specs.Heard.{AllOf, joined, count, wire}
 use Rattle.wire.proofs.Session.{cut}
-use Rattle.peer.specs.Framed.{on_wire, cut_by, Window, Bytes, Ended, Reset, bytes_in, heard}
-use Rattle.peer.specs.Claim.{Lone, Peer}
+use Rattle.peer.specs.Framed.{on_wire, cut_by, Window, Bytes, Ended, Reset, bytes_in, is_ended, is_reset, heard}
+use Rattle.peer.specs.Claim.{Lone, heard_of, Peer}
 use Rattle.peer.proofs.Peer.{known}
 
 -- a message into 43 bytes, on the streams 1 and 3
@@ -121,8 +124,9 @@ computed : (wire on_wire begins entries ≡ bytes)
     × (wire on_wire begins (lossy ++ (written ∷ [])) ≡ bytes)
     × (answer_entry (after_entries begins lossy) written ≡ Call.Says (Call.Terminal cut))
     × (wire on_wire begins broken ≡ broken_bytes)
-unfolding next_entry on_wire Step.next Calls.«open» Calls.launched Calls.output Calls.output_closed Calls.exited Calls.settled Calls.reset Calls.next_message Calls.credit Range.fresh Range.stop Range.in_range output_fits bytes_with admits cost wrap ring_read ring_from ring_write copied if_else order Life.close_runner_input Life.end_grace Life.give_up Life.begin_termination Life.pass_grace Life.terminate Life.pass_timeout Life.pass_settlement Life.give_up_unless_clean Life.pass_give_up Life.drop_launch Life.drop_streams Life.pass_abandonment Life.fire Life.ticked Life.note_started Life.note_launch Life.launched_next Life.note_exit Life.note_exit_once Life.exited_next Life.settled_next Life.silenced Life.give_up_soon Life.cut_off Life.cut_off_once Life.detach_next Life.is_ready Life.outcome_of Message.sendable_of Message.choose Message.output_paid Message.output_sent Message.effect Message.payload Message.buffer_after Message.said_for Streams.output_taken Streams.output_next Streams.output_store Streams.output_took Streams.closed_next Streams.credit_in Streams.credit_answer Streams.credit_next number_at be32_at be24_at Carrier.admitted Carrier.accepted Carrier.wrote Carrier.wrote_buffer Carrier.told Carrier.asked Carrier.sent Carrier.readied Carrier.written Carrier.write Frames.made Frames.parsed_read Frames.read_frame Frames.sent_as Frames.laid Frames.write_frame Framing.header Framing.bytes_of Framing.is_whole Framing.number31_at Framing.stream_of Framing.data_in Framing.of_four Framing.kinded Framing.on_stream Framing.read answer_entry Calls.discarded Streams.discarded_next
-computed = (refl, refl, refl, refl, refl, refl)
+    × (any terminal_message (said conf 0 (zeros 16) [] broken) ≡ true)
+unfolding next_entry on_wire Step.next Step.answer Calls.«open» Calls.launched Calls.output Calls.output_closed Calls.exited Calls.settled Calls.reset Calls.next_message Calls.credit Range.fresh Range.stop Range.in_range output_fits bytes_with admits cost wrap ring_read ring_from ring_write copied if_else order Life.close_runner_input Life.end_grace Life.give_up Life.begin_termination Life.pass_grace Life.terminate Life.pass_timeout Life.pass_settlement Life.give_up_unless_clean Life.pass_give_up Life.drop_launch Life.drop_streams Life.pass_abandonment Life.fire Life.ticked Life.note_started Life.note_launch Life.launched_next Life.note_exit Life.note_exit_once Life.exited_next Life.settled_next Life.silenced Life.give_up_soon Life.cut_off Life.cut_off_once Life.detach_next Life.is_ready Life.outcome_of Message.sendable_of Message.choose Message.output_paid Message.output_sent Message.effect Message.payload Message.buffer_after Message.said_for Streams.output_taken Streams.output_next Streams.output_store Streams.output_took Streams.closed_next Streams.credit_in Streams.credit_answer Streams.credit_next number_at be32_at be24_at Carrier.admitted Carrier.accepted Carrier.wrote Carrier.wrote_buffer Carrier.told Carrier.asked Carrier.sent Carrier.readied Carrier.written Carrier.write Frames.made Frames.parsed_read Frames.read_frame Frames.sent_as Frames.laid Frames.write_frame Framing.header Framing.bytes_of Framing.is_whole Framing.number31_at Framing.stream_of Framing.data_in Framing.of_four Framing.kinded Framing.on_stream Framing.read answer_entry Calls.discarded Streams.discarded_next
+computed = (refl, refl, refl, refl, refl, refl, refl)
 
 pub session : (wire on_wire begins entries ≡ bytes) × (wire on_wire begins (entries ++ (written ∷ [])) ≡ bytes)
 session = (computed.0, computed.1)
@@ -158,3 +162,10 @@ session_whole = (
   sym (claimed.whole entries written complete Stdout lone computed.2 refl) ∙ ap (λ (b : List ℕ). joined (bytes_in Stdout) (heard 1 b)) computed.0 ∙ ap (joined (bytes_in Stdout)) session_heard,
   sym (claimed.whole entries written complete Stderr lone computed.2 refl) ∙ ap (λ (b : List ℕ). joined (bytes_in Stderr) (heard 1 b)) computed.0 ∙ ap (joined (bytes_in Stderr)) session_heard,
 )
+
+-- each stream was broken off once, and did not end
+lone_broken : AllOf (Lone 1) broken
+lone_broken = (refl, (tt, (refl, (refl, (refl, (refl, (tt, (refl, (refl, (refl, (refl, (refl, tt))))))))))))
+
+pub broken_over : (x : Stream) → count (is_ended x) (heard_of conf 0 (zeros 16) [] 1 broken) + count (is_reset x) (heard_of conf 0 (zeros 16) [] 1 broken) ≡ 1
+broken_over x = claimed.over broken x lone_broken computed.6

@@ -1,6 +1,6 @@
 -- The two streams of RFC 9113 as a wire: the bytes that the sender puts on it, what its peer makes of them, and what is to be heard of
 -- a message. The peer has the bytes in one run, and cuts them by what they say themselves: no message, length or answer.
-use Rattle.std.specs.Prelude.{Bool, true, false, cond, List, [], ◌∷◌, map, ℕ, zero, suc, ◌+◌, eqb, length, take, drop, get_or, Option, Result, Some, None, Ok, Err}
+use Rattle.std.specs.Prelude.{Bool, true, false, cond, List, [], ◌∷◌, map, ℕ, zero, suc, ◌+◌, eqb, length, take, drop, get_or, Result, Ok, Err}
 use Rattle.runner.specs.declared.answer.Message.{Message}
 use Rattle.exec.specs.declared.Refusal.{Refusal}
 use Rattle.exec.specs.declared.Stream.{Stream}
@@ -15,15 +15,13 @@ use Rattle.frames.specs.Calls as Frames
 use Rattle.calls.specs.Call as Call
 use Rattle.account.specs.Step.{State}
 use Rattle.account.specs.Records.{Entry, call, read_record, write_record, read_frame, write_frame}
-use Rattle.wire.specs.Heard.{joined}
+use Rattle.wire.specs.Heard.{joined, written}
 
 -- ---- what stands on it
 
 -- the n bytes that a message left at the buffer's start
-abbrev pub written : (Result (Option (Message × ℕ)) Refusal) → (buffer : List ℕ) → List ℕ
-written (Ok None) buffer = []
-written (Ok (Some (m, n))) buffer = take n buffer
-written (Err x) buffer = []
+abbrev pub front : Message → (n : ℕ) → (buffer : List ℕ) → List ℕ
+front m n buffer = take n buffer
 
 -- the bytes that an entry writes
 unfoldable pub on_wire : State → Entry → List ℕ
@@ -32,7 +30,7 @@ on_wire s (read_record now channel b) = []
 on_wire s (write_record channel buffer) = []
 on_wire s (read_frame now stream b) = []
 on_wire s (write_frame stream buffer) =
-    written (Frames.write_frame s.runner stream s.bytes buffer).writing.answer (Frames.write_frame s.runner stream s.bytes buffer).buffer
+    written front (Frames.write_frame s.runner stream s.bytes buffer).writing.answer (Frames.write_frame s.runner stream s.bytes buffer).buffer
 
 -- ---- what its peer makes of them
 

@@ -1,7 +1,7 @@
 -- Over whatever wire: where each entry is heard as its messages are told, so is a list; and what the peer has of it is what the
 -- messages give.
-use Rattle.std.specs.Prelude.{Option, Result, Some, Ok}
-use mathlib.Core.Bool.{Bool, true, false, cond, ◌||◌}
+use Rattle.std.specs.Prelude.{Option, Result, Some, None, Ok, Err}
+use mathlib.Core.Bool.{Bool, true, false, cond, ◌||◌, true≢false}
 use mathlib.Core.Path.{◌≡◌, refl, sym, ap, ◌∙◌, subst, subst⁻¹}
 use mathlib.Core.List.{List, [], ◌∷◌, ◌++◌, append-nil, append_assoc}
 use Prim.Native.Nat.{ℕ, suc, ◌+◌}
@@ -12,12 +12,13 @@ use Rattle.exec.specs.declared.Refusal.{Refusal}
 use Rattle.exec.specs.declared.Stream.{Stream}
 use Rattle.exec.specs.Each.{Each, one}
 use Rattle.exec.specs.Outcome.{is_truncated}
+use Rattle.runner.specs.declared.answer.Message.{Message as Messages}
 use Rattle.calls.specs.Call as Call
 use Rattle.calls.specs.Call.{Conf, Call, Answer, Message}
 use Rattle.account.specs.Step as Step
 use Rattle.account.specs.Step.{State}
 use Rattle.account.specs.Claim.{Opens, IsPrefix, messages, is_message}
-use Rattle.account.specs.Records.{Entry, EntryDone, next_entry, read_as, answer_entry, after_entries, run_entries, made, SilentIn}
+use Rattle.account.specs.Records.{Entry, EntryDone, next_entry, read_as, wrote_as, answer_entry, after_entries, run_entries, made, SilentIn}
 use Rattle.account.specs.TurnClaim.{carried_by, carried, taken_in, sent_in}
 use Rattle.std.proofs.lemmas.Bool.{or_parts}
 use Rattle.account.proofs.Plain.{answer}
@@ -31,7 +32,7 @@ use Rattle.account.proofs.Tells.{quiet_carries}
 use Rattle.account.proofs.Told.{taken_told, sent_told}
 use Rattle.account.proofs.Turn.{turn}
 use Rattle.wire.specs.Messages.{said_in, said_by, said_from, said, is_end, is_of, any, ends_by, no_ends}
-use Rattle.wire.specs.Heard.{AllOf, joined, count, once, wire, told_by}
+use Rattle.wire.specs.Heard.{AllOf, joined, count, once, written, wire, told_by}
 use Rattle.wire.proofs.Ends.{Muted, ends, ends_all, Once, Speech, none, some, speech, unsaid, ends_so}
 use Rattle.wire.proofs.Order.{entry_tells, from_open, fresh_ends, fresh_muted}
 
@@ -91,6 +92,10 @@ module _ {H : Type 0} (speaks : Each Bool → Message → List H) where
   pub none_told : (p : H → Bool) → ((e : Each Bool) (m : Message) → count p (speaks e m) ≡ 0) → (e : Each Bool) (ms : List Message) → count p (told_by speaks e ms) ≡ 0
   none_told p h e [] = refl
   none_told p h e (m ∷ ms) = count_append p (speaks e m) (told_by speaks (ends_by m e) ms) ∙ omega (arith, h e m, none_told p h (ends_by m e) ms)
+
+  -- where nothing is said nothing is to be heard
+  pub unheard : {A : Type 0} (hear : List A → List H) (e : Each Bool) (ms : List Message) → ms ≡ [] → Hears hear [] (told_by speaks e ms)
+  unheard hear e ms n = subst⁻¹ (λ (ns : List Message). Hears hear [] (told_by speaks e ns)) n (λ rest. refl)
 
   -- an entry of these is heard as its messages are told
   abbrev pub Steps : {A : Type 0} → Conf → (on_wire : State → Entry → List A) (hear : List A → List H) (Of : Entry → Type 0) → Type 0
@@ -159,6 +164,15 @@ pub unmade_unsaid : (conf : Conf) (e : Entry) (s : State) → Good conf s → ma
 unfolding Does
 unmade_unsaid conf e s g n = let d : Unmade e s (next_entry s e) (answer_entry s e) = rw n at (does conf e s g) in ap said_in d.answered
 
+-- a write
+pub unsent : {A : Type 0} (left_by : Messages → (n : ℕ) → (buffer : List ℕ) → List A) (w : Result (Option (Messages × ℕ)) Refusal) (b : List ℕ)
+    → is_message (wrote_as w b) ≡ false → written left_by w b ≡ []
+unsent left_by (Ok None) b e = refl
+unsent left_by (Err x) b e = refl
+unsent left_by (Ok (Some (Messages.Credit n, k))) b e = absurd (true≢false e)
+unsent left_by _ b e = absurd (true≢false e)
+
+-- so of a list
 pub silent_wire : {A : Type 0} (on_wire : State → Entry → List A) → ((e : Entry) (s : State) → is_message (answer_entry s e) ≡ false → on_wire s e ≡ [])
     → (es : List Entry) (s : State) → SilentIn (run_entries s es) → wire on_wire s es ≡ []
 silent_wire on_wire unwired [] s h = refl

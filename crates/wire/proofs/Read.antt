@@ -59,8 +59,8 @@ use Rattle.account.proofs.InputRange.{HeldIn}
 use Rattle.account.proofs.EachRecord.{Does}
 use Rattle.account.proofs.EachWrite.{told_does}
 use Rattle.wire.specs.Messages.{said_in}
-use Rattle.wire.specs.Heard.{told_by}
-use Rattle.wire.specs.Channel.{packet, written, on_wire, Heard, Window, Bytes, Eof, Exit, Close, hear, heard, exit_of, speaks}
+use Rattle.wire.specs.Heard.{written, told_by}
+use Rattle.wire.specs.Channel.{packet, packets, on_wire, Heard, Window, Bytes, Eof, Exit, Close, hear, heard, exit_of, speaks}
 use Rattle.wire.specs.Claim.{OfChannel}
 use Rattle.std.proofs.lemmas.List.{map-append}
 use Rattle.wire.proofs.Ends.{Muted, ends, at, end_untold}
@@ -151,7 +151,7 @@ module _ (channel : ℕ) where
         → ((x : Stream) (n : ℕ) → Choice.Output x n ≡ m → (length (payload r x n store) ≡ n) × (n < 2 ^ 32))
         → ((x : Stream) → Choice.End x ≡ m → ended ≡ every (on_one x (λ (b : Bool). true) e))
         → is_left (said_for m r) ≡ false
-        → heard channel (written (wrote (laying channel ended) (said_for m r)) (wrote_buffer (laying channel ended) (said_for m r) (part_back 13 k buffer (buffer_after m r store part))))
+        → heard channel (written packets (wrote (laying channel ended) (said_for m r)) (wrote_buffer (laying channel ended) (said_for m r) (part_back 13 k buffer (buffer_after m r store part))))
         ≡ told_by speaks e (said_in (said m r store))
     unfolding said_for buffer_after wrote wrote_buffer sent_as sent_buffer is_left said
     choice_heard Choice.Credit r store part buffer k ended e h small l last u =
@@ -202,7 +202,7 @@ module _ (s : State) (f : Fine s) (v : Muted s.runner) (channel : ℕ) (o : OfCh
   spoken h = (told_does s (Records.write_record channel buffer) k buffer (pays channel (has_ended s.runner)) good h).1 ∙ answer_same s (Call.next_message part) f
 
   written_heard : (met : Bool) (w : WriteAfter) → Writes k s.runner s.bytes buffer met w
-      → heard channel (written w.writing.answer w.buffer) ≡ told_by speaks (ends s.runner) (said_in (answers w))
+      → heard channel (written packets w.writing.answer w.buffer) ≡ told_by speaks (ends s.runner) (said_in (answers w))
   unfolding told asked Calls.next_message k
   written_heard met w (taken u h) =
       rw good (choice_heard channel o.number (choose s.runner (length part)) s.runner s.bytes part buffer s.runner.limits.chunk (has_ended s.runner) (ends s.runner) (omega (arith, h)) small fitting

@@ -1,7 +1,5 @@
 -- What a peer can know from the bytes of a channel.
-use Rattle.std.specs.Prelude.{Option, Result, Some, None, Ok, Err}
-use Rattle.exec.specs.declared.Refusal.{Refusal}
-use mathlib.Core.Bool.{true, false, ◌&&◌, true≢false}
+use mathlib.Core.Bool.{true, false, ◌&&◌}
 use mathlib.Core.Path.{◌≡◌, refl, sym, ap, ◌∙◌, subst⁻¹}
 use mathlib.Core.List.{List, [], ◌∷◌, ◌++◌, append-nil}
 use Prim.Native.Nat.{ℕ, ◌+◌, ◌≤◌}
@@ -13,7 +11,6 @@ use Rattle.exec.specs.declared.Outcome.{Outcome}
 use Rattle.exec.specs.declared.Stream.{Stream}
 use Rattle.exec.specs.Each.{one}
 use Rattle.exec.specs.Stream.{every_stream, every_stream_lem}
-use Rattle.runner.specs.declared.answer.Message.{Message as Messages}
 use Rattle.ring.specs.Flags.{and_l}
 use Rattle.carrier.specs.Carrier.{is_bytes, room}
 use Rattle.channel.specs.Calls as Channel
@@ -25,20 +22,20 @@ use Rattle.calls.specs.Call.{Conf, Call, Answer, Message}
 use Rattle.account.specs.Step as Step
 use Rattle.account.specs.Step.{State}
 use Rattle.account.specs.Claim.{Opens, is_message}
-use Rattle.account.specs.Records.{Entry, call, read_record, write_record, read_frame, write_frame, wrote_as, answer_entry, after_entries, is_untaken, roomy, made}
+use Rattle.account.specs.Records.{Entry, call, read_record, write_record, read_frame, write_frame, answer_entry, after_entries, is_untaken, roomy, made}
 use Rattle.account.specs.TurnClaim.{carried_by}
 use Rattle.account.proofs.EachRecord.{Does}
 use Rattle.account.proofs.Records.{Good, does, good_at, whole}
 use Rattle.account.proofs.Sides.{every_same}
 use Rattle.wire.specs.Messages.{said_in, said_from, said, credit_in, is_end, any, no_ends}
 use Rattle.wire.specs.Heard.{AllOf, joined, count, once, told_by}
-use Rattle.wire.specs.Channel.{written, on_wire, Heard, Close, bytes_in, units_in, is_eof, is_close, is_unread, hear, heard, exit_of, speaks}
+use Rattle.wire.specs.Channel.{packets, on_wire, Heard, Close, bytes_in, units_in, is_eof, is_close, is_unread, hear, heard, exit_of, speaks}
 use Rattle.wire.specs.Claim.{OfChannel, Lone, heard_of, Wire}
-use Rattle.wire.proofs.Ends.{Muted, ends, ends_all}
+use Rattle.wire.proofs.Ends.{ends, ends_all}
 use Rattle.wire.proofs.Order.{from_open, ordered}
 use Rattle.wire.proofs.Read.{record_told}
 use Rattle.std.proofs.lemmas.List.{map-append}
-use Rattle.wire.proofs.Follows.{joined_append, all_front, once_true, Steps, joined_told, none_told, none_carried, said_append, call_unsaid, read_unsaid, unmade_unsaid, silent_wire, told_ends, told_once, follows_so, has, has_sent, has_front, has_whole}
+use Rattle.wire.proofs.Follows.{joined_append, all_front, once_true, Hears, unheard, Steps, joined_told, none_told, none_carried, said_append, call_unsaid, read_unsaid, unmade_unsaid, unsent, silent_wire, told_ends, told_once, follows_so, has, has_sent, has_front, has_whole}
 use Rattle.wire.proofs.Counts.{bytes_told, units_told, unread_none, closes_told, eofs_told}
 
 -- ---- an entry
@@ -50,33 +47,24 @@ unframed l s h =
     rw t refl
 
 module _ (conf : Conf) (channel : ℕ) (o : OfChannel conf channel) where
-  entry_heard : (e : Entry) (s : State) → Good conf s → Muted s.runner → Lone channel e
-      → heard channel (on_wire s e) ≡ told_by speaks (ends s.runner) (said_in (answer_entry s e))
-  unfolding on_wire answer_entry made
-  entry_heard (call c) s g v l = sym (ap (told_by speaks (ends s.runner)) (call_unsaid c s g.fine l))
-  entry_heard (read_record now other b) s g v l = sym (ap (told_by speaks (ends s.runner)) (read_unsaid (Channel.read_record s.runner now other b s.bytes s.lengths).reading.answer))
-  entry_heard (write_record other buffer) s g v l =
-      subst⁻¹ (λ (n : ℕ). heard channel (on_wire s (write_record n buffer)) ≡ told_by speaks (ends s.runner) (said_in (answer_entry s (write_record n buffer)))) l
-      (record_told s g.fine v channel (subst⁻¹ (λ (k : Conf). OfChannel k channel) g.same o) buffer)
-  entry_heard (read_frame now stream b) s g v l = sym (ap (told_by speaks (ends s.runner)) (read_unsaid (Frames.read_frame s.runner now stream b s.bytes s.lengths).reading.answer))
-  entry_heard (write_frame stream buffer) s g v l =
-      sym (ap (told_by speaks (ends s.runner)) (unmade_unsaid conf (write_frame stream buffer) s g (rw (unframed conf.limits stream o.limits) refl)))
-
   steps : Steps speaks conf on_wire (heard channel) (Lone channel)
-  steps e s g v l rest = map-append (hear channel) (on_wire s e) rest ∙ ap (λ (hs : List Heard). hs ++ heard channel rest) (entry_heard e s g v l)
+  unfolding on_wire answer_entry made
+  steps (call c) s g v l = unheard speaks (heard channel) (ends s.runner) _ (call_unsaid c s g.fine l)
+  steps (read_record now other b) s g v l = unheard speaks (heard channel) (ends s.runner) _ (read_unsaid (Channel.read_record s.runner now other b s.bytes s.lengths).reading.answer)
+  steps (write_record other buffer) s g v l =
+      subst⁻¹ (λ (n : ℕ). Hears (heard channel) (on_wire s (write_record n buffer)) (told_by speaks (ends s.runner) (said_in (answer_entry s (write_record n buffer))))) l (λ rest.
+      map-append (hear channel) (on_wire s (write_record channel buffer)) rest
+      ∙ ap (λ (hs : List Heard). hs ++ heard channel rest) (record_told s g.fine v channel (subst⁻¹ (λ (k : Conf). OfChannel k channel) g.same o) buffer))
+  steps (read_frame now stream b) s g v l = unheard speaks (heard channel) (ends s.runner) _ (read_unsaid (Frames.read_frame s.runner now stream b s.bytes s.lengths).reading.answer)
+  steps (write_frame stream buffer) s g v l =
+      unheard speaks (heard channel) (ends s.runner) _ (unmade_unsaid conf (write_frame stream buffer) s g (rw (unframed conf.limits stream o.limits) refl))
 
 -- ---- where nothing is said, nothing stands on the wire
-
-unsent : (w : Result (Option (Messages × ℕ)) Refusal) (b : List ℕ) → is_message (wrote_as w b) ≡ false → written w b ≡ []
-unsent (Ok None) b e = refl
-unsent (Err x) b e = refl
-unsent (Ok (Some (Messages.Credit n, k))) b e = absurd (true≢false e)
-unsent _ b e = absurd (true≢false e)
 
 unwired : (e : Entry) (s : State) → is_message (answer_entry s e) ≡ false → on_wire s e ≡ []
 unfolding answer_entry on_wire
 unwired (write_record channel buffer) s h =
-    unsent (Channel.write_record s.runner channel s.bytes buffer).writing.answer (Channel.write_record s.runner channel s.bytes buffer).buffer h
+    unsent packets (Channel.write_record s.runner channel s.bytes buffer).writing.answer (Channel.write_record s.runner channel s.bytes buffer).buffer h
 unwired _ s h = refl
 
 -- ---- the claim

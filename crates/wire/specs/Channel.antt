@@ -18,6 +18,7 @@ use Rattle.calls.specs.Call as Call
 use Rattle.account.specs.Step.{State}
 use Rattle.account.specs.Records.{Entry, call, read_record, write_record, read_frame, write_frame}
 use Rattle.wire.specs.Messages.{ends_by}
+use Rattle.wire.specs.Heard.{written}
 
 -- ---- what stands on it
 
@@ -34,17 +35,12 @@ packets (Message.End x) n buffer = packet (take n buffer)
 packets Message.InputClosed n buffer = packet (take n buffer)
 packets (Message.Terminal o) n buffer = packet (take (n - 5) buffer) ++ packet (take 5 (drop (n - 5) buffer))
 
-abbrev pub written : (Result (Option (Message × ℕ)) Refusal) → (buffer : List ℕ) → List (List ℕ)
-written (Ok None) buffer = []
-written (Ok (Some (m, n))) buffer = packets m n buffer
-written (Err x) buffer = []
-
 -- the records that an entry writes
 unfoldable pub on_wire : State → Entry → List (List ℕ)
 on_wire s (call c) = []
 on_wire s (read_record now channel b) = []
 on_wire s (write_record channel buffer) =
-    written (Channel.write_record s.runner channel s.bytes buffer).writing.answer (Channel.write_record s.runner channel s.bytes buffer).buffer
+    written packets (Channel.write_record s.runner channel s.bytes buffer).writing.answer (Channel.write_record s.runner channel s.bytes buffer).buffer
 on_wire s (read_frame now stream b) = []
 on_wire s (write_frame stream buffer) = []
 

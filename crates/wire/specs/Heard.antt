@@ -1,7 +1,9 @@
 -- What is heard over whatever wire: what stands on it of a list, record by record or byte by byte, what is to be heard of messages, and
 -- what a peer has of what it heard. A wire says what a peer makes of it, and what is to be heard of a message (`speaks`).
-use Rattle.std.specs.Prelude.{Bool, cond, List, [], ◌∷◌, ◌++◌, ℕ, suc}
+use Rattle.std.specs.Prelude.{Bool, cond, List, [], ◌∷◌, ◌++◌, ℕ, suc, Option, Result, Some, None, Ok, Err}
+use Rattle.exec.specs.declared.Refusal.{Refusal}
 use Rattle.exec.specs.Each.{Each}
+use Rattle.runner.specs.declared.answer.Message as Messages
 use Rattle.calls.specs.Call.{Message}
 use Rattle.account.specs.Step.{State}
 use Rattle.account.specs.Records.{Entry, next_entry}
@@ -24,6 +26,12 @@ abbrev pub once : Bool → ℕ
 once b = cond b 1 0
 
 -- ---- the wire
+
+-- what a write left for it, where left_by has what a message of n bytes left in the buffer
+abbrev pub written : {A : Type 0} → (left_by : Messages.Message → (n : ℕ) → (buffer : List ℕ) → List A) → Result (Option (Messages.Message × ℕ)) Refusal → (buffer : List ℕ) → List A
+written left_by (Ok None) buffer = []
+written left_by (Ok (Some (m, n))) buffer = left_by m n buffer
+written left_by (Err x) buffer = []
 
 -- every entry of a list is so
 abbrev pub AllOf : (Entry → Type 0) → List Entry → Type 0
