@@ -95,7 +95,7 @@ module _ (at : ℕ) (r : Runner) (store b : List ℕ) where
   part_length h (Err x) g = length-take-le r.limits.chunk (drop at b) (simp length-drop (omega arith))
 
   module _ (h : at + r.limits.chunk ≤ length b) where
-    asked_long : length (asked at r store b).buffer ≡ length b
+    pub asked_long : length (asked at r store b).buffer ≡ length b
     unfolding asked Calls.next_message lent
     asked_long = part_long at r.limits.chunk b _ h (part_length h (stop r (bytes_do r.limits store)) refl)
 

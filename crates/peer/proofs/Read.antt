@@ -11,7 +11,7 @@ use Rattle.runner.specs.declared.runner.Runner.{Runner}
 use Rattle.runner.specs.Range.{stop, bytes_do}
 use Rattle.runner.specs.State.{out_of}
 use Rattle.carrier.specs.Carrier.{WriteAfter, room, asked, Laying, wrote, wrote_buffer, told}
-use Rattle.carrier.specs.SaidLaws.{Keeps, Pays, told_beyond}
+use Rattle.carrier.specs.SaidLaws.{Pays, asked_long}
 use Rattle.carrier.specs.Writes.{Writes, taken, writes}
 use Rattle.framing.specs.declared.Frame.{Frame}
 use Rattle.framing.specs.declared.Frame.TheVariants.{Update, Data, Reset}
@@ -135,25 +135,6 @@ module _ (s : ℕ) where
 
 -- ---- at a state that came from open
 
--- the buffer is as long as it was, once a message was asked for in its part
-still : Laying
-still = record { size = λ (m : Message). 0; lay = λ (m : Message) (b : List ℕ). b }
-
-asked_long : (r : Runner) (store b : List ℕ) → room r.limits ≤ length b → length (asked 9 r store b).buffer ≡ length b
-unfolding told wrote_buffer Keeps still
-asked_long r store b h =
-    let kept = sym (same (asked 9 r store b).saying.answer (asked 9 r store b).buffer) in
-    let e = ap (drop (9 + r.limits.chunk)) kept ∙ told_beyond 9 r store b (omega arith) still (9 + r.limits.chunk) (omega arith) (λ m c k n. refl) in
-    let l = ap length e in
-    let i = length-drop (9 + r.limits.chunk) (asked 9 r store b).buffer in
-    let j = length-drop (9 + r.limits.chunk) b in
-    omega arith
-  where
-    same : (a : Result (Option Message) Refusal) (c : List ℕ) → wrote_buffer still a c ≡ c
-    same (Ok None) c = refl
-    same (Ok (Some m)) c = refl
-    same (Err x) c = refl
-
 module _ (st : State) (f : Fine st) (s : ℕ) (framed : is_framed st.runner.limits s ≡ true) (buffer : List ℕ) where
   pub good : stop st.runner (bytes_do st.runner.limits st.bytes) ≡ Ok tt
   unfolding Plain.enough
@@ -165,7 +146,7 @@ module _ (st : State) (f : Fine st) (s : ℕ) (framed : is_framed st.runner.limi
   written_heard met w (taken u h) =
       let a = asked 9 st.runner st.bytes buffer in
       told_heard s (framed_stream st.runner.limits s framed) (out_of Stdout st.runner).ended (out_of Stderr st.runner).ended a.saying.answer a.buffer
-      (said_fits st.runner s st.bytes buffer a.saying a.buffer refl framed h (asked_long st.runner st.bytes buffer h))
+      (said_fits st.runner s st.bytes buffer a.saying a.buffer refl framed h (asked_long 9 st.runner st.bytes buffer (omega (arith, h))))
   written_heard met w _ = λ rest. refl
 
   -- A FRAME THAT IS WRITTEN IS HEARD AS ITS MESSAGE
