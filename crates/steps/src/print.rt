@@ -119,15 +119,16 @@ impl Given for Option<Receipt> {
     }
 }
 
+// A request by its name, with the cause of an end and the stream to discard.
 impl Given for Option<Request> {
     fn put<W: fmt::Write>(&self, f: &mut fmt::Formatter<W>) -> fmt::Result {
-        f.write_str(match self {
-            None => "none",
-            Some(Request::Terminate(_)) => "Terminate",
-            Some(Request::Discard(_)) => "Discard",
-            Some(Request::CloseInput) => "CloseInput",
-            Some(Request::Settle) => "Settle",
-        })
+        match self {
+            None => f.write_str("none"),
+            Some(Request::Terminate(cause)) => write!(f, "Terminate,{cause:?}"),
+            Some(Request::Discard(stream)) => write!(f, "Discard,{stream:?}"),
+            Some(Request::CloseInput) => f.write_str("CloseInput"),
+            Some(Request::Settle) => f.write_str("Settle"),
+        }
     }
 }
 
