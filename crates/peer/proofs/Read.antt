@@ -1,16 +1,15 @@
 -- A frame that is written, at the peer: it is heard as what is to be heard of the message that was told.
-use Rattle.std.specs.Prelude.{◌≡◌, refl, Bool, true, false, List, [], ◌∷◌, ◌++◌, map, ℕ, ◌+◌, ◌≤◌, eqb, length, take, drop, Option, Result, Some, None, Ok, Err}
-use Rattle.std.proofs.Common.{sym, ap, ◌∙◌, arith, eq-eqb, ne_eqb, le-leb, length-drop, length-take-le}
+use Rattle.std.specs.Prelude.{◌≡◌, refl, Bool, true, false, List, [], ◌∷◌, ◌++◌, map, ℕ, ◌+◌, eqb, length, take, drop, Option, Result, Some, None, Ok, Err}
+use Rattle.std.proofs.Common.{ap, ◌∙◌, arith, eq-eqb, ne_eqb, le-leb, length-drop, length-take-le}
 use mathlib.Core.Path.{subst⁻¹}
 use Rattle.exec.specs.declared.Refusal.{Refusal}
 use Rattle.exec.specs.declared.Stream.{Stream}
 use Rattle.exec.specs.declared.Stream.TheVariants.{Stdout, Stderr}
 use Rattle.exec.specs.Each.{Each}
 use Rattle.runner.specs.declared.answer.Message.{Message}
-use Rattle.runner.specs.declared.runner.Runner.{Runner}
 use Rattle.runner.specs.Range.{stop, bytes_do}
 use Rattle.runner.specs.State.{out_of}
-use Rattle.carrier.specs.Carrier.{WriteAfter, room, asked, Laying, wrote, wrote_buffer, told}
+use Rattle.carrier.specs.Carrier.{WriteAfter, asked, Laying, wrote, wrote_buffer, told}
 use Rattle.carrier.specs.SaidLaws.{Pays, asked_long}
 use Rattle.carrier.specs.Writes.{Writes, taken, writes}
 use Rattle.framing.specs.declared.Frame.{Frame}
