@@ -1,12 +1,13 @@
 -- The frame calls at the numbers of 02's A7, each computed from the definitions, from open on: the bytes as RFC 9113 lays them, on the
 -- streams 1 and 3. So both sides of each bound are fixed, and what code and definition could say wrong alike.
 use Rattle.std.specs.Prelude.{Bool, true, false, ◌≡◌, refl, List, [], ◌∷◌, ◌++◌, map, ℕ, zero, suc, Option, Result, Some, None, Ok, Err}
+use Rattle.exec.specs.declared.Cause.{Cause}
 use Rattle.exec.specs.declared.Cause.TheVariants.{Reset}
 use Rattle.exec.specs.declared.Key.{Key}
 use Rattle.exec.specs.declared.Limits.{Limits}
 use Rattle.exec.specs.declared.Outcome.{Outcome}
 use Rattle.exec.specs.declared.Receipt.{Receipt}
-use Rattle.exec.specs.declared.Receipt.TheVariants.{Applied}
+use Rattle.exec.specs.declared.Receipt.TheVariants.{Applied, Late}
 use Rattle.exec.specs.declared.Refusal.{Refusal}
 use Rattle.exec.specs.declared.Stream.TheVariants.{Stdout, Stderr}
 use Rattle.exec.specs.Key.{new_key, admits}
@@ -150,12 +151,31 @@ data_refused : refused (frame 5 0 1 1 (1 ∷ 2 ∷ 3 ∷ 4 ∷ 5 ∷ [])) Refusa
 unfolding writes reads frame refused
 data_refused = (refl, refl, refl)
 
--- "an inbound RST_STREAM on either is reset", whatever its code
-resets : (answer (reads granted (frame 4 3 0 1 (0 ∷ 0 ∷ 0 ∷ 8 ∷ []))) ≡ Ok None)
-    × (answer (reads granted (frame 4 3 0 3 (0 ∷ 0 ∷ 0 ∷ 0 ∷ []))) ≡ Ok None)
-    × ((reads granted (frame 4 3 0 3 (0 ∷ 0 ∷ 0 ∷ 0 ∷ []))).reading.runner.life.cause ≡ Some Reset)
-unfolding writes reads frame answer Life.cut_off_once Life.cut_off Life.give_up_soon Life.end_grace Life.silenced Life.terminate Life.begin_termination
-resets = (refl, refl, refl)
+-- the payload, from byte 9 on, is what the workload gets: the inbox begins behind both streams' chunks
+data_kept : ((reads granted (frame 2 0 0 1 (104 ∷ 105 ∷ []))).bytes ≡ zeros 8 ++ (104 ∷ 105 ∷ zeros 6))
+    × ((reads granted (frame 2 0 1 1 (104 ∷ 105 ∷ []))).bytes ≡ zeros 8 ++ (104 ∷ 105 ∷ zeros 6))
+unfolding writes reads frame
+data_kept = (refl, refl)
+
+-- bytes that are answered Late are not refused, so the end is made: of an input that the workload closed
+closed : Runner
+unfolding writes Calls.input_closed
+closed = (Calls.input_closed granted).runner
+
+late : (answer (reads closed (frame 2 0 1 1 (104 ∷ 105 ∷ []))) ≡ Ok (Some Late))
+    × (told (reads closed (frame 2 0 1 1 (104 ∷ 105 ∷ []))) ≡ (true, 0, 6))
+    × (told (reads closed (frame 2 0 0 1 (104 ∷ 105 ∷ []))) ≡ (false, 0, 6))
+unfolding closed reads frame told answer
+late = (refl, refl, refl)
+
+-- "an inbound RST_STREAM on either is reset", whatever its code, at the call's time: the settlement after 3 is at 8
+outcome : ReadAfter → Result (Option Receipt) Refusal × Option Cause × Option ℕ
+outcome x = (x.reading.answer, x.reading.runner.life.cause, x.reading.runner.clocks.give_up_at)
+
+resets : (outcome (reads granted (frame 4 3 0 1 (0 ∷ 0 ∷ 0 ∷ 8 ∷ []))) ≡ (Ok None, Some Reset, Some 8))
+    × (outcome (reads granted (frame 4 3 0 3 (0 ∷ 0 ∷ 0 ∷ 0 ∷ []))) ≡ (Ok None, Some Reset, Some 8))
+unfolding writes reads frame outcome Calls.disconnect Calls.dropped Life.cut_off_once Life.cut_off Life.give_up_soon Life.end_grace Life.silenced Life.terminate Life.begin_termination
+resets = (refl, refl)
 
 -- 43: the length, the type, the stream, and DATA on s + 2; 44: padded DATA on s, before its own 4; 42 before both
 bad : refused [] Refusal.BadFrame

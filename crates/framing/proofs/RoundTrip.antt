@@ -34,10 +34,10 @@ unfolding number31_at
 number31_written p t bit n h =
     ap (λ (v : ℕ). v % 2147483648) (number_written p t (with_bit bit n) (without_bit bit n h).0) ∙ (without_bit bit n h).1
 
-stream_of_id : (s : ℕ) (x : Stream) → stream_of s (id_of s x) ≡ Some x
+stream_of_id : (s : ℕ) (x : Stream) → is_stream s ≡ true → stream_of s (id_of s x) ≡ Some x
 unfolding stream_of
-stream_of_id s Stdout = rw (eq-eqb s s refl) refl
-stream_of_id s Stderr = rw (ne_eqb (s + 2) s (λ e. omega arith), eq-eqb (s + 2) (s + 2) refl) refl
+stream_of_id s Stdout h = rw (h, eq-eqb s s refl) refl
+stream_of_id s Stderr h = rw (h, ne_eqb (s + 2) s (λ e. omega arith), eq-eqb (s + 2) (s + 2) refl) refl
 
 -- for any flags, and any reserved bit before the stream
 module _ (s : ℕ) (x : Stream) (bit : Bool) (flags : ℕ) (stream : is_stream s ≡ true) where
@@ -50,7 +50,7 @@ module _ (s : ℕ) (x : Stream) (bit : Bool) (flags : ℕ) (stream : is_stream s
       let told : be24_at b 0 ≡ n = be24_written [] (kind ∷ flags ∷ (be32 id ++ t)) n hn in
       let whole : length b ≡ 9 + be24_at b 0 = omega (arith, told, hl) in
       let mine : number31_at b 5 ≡ id_of s x = number31_written (be24 n ++ (kind ∷ flags ∷ [])) t bit (id_of s x) (id_fits s x stream) in
-      rw (eq-eqb (length b) (9 + be24_at b 0) whole, mine, stream_of_id s x) refl
+      rw (eq-eqb (length b) (9 + be24_at b 0) whole, mine, stream_of_id s x stream) refl
 
   -- WINDOW_UPDATE: the bit before the units is ignored too
   pub update_read : (bit₂ : Bool) (units : ℕ) → units < 2 ^ 31
@@ -203,12 +203,13 @@ kinded_is s b x f id =
 
 stream_is : (s id : ℕ) (x : Stream) → stream_of s id ≡ Some x → id ≡ id_of s x
 unfolding stream_of
-stream_is s id x = by (eqb id s) (eqb id (s + 2)) x refl refl
+stream_is s id x = by (is_stream s) (eqb id s) (eqb id (s + 2)) x refl refl
   where
-    by : (t u : Bool) (x : Stream) → eqb id s ≡ t → eqb id (s + 2) ≡ u → cond t (Some Stdout) (cond u (Some Stderr) None) ≡ Some x → id ≡ id_of s x
-    by true u x e g h = let same : Stdout ≡ x = cc in subst (λ (y : Stream). id ≡ id_of s y) same (eqb-true id s e)
-    by false true x e g h = let same : Stderr ≡ x = cc in subst (λ (y : Stream). id ≡ id_of s y) same (eqb-true id (s + 2) g)
-    by false false x e g h = let z : ◌≡◌ {A = ℕ} 0 1 = cc in absurd (omega arith)
+    by : (v t u : Bool) (x : Stream) → eqb id s ≡ t → eqb id (s + 2) ≡ u → cond v (cond t (Some Stdout) (cond u (Some Stderr) None)) None ≡ Some x → id ≡ id_of s x
+    by true true u x e g h = let same : Stdout ≡ x = cc in subst (λ (y : Stream). id ≡ id_of s y) same (eqb-true id s e)
+    by true false true x e g h = let same : Stderr ≡ x = cc in subst (λ (y : Stream). id ≡ id_of s y) same (eqb-true id (s + 2) g)
+    by true false false x e g h = let z : ◌≡◌ {A = ℕ} 0 1 = cc in absurd (omega arith)
+    by false t u x e g h = let z : ◌≡◌ {A = ℕ} 0 1 = cc in absurd (omega arith)
 
 pub read_is : (s : ℕ) (b : List ℕ) (f : Frame) → read s b ≡ Ok f → Says s b f
 unfolding read is_whole on_stream

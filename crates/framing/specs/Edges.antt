@@ -187,7 +187,16 @@ other_length s b h = rw (ne_eqb (length b) (9 + be24_at b 0) h) refl
 -- "stream": every other, 0 among them
 pub other_stream : (s : ℕ) (b : List ℕ) → (number31_at b 5 ≡ s → ⊥) → (number31_at b 5 ≡ s + 2 → ⊥) → read s b ≡ Err BadFrame
 unfolding read stream_of on_stream
-other_stream s b h k = at_least (is_whole b) _ (rw (ne_eqb (number31_at b 5) s h, ne_eqb (number31_at b 5) (s + 2) k) refl)
+other_stream s b h k = at_least (is_whole b) _ (rw (ne_eqb (number31_at b 5) s h, ne_eqb (number31_at b 5) (s + 2) k) (none (is_stream s)))
+  where
+    none : (t : Bool) → on_stream b (cond t None None) ≡ Err BadFrame
+    none true = refl
+    none false = refl
+
+-- and every one where s is no stream
+pub no_stream : (s : ℕ) (b : List ℕ) → is_stream s ≡ false → read s b ≡ Err BadFrame
+unfolding read stream_of on_stream
+no_stream s b h = at_least (is_whole b) _ (rw h refl)
 
 on_any : (b : List ℕ) → ((x : Stream) → kinded b x ≡ Err BadFrame) → (o : Option Stream) → on_stream b o ≡ Err BadFrame
 unfolding on_stream
@@ -213,7 +222,7 @@ other_four s b h k =
     same false false = refl
 
 -- "a padded DATA", on s, whatever else its flags are
-pub padding : (s : ℕ) (b : List ℕ) → length b ≡ 9 + be24_at b 0 → number31_at b 5 ≡ s → get_or b 3 0 ≡ 0 → is_set 8 (get_or b 4 0) ≡ true
+pub padding : (s : ℕ) (b : List ℕ) → is_stream s ≡ true → length b ≡ 9 + be24_at b 0 → number31_at b 5 ≡ s → get_or b 3 0 ≡ 0 → is_set 8 (get_or b 4 0) ≡ true
     → read s b ≡ Err PaddedFrame
 unfolding read is_whole stream_of on_stream kinded data_in
-padding s b l id k p = rw (eq-eqb (length b) (9 + be24_at b 0) l, eq-eqb (number31_at b 5) s id, k, p) refl
+padding s b h l id k p = rw (h, eq-eqb (length b) (9 + be24_at b 0) l, eq-eqb (number31_at b 5) s id, k, p) refl

@@ -69,8 +69,9 @@ is_whole b = eqb (length b) (9 + be24_at b 0)
 unfoldable pub number31_at : List ℕ → (at : ℕ) → ℕ
 number31_at b at = number_at b at % 2147483648
 
+-- none where s is no stream, so that the connection's own frames, on 0, are none of ours
 unfoldable pub stream_of : (s id : ℕ) → Option Stream
-stream_of s id = cond (eqb id s) (Some Stdout) (cond (eqb id (s + 2)) (Some Stderr) None)
+stream_of s id = cond (is_stream s) (cond (eqb id s) (Some Stdout) (cond (eqb id (s + 2)) (Some Stderr) None)) None
 
 abbrev pub is_set : (bit flags : ℕ) → Bool
 is_set bit flags = eqb (flags / bit % 2) 1

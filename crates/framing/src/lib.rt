@@ -111,15 +111,18 @@ fn id_of(s: u32, x: Stream) -> u32
     }
 }
 
-// The stream of a number.
+// The stream of a number, where s is a stream.
 #[tactic(auto, unfolding(crate::specs::Framing::stream_of))]
 fn stream_of(s: u32, id: u32) -> Option<Stream>
     ensures { result ≡ stream_of s id }
 {
+    if !is_stream(s) {
+        return None;
+    }
     if id == s {
         return Some(Stream::Stdout);
     }
-    if u64::from(id) == u64::from(s) + 2 {
+    if id == s + 2 {
         return Some(Stream::Stderr);
     }
     None
