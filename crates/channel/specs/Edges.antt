@@ -271,3 +271,13 @@ wrotes bytes = (Channel.write_record (opened on_channel) 5 (zeros 16) (zeros byt
 short : (wrotes 42 ≡ Err Refusal.BufferShort) × (wrotes 43 ≡ (Ok (Some (Messages.Credit 8, 9)))) × (number Refusal.BufferShort ≡ 25)
 unfolding wrotes
 short = (refl, refl, refl)
+
+-- ---- which bytes of a 94 the workload gets: those behind its header; the inbox begins behind both streams' chunks
+
+taken_in : (bytes : List ℕ) → List ℕ
+unfolding wrotes Channel.read_record Channel.parsed_read Channel.made Carrier.accepted read kinded fitting checked be32_at number_at Calls.input Streams.received Streams.input_store Input.receive_answer Input.receive_bytes cost ring_write ring_from copied wrap
+taken_in bytes = (Channel.read_record (Channel.write_record (opened on_channel) 5 (zeros 16) (zeros 43)).writing.runner 0 5 bytes (zeros 16) []).bytes
+
+payload : taken_in (94 ∷ 0 ∷ 0 ∷ 0 ∷ 5 ∷ 0 ∷ 0 ∷ 0 ∷ 2 ∷ 104 ∷ 105 ∷ []) ≡ 0 ∷ 0 ∷ 0 ∷ 0 ∷ 0 ∷ 0 ∷ 0 ∷ 0 ∷ 104 ∷ 105 ∷ zeros 6
+unfolding taken_in
+payload = refl

@@ -1,6 +1,6 @@
 -- Sessions on the streams 1 and 3, computed from the definitions: the bytes that stand on the wire, and what its peer hears. So the claim
 -- is not of lists that cannot be, and the bytes are pinned. A second one has the same bytes, and its Terminal reports stdout truncated:
--- the wire does not tell. A third is broken off by the peer.
+-- the wire does not tell. A third is broken off by the peer, and a fourth when stdout had ended.
 use Rattle.std.specs.Prelude.{true, Ok}
 use mathlib.Core.Path.{◌≡◌, refl, sym, ap, ◌∙◌}
 use mathlib.Core.List.{List, [], ◌∷◌, ◌++◌}
@@ -113,6 +113,27 @@ broken_bytes = (0 ∷ 0 ∷ 4 ∷ 8 ∷ 0 ∷ 0 ∷ 0 ∷ 0 ∷ 1 ∷ 0 ∷ 0 �
     ++ (0 ∷ 0 ∷ 4 ∷ 3 ∷ 0 ∷ 0 ∷ 0 ∷ 0 ∷ 1 ∷ 0 ∷ 0 ∷ 0 ∷ 8 ∷ [])
     ++ (0 ∷ 0 ∷ 4 ∷ 3 ∷ 0 ∷ 0 ∷ 0 ∷ 0 ∷ 3 ∷ 0 ∷ 0 ∷ 0 ∷ 8 ∷ [])
 
+-- ---- the same, where stdout had ended: its End was told
+
+abbrev pub half : List Entry
+half = call (Call.launched (Ok tt))
+    ∷ written
+    ∷ written
+    ∷ call (Call.output_closed Stdout)
+    ∷ written
+    ∷ broken_off
+    ∷ call (Call.output_closed Stderr)
+    ∷ call (Call.exited 6 zero_status)
+    ∷ call (Call.settled Settlement.Settled)
+    ∷ written
+    ∷ []
+
+-- Credit, the end of stream 1, and Terminal's one reset, of stream 3
+abbrev pub half_bytes : List ℕ
+half_bytes = (0 ∷ 0 ∷ 4 ∷ 8 ∷ 0 ∷ 0 ∷ 0 ∷ 0 ∷ 1 ∷ 0 ∷ 0 ∷ 0 ∷ 8 ∷ [])
+    ++ (0 ∷ 0 ∷ 0 ∷ 0 ∷ 1 ∷ 0 ∷ 0 ∷ 0 ∷ 1 ∷ [])
+    ++ (0 ∷ 0 ∷ 4 ∷ 3 ∷ 0 ∷ 0 ∷ 0 ∷ 0 ∷ 3 ∷ 0 ∷ 0 ∷ 0 ∷ 8 ∷ [])
+
 -- ---- the bytes
 
 abbrev begins : State
@@ -125,8 +146,9 @@ computed : (wire on_wire begins entries ≡ bytes)
     × (answer_entry (after_entries begins lossy) written ≡ Call.Says (Call.Terminal cut))
     × (wire on_wire begins broken ≡ broken_bytes)
     × (any terminal_message (said conf 0 (zeros 16) [] broken) ≡ true)
+    × (wire on_wire begins half ≡ half_bytes)
 unfolding next_entry on_wire Step.next Step.answer Calls.«open» Calls.launched Calls.output Calls.output_closed Calls.exited Calls.settled Calls.reset Calls.next_message Calls.credit Range.fresh Range.stop Range.in_range output_fits bytes_with admits cost wrap ring_read ring_from ring_write copied if_else order Life.close_runner_input Life.end_grace Life.give_up Life.begin_termination Life.pass_grace Life.terminate Life.pass_timeout Life.pass_settlement Life.give_up_unless_clean Life.pass_give_up Life.drop_launch Life.drop_streams Life.pass_abandonment Life.fire Life.ticked Life.note_started Life.note_launch Life.launched_next Life.note_exit Life.note_exit_once Life.exited_next Life.settled_next Life.silenced Life.give_up_soon Life.cut_off Life.cut_off_once Life.detach_next Life.is_ready Life.outcome_of Message.sendable_of Message.choose Message.output_paid Message.output_sent Message.effect Message.payload Message.buffer_after Message.said_for Streams.output_taken Streams.output_next Streams.output_store Streams.output_took Streams.closed_next Streams.credit_in Streams.credit_answer Streams.credit_next number_at be32_at be24_at Carrier.admitted Carrier.accepted Carrier.wrote Carrier.wrote_buffer Carrier.told Carrier.asked Carrier.sent Carrier.readied Carrier.written Carrier.write Frames.made Frames.parsed_read Frames.read_frame Frames.sent_as Frames.laid Frames.write_frame Framing.header Framing.bytes_of Framing.is_whole Framing.number31_at Framing.stream_of Framing.data_in Framing.of_four Framing.kinded Framing.on_stream Framing.read answer_entry Calls.discarded Streams.discarded_next
-computed = (refl, refl, refl, refl, refl, refl, refl)
+computed = (refl, refl, refl, refl, refl, refl, refl, refl)
 
 pub session : (wire on_wire begins entries ≡ bytes) × (wire on_wire begins (entries ++ (written ∷ [])) ≡ bytes)
 session = (computed.0, computed.1)
@@ -137,6 +159,9 @@ blind = (computed.3, computed.4)
 
 pub session_broken : wire on_wire begins broken ≡ broken_bytes
 session_broken = computed.5
+
+pub session_half : wire on_wire begins half ≡ half_bytes
+session_half = computed.7
 
 -- ---- what its peer hears
 
