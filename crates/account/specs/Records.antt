@@ -109,8 +109,8 @@ call_of conf now b (Ok Record.Eof) = Call.end_input conf.key ∷ []
 call_of conf now b (Ok Record.Close) = Call.disconnect now ∷ []
 call_of conf now b (Err x) = []
 
--- DATA under the account's eyes: without bytes and with END_STREAM end_input alone; else input, and behind it, where the frame ends the
--- stream and is not refused, end_input
+-- DATA: without bytes and with END_STREAM end_input alone; else input, and behind it, where the frame ends its stream and is not
+-- refused, end_input
 abbrev pub data_calls : Key → (ends : Bool) → (bytes : List ℕ) → Answer → List Call
 data_calls k ends b a =
     cond (ends && eqb (length b) 0)
@@ -127,7 +127,7 @@ frame_calls conf now b (Ok (Frame.Data Stderr n ends)) a = []
 frame_calls conf now b (Ok (Frame.Reset x)) a = Call.reset now ∷ []
 frame_calls conf now b (Err x) a = []
 
--- what is written is written into a buffer of at least chunk + 13 bytes, and 43
+-- a write asks for a buffer of at least chunk + 13 bytes, and 43
 abbrev pub roomy : Conf → (buffer : List ℕ) → Bool
 roomy conf buffer = leb (room conf.limits) (length buffer)
 
