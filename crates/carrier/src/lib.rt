@@ -3,7 +3,7 @@
 
 ghost use Rattle.std.specs.Prelude.{◌≡◌, ◌+◌, ◌≤◌, length, Ok, Err, MatchResult, IsOkAnd};
 ghost use Rattle.runner.specs.Message.{message_after};
-ghost use Rattle.carrier.specs.Carrier.{readied, room, asked};
+ghost use Rattle.carrier.specs.Carrier.{accepted, readied, room, asked};
 ghost use Rattle.carrier.specs.CarrierLaws.{admitted_by};
 
 use exec::{Limits, Receipt, Refusal};
@@ -34,6 +34,18 @@ pub fn admit(
 }
 
 // ---- what is read
+
+// What the bytes are, where the carrier is admitted. (Reading them changes nothing, so that it may come first.)
+#[tactic(auto, unfolding(crate::specs::Carrier::accepted))]
+pub fn accept<T: Drop>(
+    admitted: Result<(), Refusal>,
+    parsed: Result<T, Refusal>,
+) -> Result<T, Refusal>
+    ensures { result ≡ accepted admitted parsed }
+{
+    admitted?;
+    parsed
+}
 
 // It is answered as the call that it made: its receipt, if the call has one.
 pub fn read_as<T, F: FnOnce(T) -> Option<Receipt>>(

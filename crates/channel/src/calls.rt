@@ -1,8 +1,6 @@
 // The two record calls on a runner: a record read is the call that it stands for, a record written is the next message.
 ghost use Rattle.std.specs.Prelude.{◌≡◌, ◌≤◌, length};
-ghost use Rattle.exec.specs.declared.Refusal.TheVariants.{NotAChannel};
 ghost use Rattle.carrier.specs.Carrier.{read_after, accepted, write_after, room, wrote, wrote_buffer, sent};
-ghost use Rattle.carrier.specs.CarrierLaws.{admitted_by};
 ghost use Rattle.channel.specs.Calls.{
   is_channel,
   made,
@@ -20,7 +18,7 @@ ghost use Rattle.channel.specs.Calls.{
 ghost use Rattle.channel.specs.CallLaws.{Narrow, Sayable, Roomy};
 ghost use Rattle.codec.specs.Codec.{start, read};
 
-use carrier::{admit, ask, read_as, ready, room};
+use carrier::{accept, admit, ask, read_as, ready, room};
 use codec::Record;
 use exec::{Limits, Pool, Receipt, Refusal, Status, Stream, Unit};
 use inbox::need;
@@ -62,28 +60,19 @@ pub fn read_record(
     let limits = runner.limits;
     let enough = (need::byte_need(limits) <= store.len())
         & (need::length_need(limits) <= lengths.len());
-    match accept(runner.limits(), enough, is_channel(limits), bytes, channel) {
+    let admitted = admit(
+        runner.limits(),
+        enough,
+        is_channel(limits),
+        Refusal::NotAChannel,
+    );
+    match accept(admitted, codec::read(bytes, channel)) {
         Ok(rec) => make(rec, runner, at, bytes, store, lengths),
         Err(refusal) => After {
             runner,
             answer: Err(refusal),
         },
     }
-}
-
-// The record that bytes are, where records are admitted.
-#[tactic(auto, unfolding(carrier::specs::Carrier::accepted))]
-fn accept(
-    limits: Result<Limits, Refusal>,
-    enough: bool,
-    carries: bool,
-    bytes: &[u8],
-    channel: u32,
-) -> Result<Record, Refusal>
-    ensures { result ≡ accepted (admitted_by limits enough carries NotAChannel) (read channel bytes.now) }
-{
-    admit(limits, enough, carries, Refusal::NotAChannel)?;
-    codec::read(bytes, channel)
 }
 
 // Makes the call that a record stands for.

@@ -1,9 +1,7 @@
 // The two frame calls on a runner: a frame read is the calls that it stands for, a frame written is the next message.
 ghost use Rattle.std.specs.Prelude.{◌≡◌, true, ◌≤◌, length};
 ghost use Rattle.exec.specs.Written.{written_after};
-ghost use Rattle.exec.specs.declared.Refusal.TheVariants.{NotFramed};
 ghost use Rattle.carrier.specs.Carrier.{read_after, accepted, write_after, room, wrote, wrote_buffer, told, asked};
-ghost use Rattle.carrier.specs.CarrierLaws.{admitted_by};
 ghost use Rattle.framing.specs.Framing.{start, is_stream, read};
 ghost use Rattle.frames.specs.Calls.{
   is_plain,
@@ -21,7 +19,7 @@ ghost use Rattle.frames.specs.Calls.{
 };
 ghost use Rattle.frames.specs.CallLaws.{laid_after, resets, Layable, Sayable};
 
-use carrier::{admit, ask, read_as, ready, room};
+use carrier::{accept, admit, ask, read_as, ready, room};
 use exec::{Limits, Pool, Receipt, Refusal, Stream, Unit};
 use framing::Frame;
 use inbox::need;
@@ -74,28 +72,19 @@ pub fn read_frame(
     let limits = runner.limits;
     let enough = (need::byte_need(limits) <= store.len())
         & (need::length_need(limits) <= lengths.len());
-    match accept(runner.limits(), enough, is_framed(limits, s), bytes, s) {
+    let admitted = admit(
+        runner.limits(),
+        enough,
+        is_framed(limits, s),
+        Refusal::NotFramed,
+    );
+    match accept(admitted, framing::read(bytes, s)) {
         Ok(frame) => make(frame, runner, at, bytes, store, lengths),
         Err(refusal) => After {
             runner,
             answer: Err(refusal),
         },
     }
-}
-
-// The frame that bytes are, where frames are admitted.
-#[tactic(auto, unfolding(carrier::specs::Carrier::accepted))]
-fn accept(
-    limits: Result<Limits, Refusal>,
-    enough: bool,
-    carries: bool,
-    bytes: &[u8],
-    s: u32,
-) -> Result<Frame, Refusal>
-    ensures { result ≡ accepted (admitted_by limits enough carries NotFramed) (read s bytes.now) }
-{
-    admit(limits, enough, carries, Refusal::NotFramed)?;
-    framing::read(bytes, s)
 }
 
 fn pool_of(x: Stream) -> Pool
