@@ -2,7 +2,7 @@
 use Rattle.std.specs.Prelude.{ℕ, ◌≡◌, refl, Bool, true, false, cond, List, [], ◌∷◌, eqb, Option, Some, None}
 use Rattle.std.proofs.Common.{arith, eqb-true}
 use Rattle.exec.specs.declared.Refusal.{Refusal}
-use Rattle.exec.specs.declared.Refusal.TheVariants.{Key, Pool, Credit, Chunk, Window, Ended, NoLimits, StoreShort, StateOutOfRange, NotAChannel, BadLength, UnknownKind, OtherChannel, BadType, NotInbound, BufferShort, BadLine, UntoldStatus, BadRequest, NotFramed, BadFrame, PaddedFrame}
+use Rattle.exec.specs.declared.Refusal.TheVariants.{Key, Pool, Credit, Chunk, Window, Ended, NoLimits, StoreShort, StateOutOfRange, NotAChannel, BadLength, UnknownKind, OtherChannel, BadType, NotInbound, BufferShort, BadLine, UntoldStatus, BadRequest, NotFramed, BadFrame, PaddedFrame, OutOfOrder}
 
 abbrev pub number : Refusal → ℕ
 number Key = 1
@@ -27,13 +27,14 @@ number BadRequest = 41
 number NotFramed = 42
 number BadFrame = 43
 number PaddedFrame = 44
+number OutOfOrder = 45
 
 -- every refusal, in the order of the table
 abbrev pub stops : List Refusal
 stops =
     Key ∷ Pool ∷ Credit ∷ Chunk ∷ Window ∷ Ended ∷ NoLimits ∷ StoreShort ∷ StateOutOfRange ∷ NotAChannel ∷ BadLength ∷ UnknownKind
     ∷ OtherChannel ∷ BadType ∷ NotInbound ∷ BufferShort ∷ BadLine ∷ UntoldStatus ∷ BadRequest ∷ NotFramed ∷ BadFrame
-    ∷ PaddedFrame ∷ []
+    ∷ PaddedFrame ∷ OutOfOrder ∷ []
 
 unfoldable pub find : ℕ → List Refusal → Option Refusal
 find n [] = None
@@ -67,6 +68,7 @@ refusal_number BadRequest = refl
 refusal_number NotFramed = refl
 refusal_number BadFrame = refl
 refusal_number PaddedFrame = refl
+refusal_number OutOfOrder = refl
 
 -- a refusal that was found, at the head of a list or behind it, has the number
 found : (b : Bool) (n : ℕ) (x y : Refusal) (rest : Option Refusal) → eqb (number y) n ≡ b → (rest ≡ Some x → number x ≡ n)

@@ -434,8 +434,8 @@ pub enum Receipt {
     Late,
 }
 
-// Why a call is refused: the Rust's Violation, then what the stores, the state, the records, the card and the exit requests add. A refused call
-// changes nothing.
+// Why a call is refused: the Rust's Violation, then what the stores, the state, the records, the card, the exit requests, the frames and the
+// judge add. A refused call changes nothing.
 #[derive(Clone, Copy, Debug, PartialEq, Eq)]
 pub enum Refusal {
     Key = 1,
@@ -460,6 +460,7 @@ pub enum Refusal {
     NotFramed = 42,
     BadFrame = 43,
     PaddedFrame = 44,
+    OutOfOrder = 45,
 }
 
 impl Refusal {
@@ -496,6 +497,7 @@ impl fmt::Display for Refusal {
             Refusal::NotFramed => "the limits or the stream are not those of frames",
             Refusal::BadFrame => "the frame is none that a peer sends on these streams",
             Refusal::PaddedFrame => "the frame is padded",
+            Refusal::OutOfOrder => "the message is out of order",
         })
     }
 }

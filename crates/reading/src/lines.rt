@@ -189,7 +189,7 @@ fn call4(name: &[u8], a: &[u8], b: &[u8], c: &[u8], d: &[u8]) -> Option<Call>
 
 // The first field of a text, and the text behind its comma.
 #[tactic(auto, using(crate::specs::FieldLaws::fields_at, crate::specs::FieldLaws::fields_last))]
-fn cut(text: &[u8]) -> (&[u8], Option<&[u8]>)
+pub fn cut(text: &[u8]) -> (&[u8], Option<&[u8]>)
     ensures cut { fields text.now ≡ result.0.now ∷ fields_left result.1 }
     ensures within { (length result.0.now ≤ length text.now) × ForSome result.1 (λ rest. length rest.now ≤ length text.now) }
 {

@@ -8,7 +8,7 @@ use exec::{Cause, Pool, Settlement, Stream, Unit};
 
 // What the first of these names stands for that the field is.
 #[tactic(auto, using(crate::specs::Naming::find_entries))]
-pub(crate) fn named<T: Copy>(field: &[u8], table: &[(&[u8], T)]) -> Option<T>
+pub fn named<T: Copy>(field: &[u8], table: &[(&[u8], T)]) -> Option<T>
     ensures { result ≡ find field.now (entries table.now) }
 {
     table
@@ -22,7 +22,7 @@ pub(crate) fn named<T: Copy>(field: &[u8], table: &[(&[u8], T)]) -> Option<T>
 static STREAMS: [(&[u8], Stream); 2] = [(b"Stdout", Stream::Stdout), (b"Stderr", Stream::Stderr)];
 
 #[tactic(auto, unfolding(syntax::specs::Words::bytes, syntax::specs::Words::named, syntax::specs::Lines::find))]
-pub(crate) fn stream(field: &[u8]) -> Option<Stream>
+pub fn stream(field: &[u8]) -> Option<Stream>
     ensures { result ≡ stream field.now }
 {
     named(field, &STREAMS)
@@ -36,7 +36,7 @@ static POOLS: [(&[u8], Pool); 4] = [
 ];
 
 #[tactic(auto, unfolding(syntax::specs::Words::bytes, syntax::specs::Words::named, syntax::specs::Lines::find))]
-pub(crate) fn pool(field: &[u8]) -> Option<Pool>
+pub fn pool(field: &[u8]) -> Option<Pool>
     ensures { result ≡ pool field.now }
 {
     named(field, &POOLS)
