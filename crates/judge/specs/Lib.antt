@@ -1,0 +1,3 @@
+-- The judge by one item, the rules over whole lists, and that they are the same.
+pub mod Judge
+pub mod Rules
