@@ -100,12 +100,12 @@ with_left spoken l j = with j.started spoken j.input_closed j.terminal j.ended l
 abbrev pub with_input : ℕ → Judge → Judge
 with_input n j = with j.started j.spoken j.input_closed j.terminal j.ended j.left n j
 
-abbrev pub granted_at : Result ℕ Refusal → Judge → (units : ℕ) → Judge
-granted_at (Ok i) j u = with_left j.spoken (put i (left_at i j + u) 0 j.left) j
-granted_at (Err x) j u = j
+abbrev pub left_by : Result ℕ Refusal → (units : ℕ) → List ℕ → List ℕ
+left_by (Ok i) u left = put i (at i 0 left + u) 0 left
+left_by (Err x) u left = left
 
-abbrev pub granted : Judge → Pool → (units : ℕ) → Judge
-granted j p u = granted_at (output_pool j.limits.shared p) j u
+abbrev pub left_granted : Judge → Pool → (units : ℕ) → List ℕ
+left_granted j p u = left_by (output_pool j.limits.shared p) u j.left
 
 abbrev pub paid : Judge → Stream → (length : ℕ) → Judge
 paid j x n =
@@ -116,7 +116,7 @@ abbrev pub ended_now : Judge → Stream → Judge
 ended_now j x = with j.started true j.input_closed j.terminal (put (index x) true false j.ended) j.left j.input_left j
 
 abbrev pub noted : Judge → Item → Judge
-noted j (Granted p u) = granted j p u
+noted j (Granted p u) = with_left j.spoken (left_granted j p u) j
 noted j (Input n) = with_input (j.input_left - cost j.limits.input.unit n) j
 noted j (Credit u) = with_input (j.input_left + u) j
 noted j Started = with true j.spoken j.input_closed j.terminal j.ended j.left j.input_left j

@@ -15,7 +15,7 @@ ghost use Rattle.judge.specs.Judge.{
   is_above_window,
   is_granted_above,
   judged,
-  granted,
+  left_granted,
   paid,
   ended_now,
   noted,
@@ -198,14 +198,17 @@ impl Judge {
 
     // ---- what is kept of an item that breaks no rule
 
-    fn grant(&mut self, pool: Pool, units: u32)
-        requires { is_granted_above self.old pool units ≡ false }
-        ensures { self.new ≡ granted self.old pool units }
+    fn left_granted(self, pool: Pool, units: u32) -> [u32; 2]
+        requires { is_granted_above self pool units ≡ false }
+        ensures { result ≡ left_granted self pool units }
     {
-        if let Ok(i) = self.limits.output_pool(pool) {
-            let sum = added(self.limits.output.size, self.left_at(i), units);
-            let left = pair::put(i, sum, self.left);
-            self.left = left;
+        match self.limits.output_pool(pool) {
+            Ok(i) => pair::put(
+                i,
+                added(self.limits.output.size, self.left_at(i), units),
+                self.left,
+            ),
+            Err(_) => self.left,
         }
     }
 
@@ -234,7 +237,10 @@ impl Judge {
         ensures { self.new ≡ noted self.old item }
     {
         match item {
-            Item::Granted(pool, units) => self.grant(pool, units),
+            Item::Granted(pool, units) => {
+                let left = self.left_granted(pool, units);
+                self.left = left;
+            }
             Item::Input(length) => {
                 self.input_left = self.input_left - cost_of(self.limits.input.unit, length) as u32
             }
