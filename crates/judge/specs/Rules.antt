@@ -110,9 +110,9 @@ pub record Keeps (l : Limits) (xs : List Item) : Type 0 where
   pub terminal_last : (pre post : List Item) → xs ≡ pre ++ (Terminal ∷ post) → any is_message post ≡ false
   -- Output lengths from 1 to chunk
   pub lengths : (x : Stream) (n : ℕ) (pre post : List Item) → xs ≡ pre ++ (Output x n ∷ post) → (1 ≤ n) × (n ≤ l.chunk)
-  -- costs within credit, and credit left at most its window
-  pub costs : (i : ℕ) (pre post : List Item) → xs ≡ pre ++ post → total (cost_to l i) pre ≤ total (granted_to l i) pre
-  pub windows : (i : ℕ) (pre post : List Item) → xs ≡ pre ++ post → total (granted_to l i) pre ≤ l.output.size + total (cost_to l i) pre
+  -- costs within credit, and credit left at most its window: on the pool of each stream
+  pub costs : (x : Stream) (pre post : List Item) → xs ≡ pre ++ post → total (cost_to l (pool_of l x)) pre ≤ total (granted_to l (pool_of l x)) pre
+  pub windows : (x : Stream) (pre post : List Item) → xs ≡ pre ++ post → total (granted_to l (pool_of l x)) pre ≤ l.output.size + total (cost_to l (pool_of l x)) pre
   -- Credit units at least 1, input charges within them, and what is left at most the window
   pub some_units : (u : ℕ) (pre post : List Item) → xs ≡ pre ++ (Credit u ∷ post) → 1 ≤ u
   pub charges : (pre post : List Item) → xs ≡ pre ++ post → total (charge_of l) pre ≤ total brought_by pre

@@ -1,0 +1,2 @@
+-- Why the judge is the rules.
+pub mod Lists
