@@ -1,2 +1,3 @@
 -- Why the judge is the rules.
 pub mod Lists
+pub mod Heard
