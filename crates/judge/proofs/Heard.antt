@@ -1,12 +1,11 @@
 -- The judge that heard a list of items that keep the rules: what it answers to one more is that item's breach, and it has heard it then.
 use Rattle.std.specs.Prelude.{Bool, true, false, cond, ◌||◌, ◌≡◌, refl, List, [], ◌∷◌, ◌++◌, ℕ, zero, suc, ◌+◌, ◌-◌, ◌≤◌, ◌<◌, eqb, ltb, Result, Ok, Err}
-use Rattle.std.proofs.Common.{sym, ap, ◌∙◌, subst, arith, eqb-true, ltb-false}
+use Rattle.std.proofs.Common.{sym, ap, ◌∙◌, arith, eqb-true, ltb-false}
 use Rattle.std.proofs.Math.Bool.{or-false}
 use Rattle.std.proofs.lemmas.Bool.Decides.{nat_tests}
 use mathlib.Core.Bool.{or-true}
 use Rattle.exec.specs.declared.Limits.{Limits}
 use Rattle.exec.specs.declared.Pool.{Pool}
-use Rattle.exec.specs.declared.Pool.TheVariants as Pool
 use Rattle.exec.specs.declared.Refusal.{Refusal}
 use Rattle.exec.specs.declared.Stream.{Stream}
 use Rattle.exec.specs.declared.Stream.TheVariants.{Stdout, Stderr}
@@ -33,7 +32,11 @@ pub record Heard (l : Limits) (pre : List Item) (j : Judge) : Type 0 where
 
 pub none_heard : (l : Limits) → Heard l [] (new_judge l)
 none_heard l = record {
-  limits = refl; started = refl; spoken = refl; closed = refl; terminal = refl;
+  limits = refl;
+  started = refl;
+  spoken = refl;
+  closed = refl;
+  terminal = refl;
   ended = λ x. by (eqb (index x) 0);
   left = λ i h. ap (λ (n : ℕ). n + 0) (zeros (eqb i 0));
   input = refl;
@@ -88,7 +91,7 @@ module _ (l : Limits) (pre : List Item) (j : Judge) (h : Heard l pre j) where
   same_length (Output x n) = ap (λ (m : Limits). off_chunk m n) h.limits
   same_length _ = refl
 
-  same_cost : (x : Item) → is_unpaid j x ≡ breaks_cost l pre x
+  pub same_cost : (x : Item) → is_unpaid j x ≡ breaks_cost l pre x
   same_cost (Input n) =
       ap (λ (m : Limits). ltb j.input_left (cost m.input.unit n)) h.limits
       ∙ shifted j.input_left (cost l.input.unit n) _ _ (total (charge_of l) pre) h.input (omega arith)
@@ -204,9 +207,11 @@ module _ (l : Limits) (pre : List Item) (j : Judge) (h : Heard l pre j) where
         omega (arith, ap (λ (m : Limits). at i 0 (left_by (output_pool m.shared p) u j.left)) h.limits ∙ added_at (output_pool l.shared p) u (stands l.shared p))
     left_after (Output x n) e =
         let f : ltb (left_at (pool_of l x) j) (cost l.output.unit n) ≡ false = ap (λ (m : Limits). ltb (left_at (pool_of m x) j) (cost m.output.unit n)) (sym h.limits) ∙ e in
-        omega (arith,
+        omega (
+          arith,
           ap (λ (m : Limits). at i 0 (put (pool_of m x) (left_at (pool_of m x) j - cost m.output.unit n) 0 j.left)) h.limits,
-          paid_at (pool_of l x) (cost l.output.unit n) (pool_least l x) (ltb-false _ _ f))
+          paid_at (pool_of l x) (cost l.output.unit n) (pool_least l x) (ltb-false _ _ f),
+        )
     left_after _ e = refl
 
   input_after : (x : Item) → is_unpaid j x ≡ false → (noted j x).input_left + charge_of l x ≡ j.input_left + brought_by x

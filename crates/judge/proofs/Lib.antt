@@ -1,3 +1,5 @@
 -- Why the judge is the rules.
 pub mod Lists
 pub mod Heard
+pub mod Keeps
+pub mod Exact

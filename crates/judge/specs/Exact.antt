@@ -1,6 +1,6 @@
 -- What is claimed of the judge: it accepts exactly the lists that keep the rules, and refuses another at the first item that breaks one,
 -- by that item's number.
-use Rattle.std.specs.Prelude.{true, false, ◌≡◌, List, ◌∷◌, ◌++◌, Result, Ok, Err}
+use Rattle.std.specs.Prelude.{false, ◌≡◌, List, ◌∷◌, ◌++◌, Ok, Err}
 use Rattle.exec.specs.declared.Limits.{Limits}
 use Rattle.exec.specs.declared.Refusal.{Refusal}
 use Rattle.exec.specs.Limits.{is_valid}

@@ -2,7 +2,6 @@
 -- before it. Credit and input are no messages; sums are of the items named, so nothing is subtracted.
 use Rattle.std.specs.Prelude.{Bool, true, false, cond, ◌||◌, ◌≡◌, List, [], ◌∷◌, ◌++◌, ℕ, ◌+◌, ◌≤◌, eqb, ltb, Result, Ok, Err}
 use Rattle.exec.specs.declared.Limits.{Limits}
-use Rattle.exec.specs.declared.Pool.{Pool}
 use Rattle.exec.specs.declared.Refusal.{Refusal}
 use Rattle.exec.specs.declared.Stream.{Stream}
 use Rattle.exec.specs.Limits.{cost, off_chunk, output_pool, pool_of}
