@@ -2,3 +2,4 @@
 pub mod Judge
 pub mod Rules
 pub mod Exact
+pub mod Edges
