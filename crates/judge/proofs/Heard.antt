@@ -80,11 +80,11 @@ module _ (l : Limits) (pre : List Item) (j : Judge) (h : Heard l pre j) where
   same_order : (x : Item) → is_out_of_order j x ≡ breaks_order pre x
   same_order (Granted p u) = refl
   same_order (Input n) = refl
-  same_order (Credit u) = rw (h.terminal, h.closed) refl
-  same_order Started = rw (h.terminal, h.started, h.spoken) refl
-  same_order (Output x n) = rw (h.terminal, h.ended x) refl
-  same_order (End x) = rw (h.terminal, h.ended x) refl
-  same_order InputClosed = rw (h.terminal, h.closed) refl
+  same_order (Credit u) = cc (h.terminal, h.closed)
+  same_order Started = cc (h.terminal, h.started, h.spoken)
+  same_order (Output x n) = cc (h.terminal, h.ended x)
+  same_order (End x) = cc (h.terminal, h.ended x)
+  same_order InputClosed = cc (h.terminal, h.closed)
   same_order Terminal = h.terminal
 
   same_length : (x : Item) → is_off_chunk j x ≡ breaks_length l x
@@ -112,8 +112,9 @@ module _ (l : Limits) (pre : List Item) (j : Judge) (h : Heard l pre j) where
       ap (λ (m : Limits). granted_above (output_pool m.shared p) j u) h.limits
       ∙ same_granted (output_pool l.shared p) u (stands l.shared p)
   same_window (Credit u) =
-      ap (λ (m : Limits). eqb u 0 || ltb m.input.size (j.input_left + u)) h.limits
-      ∙ ap (λ (b : Bool). eqb u 0 || b) (shifted l.input.size (j.input_left + u) _ _ (total (charge_of l) pre) refl (omega (arith, h.input)))
+      cc (
+      ap (λ (m : Limits). ltb m.input.size (j.input_left + u)) h.limits
+      ∙ shifted l.input.size (j.input_left + u) (l.input.size + total (charge_of l) pre) (total brought_by pre + u) (total (charge_of l) pre) refl (omega (arith, h.input)))
   same_window _ = refl
 
   -- IT ANSWERS BY THE BREACH
@@ -128,11 +129,7 @@ module _ (l : Limits) (pre : List Item) (j : Judge) (h : Heard l pre j) where
 -- an item that breaks no rule passes the four tests
 pub passed : (order length cost window : Bool) → verdict order length cost window ≡ Ok tt
     → (order ≡ false) × (length ≡ false) × (cost ≡ false) × (window ≡ false)
-passed false false false false e = (refl, refl, refl, refl)
-passed true length cost window e = cc
-passed false true cost window e = cc
-passed false false true window e = cc
-passed false false false true e = cc
+passed a b c d e = (grind (arith, e), grind (arith, e), grind (arith, e), grind (arith, e))
 
 -- what stands at one position, once another is put
 at_put : {A : Type 0} (k i : ℕ) (v other : A) (both : List A) → k < 2 → i < 2 → at k other (put i v other both) ≡ cond (eqb i k) v (at k other both)
