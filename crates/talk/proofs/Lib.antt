@@ -1,0 +1,1 @@
+-- That what our runner says keeps the judge's rules, file by file.
