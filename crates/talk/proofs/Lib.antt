@@ -1,1 +1,4 @@
 -- That what our runner says keeps the judge's rules, file by file.
+pub mod Told
+pub mod Judged
+pub mod Begins
