@@ -2,3 +2,5 @@
 pub mod Told
 pub mod Judged
 pub mod Begins
+pub mod Input
+pub mod Rest
