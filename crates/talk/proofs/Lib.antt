@@ -4,3 +4,7 @@ pub mod Judged
 pub mod Begins
 pub mod Input
 pub mod Rest
+pub mod Talk
+pub mod Received
+pub mod Said
+pub mod Lists

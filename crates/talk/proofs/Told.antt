@@ -10,6 +10,7 @@ use Rattle.account.specs.Step.{State}
 use Rattle.account.proofs.Plain.{answer}
 use Rattle.account.proofs.Finish.{Kind, quiet, kind}
 use Rattle.account.proofs.Finish as Finish
+use Rattle.wire.specs.Messages.{said_in}
 use Rattle.wire.proofs.Ends.{unsaid}
 use Rattle.talk.specs.TalkClaim.{applied_of, items_by}
 
@@ -41,9 +42,12 @@ none_applied (Call.input k b) a e = absurd (true≢false e)
 none_applied _ a e = refl
 
 -- of any other it is told nothing
-pub none_told : (c : Call) (s : State) → is_told c ≡ false → items_by c (answer s c) ≡ []
-none_told c s e = go c (kind c s) e
+pub none_said : (c : Call) (s : State) → speaks c ≡ false → said_in (answer s c) ≡ []
+none_said c s e = go c (kind c s) e
   where
-    go : (c : Call) → Kind s c → is_told c ≡ false → items_by c (answer s c) ≡ []
-    go c (quiet q) e = rw (none_applied c (answer s c) e, unsaid (answer s c) q) refl
+    go : (c : Call) → Kind s c → speaks c ≡ false → said_in (answer s c) ≡ []
+    go c (quiet q) e = unsaid (answer s c) q
     go c (Finish.speaks b) e = absurd (true≢false e)
+
+pub none_told : (c : Call) (s : State) → is_told c ≡ false → speaks c ≡ false → items_by c (answer s c) ≡ []
+none_told c s e m = rw (none_applied c (answer s c) e, none_said c s m) refl
