@@ -1,8 +1,7 @@
 -- Started is told once, and before any Output or End: as long as the launch is awaited or its Started not told, the judge heard none of
 -- them; and every call keeps this.
 use Rattle.std.specs.Prelude.{◌≡◌, refl, Bool, true, false, cond, not, ◌&&◌, ◌||◌, ℕ, Option, Result, Some, None, Ok, Err}
-use Rattle.std.proofs.lemmas.Bool.{true≢false, false≢true, or_left, or_right, cases_Bool}
-use Rattle.std.proofs.Common.{sym, ◌∙◌}
+use Rattle.std.proofs.lemmas.Bool.{true≢false, false≢true, or_left, or_right}
 use Rattle.exec.specs.declared.Admission.TheVariants.{Own}
 use Rattle.exec.specs.declared.Admission.{Admission}
 use Rattle.exec.specs.declared.Cause.{Cause}
@@ -17,7 +16,6 @@ use Rattle.runner.specs.declared.runner.Runner.{Runner}
 use Rattle.runner.specs.Life.{awaits_launch, is_cleaned_up, is_late, is_over, timeout_cleared, close_runner_input, end_grace, give_up, abandon_launch, abandon_open_streams, begin_termination, pass_grace, terminate, pass_timeout, pass_settlement, give_up_unless_clean, pass_give_up, drop_launch, drop_streams, pass_abandonment, fire, ticked, cancel_next, note_started, note_launch, launched_next, note_exit, note_exit_once, exited_next, settled_next, silenced, give_up_soon, cut_off, cut_off_once, detach_next}
 use Rattle.runner.specs.Message.{wish, handed, wish_effect}
 use Rattle.runner.specs.Streams.{output_next, discarded_next, closed_next, failed_next, hung_up_next, credit_next, input_next, end_next, written_next}
-use Rattle.calls.specs.Call as Call
 use Rattle.calls.specs.Call.{Call}
 use Rattle.account.specs.Step.{State}
 use Rattle.account.proofs.Flags.{either}

@@ -8,3 +8,4 @@ pub mod Talk
 pub mod Received
 pub mod Said
 pub mod Lists
+pub mod Session

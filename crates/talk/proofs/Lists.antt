@@ -9,12 +9,11 @@ use Rattle.exec.specs.Limits.{is_valid}
 use Rattle.credit.specs.Sender.{new_credit}
 use Rattle.runner.specs.declared.runner.Runner.{Runner}
 use Rattle.runner.specs.Range.{fresh}
-use Rattle.calls.specs.Call as Call
-use Rattle.calls.specs.Call.{Conf, Call, Done}
+use Rattle.calls.specs.Call.{Conf, Call}
 use Rattle.account.specs.Claim.{Opens}
 use Rattle.account.specs.Step as Step
 use Rattle.account.specs.Step.{State}
-use Rattle.account.specs.Records.{Entry, run_entries, calls_of, dones_of}
+use Rattle.account.specs.Records.{run_entries, calls_of}
 use Rattle.account.proofs.Demand.{Fine, fine_next, fine_open, opens_by, open_same, same_run}
 use Rattle.account.proofs.Plain.{next, answer, begun, run}
 use Rattle.account.proofs.Range.{lent}

@@ -1,7 +1,7 @@
 -- Credit and input: the judge accepts those that the runner applied, and is in step with it behind them.
-use Rattle.std.specs.Prelude.{◌≡◌, refl, Bool, true, false, cond, not, ◌&&◌, ◌||◌, List, [], ◌∷◌, ℕ, ◌+◌, ◌≤◌, leb, ltb, length, Result, Ok, Err}
-use Rattle.std.proofs.lemmas.Bool.{true≢false, false≢true, and_parts, leb-true, le-ltb}
-use Rattle.std.proofs.Common.{sym, ap, ◌∙◌, subst, arith}
+use Rattle.std.specs.Prelude.{◌≡◌, refl, Bool, true, false, cond, not, ◌&&◌, ◌||◌, List, [], ◌∷◌, ℕ, ◌+◌, leb, ltb, length, Result, Ok, Err}
+use Rattle.std.proofs.lemmas.Bool.{and_parts, leb-true, le-ltb}
+use Rattle.std.proofs.Common.{ap, ◌∙◌, arith}
 use mathlib.Core.Path.{subst⁻¹}
 use Rattle.exec.specs.declared.Admission.TheVariants.{Own, Stale}
 use Rattle.exec.specs.declared.Admission.{Admission}
@@ -20,14 +20,12 @@ use Rattle.input.specs.Input.{receive_answer, receive_input}
 use Rattle.runner.specs.declared.runner.Runner.{Runner}
 use Rattle.runner.specs.State.{credit_at, put_credit, with_flow, with_input}
 use Rattle.runner.specs.Streams.{credit_in, credit_answer, credit_next, input_answer, input_next}
-use Rattle.calls.specs.Call as Call
 use Rattle.calls.specs.Call.{Call}
 use Rattle.account.specs.Step.{State}
 use Rattle.account.proofs.Plain.{next, answer}
-use Rattle.judge.specs.declared.Item.TheVariants as Item
 use Rattle.judge.specs.declared.Item.{Item}
 use Rattle.judge.specs.declared.Judge.{Judge}
-use Rattle.judge.specs.Judge.{left_at, granted_above, granted_at, judged, noted}
+use Rattle.judge.specs.Judge.{left_at, granted_at, judged, noted}
 use Rattle.talk.specs.TalkClaim.{items_by}
 use Rattle.talk.proofs.Begins.{BeginsIn, begins_on}
 use Rattle.talk.proofs.Told.{speaks}
@@ -35,7 +33,7 @@ use Rattle.exec.specs.Stream.{index}
 use Rattle.wire.specs.Messages.{said_in}
 use Rattle.talk.proofs.Input.{receives}
 use Rattle.talk.proofs.Judged.{accepts, put_both}
-use Rattle.talk.proofs.Rest.{Even, AllEven, Rest}
+use Rattle.talk.proofs.Rest.{Even, Rest}
 use Rattle.talk.proofs.Talk.{Talk, Goes, ended_on, received_items, received_quiet}
 
 -- what the judge's limits, Terminal, input and accounts are behind an item that may have been applied

@@ -1,6 +1,6 @@
 -- Judge and runner in step, but for Started and the ends: the limits, Terminal, the input, and the accounts with what is left of each. Every
 -- call of which the judge is told nothing keeps it.
-use Rattle.std.specs.Prelude.{◌≡◌, refl, Bool, true, false, cond, List, ℕ, ltb, length, Option, Some, None}
+use Rattle.std.specs.Prelude.{◌≡◌, false, List, ℕ, Option, Some, None}
 use Rattle.std.proofs.lemmas.Bool.{true≢false}
 use Rattle.std.proofs.Common.{sym, ◌∙◌}
 use Rattle.exec.specs.declared.Cause.{Cause}
@@ -14,13 +14,12 @@ use Rattle.runner.specs.Life.{close_runner_input, settled_next}
 use Rattle.runner.specs.Message.{wish, handed, wish_effect}
 use Rattle.runner.specs.State.{credit_at}
 use Rattle.runner.specs.Streams.{is_taken, output_next, discarded_next, closed_next, failed_next, hung_up_next, end_next, written_next}
-use Rattle.calls.specs.Call as Call
 use Rattle.calls.specs.Call.{Call}
 use Rattle.account.specs.Step.{State}
 use Rattle.account.proofs.Plain.{next}
 use Rattle.account.proofs.Timers.{Kept, tick_keeps, cancel_keeps, detach_keeps, exited_keeps, launched_keeps}
 use Rattle.judge.specs.declared.Judge.{Judge}
-use Rattle.talk.proofs.Input.{Hears, HearsIn, closes, tells, ends, writes}
+use Rattle.talk.proofs.Input.{HearsIn, closes, tells, ends, writes}
 use Rattle.talk.proofs.Told.{is_told}
 
 -- an account, and what the judge has left of it

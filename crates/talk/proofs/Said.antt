@@ -1,17 +1,16 @@
 -- Messages: the judge accepts each that the runner says, and is in step with it behind it.
-use Rattle.std.specs.Prelude.{◌≡◌, refl, Bool, true, false, cond, not, ◌&&◌, ◌||◌, List, [], ◌∷◌, ℕ, ◌+◌, ◌-◌, ◌≤◌, ◌<◌, min, eqb, ltb, length, Ok}
+use Rattle.std.specs.Prelude.{◌≡◌, refl, Bool, true, false, not, ◌&&◌, ◌||◌, List, [], ◌∷◌, ℕ, ◌+◌, ◌-◌, ◌≤◌, ◌<◌, min, eqb, ltb, length, Ok}
 use Rattle.std.proofs.lemmas.Bool.{true≢false, false≢true, not-true, and_parts, or_from, or_left, or_right, ltb-true, leb-true, le-ltb, ne_eqb, false_from_ne_true}
 use Rattle.std.proofs.Common.{sym, ap, ◌∙◌, arith}
 use mathlib.Core.Path.{subst⁻¹}
 use mathlib.Core.List.{map}
 use Rattle.exec.specs.declared.Limits.{Limits}
 use Rattle.exec.specs.declared.Stream.{Stream}
-use Rattle.exec.specs.declared.Stream.TheVariants.{Stdout, Stderr}
 use Rattle.exec.specs.declared.Unit as Units
 use Rattle.exec.specs.declared.Unit.TheVariants.{Bytes, Frames}
 use Rattle.exec.specs.Each.{one}
-use Rattle.exec.specs.Limits.{cost, is_valid, off_chunk, pool_of}
-use Rattle.exec.specs.Stream.{stream_at, following, same_stream}
+use Rattle.exec.specs.Limits.{cost, is_valid, pool_of}
+use Rattle.exec.specs.Stream.{same_stream}
 use Rattle.inbox.specs.Need.{byte_need}
 use Rattle.credit.specs.Sender.{spent}
 use Rattle.input.specs.declared.Input.{Input}
@@ -19,9 +18,9 @@ use Rattle.input.specs.Input.{input_accepts, can_grant}
 use Rattle.choice.specs.declared.Choice.{Choice}
 use Rattle.choice.specs.Order.{if_else, order}
 use Rattle.runner.specs.declared.runner.Runner.{Runner}
-use Rattle.runner.specs.Life.{awaits_launch, is_ready}
-use Rattle.runner.specs.Message.{sendable_of, untold, choose, output_paid, output_sent, effect, payload}
-use Rattle.runner.specs.MessageLaws.{least, Chosen, chosen, is_payable, payload_length}
+use Rattle.runner.specs.Life.{awaits_launch}
+use Rattle.runner.specs.Message.{sendable_of, choose, output_paid, output_sent, effect, payload}
+use Rattle.runner.specs.MessageLaws.{least, chosen, is_payable, payload_length}
 use Rattle.runner.specs.Range.{bytes_do, stop}
 use Rattle.runner.specs.RangeLaws.{is_good_lem}
 use Rattle.runner.specs.State.{out_of, credit_at, put_credit}
@@ -34,15 +33,14 @@ use Rattle.account.proofs.Finish.{no_more}
 use Rattle.account.proofs.InputRange.{HeldIn}
 use Rattle.account.proofs.Plain.{said, enough, next, answer}
 use Rattle.account.proofs.Sides.{same_self}
-use Rattle.wire.specs.Messages.{said_in, is_of, any}
+use Rattle.wire.specs.Messages.{said_in}
 use Rattle.wire.proofs.Ends as Ends
 use Rattle.wire.proofs.Ends.{Tells, call_tells}
-use Rattle.judge.specs.declared.Item.TheVariants as Item
 use Rattle.judge.specs.declared.Item.{Item}
 use Rattle.judge.specs.declared.Judge.{Judge}
 use Rattle.judge.specs.Judge.{has_ended, left_at, judged, noted}
 use Rattle.talk.specs.TalkClaim.{item_of, items_by}
-use Rattle.talk.proofs.Begins.{Begins, BeginsIn, begun}
+use Rattle.talk.proofs.Begins.{BeginsIn, begun}
 use Rattle.talk.proofs.Judged.{accepts, put_both, noted_ends}
 use Rattle.talk.proofs.Rest.{Even, AllEven, Rest}
 use Rattle.talk.proofs.Talk.{Talk, Goes}
@@ -144,8 +142,8 @@ module _ (r : Runner) (j : Judge) (valid : is_valid j.limits ≡ true) (h : Talk
       let some = ltb-true 0 n takes.1 in
       let size : j.limits.input.size ≡ r.limits.input.size = ap (λ (l : Limits). l.input.size) h.rest.0 in (
         accepts j (Item.Credit n) valid
-        (or_from j.terminal j.input_closed on (h.rest.2.open' (rw opens refl))) refl refl
-        (or_from (eqb n 0) _ (ne_eqb n 0 (omega arith)) (le-ltb j.limits.input.size (j.input_left + n) (omega arith))),
+            (or_from j.terminal j.input_closed on (h.rest.2.open' (rw opens refl))) refl refl
+            (or_from (eqb n 0) _ (ne_eqb n 0 (omega arith)) (le-ltb j.limits.input.size (j.input_left + n) (omega arith))),
         (h.rest.0, h.rest.1, record { told = h.rest.2.told; open' = h.rest.2.open'; same = λ e. omega arith; most = omega arith }, h.rest.3),
         h.begins,
       )
@@ -204,8 +202,8 @@ module _ (r : Runner) (j : Judge) (valid : is_valid j.limits ≡ true) (h : Talk
       = rw h.rest.0 (put_both (Even r.limits.output.size) j.left r.credits i _ _ (ap (λ (m : ℕ). m - cost r.limits.output.unit n) left, k.1) h.rest.3) in
       subst⁻¹ (λ (m : ℕ). Says (Item.Output x m) (effect (Choice.Output x n) r)) b.size (
         accepts j (Item.Output x n) valid (or_from j.terminal (has_ended x j) on e)
-        (rw h.rest.0 (or_from (eqb n 0) (ltb r.limits.chunk n) (ne_eqb n 0 (omega arith)) (le-ltb r.limits.chunk n b.within)))
-        (rw h.rest.0 (le-ltb (left_at i j) (cost r.limits.output.unit n) (omega arith))) refl,
+            (rw h.rest.0 (or_from (eqb n 0) (ltb r.limits.chunk n) (ne_eqb n 0 (omega arith)) (le-ltb r.limits.chunk n b.within)))
+            (rw h.rest.0 (le-ltb (left_at i j) (cost r.limits.output.unit n) (omega arith))) refl,
         (h.rest.0, h.rest.1, h.rest.2, even),
         begun (j.started || true) (awaits_launch r) r.flags.started_message a s,
       )

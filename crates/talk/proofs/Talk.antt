@@ -1,14 +1,13 @@
 -- Judge and runner in step, and what the judge is told of a call: it accepts it, and is in step with the runner that the call leaves.
-use Rattle.std.specs.Prelude.{◌≡◌, refl, true, false, cond, ◌||◌, List, [], ◌∷◌, ◌++◌, Result, Ok, Err}
+use Rattle.std.specs.Prelude.{◌≡◌, refl, false, cond, ◌||◌, List, [], ◌∷◌, ◌++◌, Result, Ok, Err}
 use Rattle.std.proofs.Common.{sym, ap, ◌∙◌}
 use mathlib.Core.List.{map}
 use Rattle.exec.specs.declared.Receipt.{Receipt}
 use Rattle.exec.specs.declared.Refusal.{Refusal}
-use Rattle.exec.specs.declared.Stream.{Stream}
 use Rattle.exec.specs.Each.{one}
 use Rattle.input.specs.Input as Input
 use Rattle.runner.specs.declared.runner.Runner.{Runner}
-use Rattle.calls.specs.Call.{Call, Answer, Message}
+use Rattle.calls.specs.Call.{Call, Message}
 use Rattle.account.specs.InputClaim.{is_applied}
 use Rattle.account.specs.Step.{State, received_as}
 use Rattle.account.proofs.Plain.{next, answer}
@@ -20,7 +19,7 @@ use Rattle.judge.specs.declared.Judge.{Judge}
 use Rattle.judge.specs.Judge.{judged, noted}
 use Rattle.talk.specs.TalkClaim.{item_of, items_by}
 use Rattle.talk.proofs.Begins.{BeginsIn, begins_on}
-use Rattle.talk.proofs.Judged.{Ended, noted_ends}
+use Rattle.talk.proofs.Judged.{Ended}
 use Rattle.talk.proofs.Rest.{Rest, rest_on}
 use Rattle.talk.proofs.Told.{is_told, speaks, none_said, none_told}
 

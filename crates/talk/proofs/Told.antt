@@ -4,7 +4,6 @@ use Rattle.std.proofs.lemmas.Bool.{true≢false}
 use Rattle.exec.specs.declared.Key.{Key}
 use Rattle.exec.specs.declared.Pool.{Pool}
 use Rattle.std.specs.Prelude.{ℕ}
-use Rattle.calls.specs.Call as Call
 use Rattle.calls.specs.Call.{Call, Answer}
 use Rattle.account.specs.Step.{State}
 use Rattle.account.proofs.Plain.{answer}

@@ -2,7 +2,6 @@
 -- empty, with no launch reported after give-up or abandonment, and these are among all.
 use Rattle.std.specs.Prelude.{cond, ◌≡◌, List, [], ◌∷◌, ◌++◌, ℕ, length, Ok}
 use mathlib.Core.List.{map}
-use Rattle.judge.specs.declared.Item.TheVariants as Item
 use Rattle.judge.specs.declared.Item.{Item}
 use Rattle.judge.specs.Judge.{new_judge, first}
 use Rattle.calls.specs.Call as Call
