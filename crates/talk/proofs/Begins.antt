@@ -1,7 +1,9 @@
 -- Started is told once, and before any Output or End: as long as the launch is awaited or its Started not told, the judge heard none of
 -- them; and every call keeps this.
 use Rattle.std.specs.Prelude.{◌≡◌, refl, Bool, true, false, cond, not, ◌&&◌, ◌||◌, ℕ, Option, Result, Some, None, Ok, Err}
-use Rattle.std.proofs.lemmas.Bool.{true≢false, false≢true, or_left, or_right}
+use Rattle.std.proofs.lemmas.Bool.{true≢false, false≢true, and_left, or_left, or_right}
+use mathlib.Core.Bool.{and-false, or-false}
+use Rattle.std.proofs.Common.{sym, ◌∙◌}
 use Rattle.exec.specs.declared.Admission.TheVariants.{Own}
 use Rattle.exec.specs.declared.Admission.{Admission}
 use Rattle.exec.specs.declared.Cause.{Cause}
@@ -46,14 +48,6 @@ module _ (heard : Bool) where
   abbrev P : Runner → Type 0
   P r = BeginsIn heard r
 
-  and_none : (a b : Bool) → ((a && false) && b) ≡ false
-  and_none true b = refl
-  and_none false b = refl
-
-  and_last : (a : Bool) → (a && false) ≡ false
-  and_last true = refl
-  and_last false = refl
-
   -- ---- the timers
 
   graces : (now : ℕ) (r : Runner) → P r → P (pass_grace r now)
@@ -72,11 +66,11 @@ module _ (heard : Bool) where
   unfolding pass_give_up give_up_unless_clean give_up
   gives now r p =
       either P (due r.clocks.give_up_at now) _ r
-      (either P (is_cleaned_up r) _ (give_up r) p (given (awaits_launch r) _ r.flags.started_message (and_none (not (launch_known r.life.launch)) _) p)) p
+      (either P (is_cleaned_up r) _ (give_up r) p (given (awaits_launch r) _ r.flags.started_message (and_left (not (launch_known r.life.launch) && false) _ (and-false (not (launch_known r.life.launch)))) p)) p
 
   drops : (r : Runner) → P r → P (drop_launch r)
   unfolding drop_launch abandon_launch
-  drops r p = either P (awaits_launch r) (abandon_launch r) r (given (awaits_launch r) _ r.flags.started_message (and_last (not (launch_known r.life.launch) && not r.flags.gave_up)) p) p
+  drops r p = either P (awaits_launch r) (abandon_launch r) r (given (awaits_launch r) _ r.flags.started_message (and-false (not (launch_known r.life.launch) && not r.flags.gave_up)) p) p
 
   abandons : (now : ℕ) (r : Runner) → P r → P (pass_abandonment r now)
   unfolding pass_abandonment drop_streams abandon_open_streams
@@ -105,11 +99,7 @@ module _ (heard : Bool) where
   -- once nothing is told any more
   silent : (r : Runner) → P r → P (silenced r)
   unfolding silenced
-  silent r p = record { known = λ e. absurd (false≢true e); none = λ e. p.none (or_left (awaits_launch r) r.flags.started_message (or_first (awaits_launch r) e)) }
-    where
-      or_first : (b : Bool) → (b || false) ≡ true → b ≡ true
-      or_first true e = refl
-      or_first false e = e
+  silent r p = record { known = λ e. absurd (false≢true e); none = λ e. p.none (or_left (awaits_launch r) r.flags.started_message (sym (or-false (awaits_launch r)) ∙ e)) }
 
   detaches : (now : ℕ) (c : Cause) (r : Runner) → P r → P (detach_next r now c)
   unfolding detach_next cut_off_once cut_off give_up_soon end_grace

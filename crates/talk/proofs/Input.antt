@@ -2,6 +2,7 @@
 -- and an input that is answered Applied is paid for.
 use Rattle.std.specs.Prelude.{◌≡◌, refl, Bool, true, false, cond, not, ◌&&◌, ◌||◌, ℕ, ◌-◌, ◌≤◌, List, Result, Ok, Err}
 use Rattle.std.proofs.lemmas.Bool.{true≢false, false≢true, or_left, or_right, or_parts}
+use Rattle.std.proofs.Math.Bool.{or-false}
 use Rattle.std.proofs.Common.{sym, ap, ◌∙◌, arith}
 use Rattle.exec.specs.declared.Limits.{Limits}
 use Rattle.exec.specs.declared.Receipt.{Receipt}
@@ -17,7 +18,7 @@ use Rattle.account.proofs.Flags.{either}
 -- told, and the units open
 pub record Hears (shut : Bool) (left size : ℕ) (closed message : Bool) (units : ℕ) : Type 0 where
   pub told : message ≡ true → closed ≡ true
-  pub open' : (not closed || message) ≡ true → shut ≡ false
+  pub unheard : (not closed || message) ≡ true → shut ≡ false
   pub same : closed ≡ false → left ≡ units
   pub most : left ≤ size
 
@@ -30,17 +31,13 @@ module _ (shut : Bool) (left size : ℕ) where
     where
       by : (c : Bool) → i.closed ≡ c → HearsIn (cond c i (set_inbox new_inbox (set_input_closed true (set_closed_message (not i.peer_ended && not detached) i))))
       by true e = h
-      by false e = record { told = λ m. refl; open' = λ m. h.open' (rw e refl); same = λ c. absurd (true≢false c); most = h.most }
-
-  or_first : (b : Bool) → (b || false) ≡ true → b ≡ true
-  or_first true e = refl
-  or_first false e = e
+      by false e = record { told = λ m. refl; unheard = λ m. h.unheard (rw e refl); same = λ c. absurd (true≢false c); most = h.most }
 
   -- InputClosed is told no more
   pub tells : (i : Input) → HearsIn i → HearsIn (message_told i)
   tells i h = record {
     told = λ m. absurd (false≢true m);
-    open' = λ m. h.open' (or_left (not i.closed) i.closed_message (or_first (not i.closed) m));
+    unheard = λ m. h.unheard (or_left (not i.closed) i.closed_message (sym (or-false (not i.closed)) ∙ m));
     same = h.same;
     most = h.most;
   }
@@ -52,7 +49,7 @@ module _ (shut : Bool) (left size : ℕ) where
   takes : (i : Input) → HearsIn i → HearsIn (close_when_taken i)
   takes i h = record {
     told = λ m. or_right (is_used_up i) i.closed (h.told m);
-    open' = λ m. h.open' (less_open (is_used_up i) i.closed i.closed_message m);
+    unheard = λ m. h.unheard (less_open (is_used_up i) i.closed i.closed_message m);
     same = λ c. h.same (or_parts (is_used_up i) i.closed c).1;
     most = h.most;
   }
@@ -108,7 +105,7 @@ module _ (shut : Bool) (left size : ℕ) (l : Limits) (n : ℕ) (i : Input) (h :
     paid = λ a. absurd (false≢true a);
     opens = λ a. absurd (false≢true a);
     charged = λ a. absurd (false≢true a);
-    kept = λ a. record { told = h.told; open' = h.open'; same = λ z. absurd (true≢false (sym c ∙ z)); most = h.most };
+    kept = λ a. record { told = h.told; unheard = h.unheard; same = λ z. absurd (true≢false (sym c ∙ z)); most = h.most };
   }
 
   by_answer : (x : Result Receipt Refusal) → receive_answer l i n ≡ x → is_applied x ≡ (not i.closed && is_receipt x)
@@ -119,7 +116,7 @@ module _ (shut : Bool) (left size : ℕ) (l : Limits) (n : ℕ) (i : Input) (h :
       record {
         paid = λ a. (passed l i n (ap is_receipt e)).window;
         opens = λ a. c;
-        charged = λ a. record { told = h.told; open' = h.open'; same = λ z. ap (λ (m : ℕ). m - cost l.input.unit n) (h.same c); most = (let m = h.most in omega arith) };
+        charged = λ a. record { told = h.told; unheard = h.unheard; same = λ z. ap (λ (m : ℕ). m - cost l.input.unit n) (h.same c); most = (let m = h.most in omega arith) };
         kept = λ a. absurd (true≢false a);
       }
   by_answer (Ok Receipt.Stale) e k = late _ (shut_by i.closed k)

@@ -60,7 +60,7 @@ module _ (conf : Conf) (now : ℕ) (bytes lengths : List ℕ) (op : Opens conf n
   opens : Talk (begun conf now bytes lengths).runner (new_judge conf.limits)
   unfolding fresh
   opens = record {
-    rest = (refl, refl, record { told = λ e. absurd (false≢true e); open' = λ e. refl; same = λ e. refl; most = omega arith }, even);
+    rest = (refl, refl, record { told = λ e. absurd (false≢true e); unheard = λ e. refl; same = λ e. refl; most = omega arith }, even);
     begins = record { known = λ e. absurd (false≢true e); none = λ e. refl };
     ended = none;
     muted = subst (λ (s : State). Muted s.runner) (open_same conf now bytes lengths op) (fresh_muted conf now bytes lengths op);

@@ -21,7 +21,7 @@ use Rattle.runner.specs.declared.runner.Runner.{Runner}
 use Rattle.runner.specs.State.{credit_at, put_credit, with_flow, with_input}
 use Rattle.runner.specs.Streams.{credit_in, credit_answer, credit_next, input_answer, input_next}
 use Rattle.calls.specs.Call.{Call}
-use Rattle.account.specs.Step.{State}
+use Rattle.account.specs.Step.{State, received_as}
 use Rattle.account.proofs.Plain.{next, answer}
 use Rattle.judge.specs.declared.Item.{Item}
 use Rattle.judge.specs.declared.Judge.{Judge}
@@ -34,7 +34,7 @@ use Rattle.wire.specs.Messages.{said_in}
 use Rattle.talk.proofs.Input.{receives}
 use Rattle.talk.proofs.Judged.{accepts, put_both}
 use Rattle.talk.proofs.Rest.{Even, Rest}
-use Rattle.talk.proofs.Talk.{Talk, Goes, ended_on, received_items, received_quiet}
+use Rattle.talk.proofs.Talk.{Talk, Goes, ended_on}
 
 -- what the judge's limits, Terminal, input and accounts are behind an item that may have been applied
 abbrev pub Hearing : Bool → Item → Runner → Judge → Type 0
@@ -120,6 +120,19 @@ module _ (n : ℕ) (r : Runner) (j : Judge) (valid : is_valid j.limits ≡ true)
 
 -- ---- the calls
 
+received_quiet : (x : Result Receipt Refusal) → said_in (received_as x) ≡ []
+received_quiet (Ok Receipt.Applied) = refl
+received_quiet _ = refl
+
+-- the judge is told of those that were applied
+credit_items : (k : Key) (p : Pool) (u : ℕ) (x : Result Receipt Refusal) → items_by (Call.credit k p u) (received_as x) ≡ cond (Input.is_applied x) (Item.Granted p u ∷ []) []
+credit_items k p u (Ok Receipt.Applied) = refl
+credit_items k p u _ = refl
+
+input_items : (k : Key) (b : List ℕ) (x : Result Receipt Refusal) → items_by (Call.input k b) (received_as x) ≡ cond (Input.is_applied x) (Item.Input (length b) ∷ []) []
+input_items k b (Ok Receipt.Applied) = refl
+input_items k b _ = refl
+
 -- neither an End nor Started, Output or End is heard with them
 record Still (x : Item) (j : Judge) : Type 0 where
   heard : ((noted j x).started || (noted j x).spoken) ≡ (j.started || j.spoken)
@@ -154,7 +167,7 @@ unfolding next answer
 credit_goes k p u s j v h =
     let r : Runner = s.runner in
     let x = credit_answer (admits r.key k) (output_pool r.limits.shared p) r u in
-    rw (received_items x (Item.Granted p u))
+    rw (credit_items k p u x)
     (goes_by (Input.is_applied x) (Item.Granted p u) (Call.credit k p u) s j (still_granted p u j) refl (received_quiet x)
     (credited u r j v h.rest (admits r.key k) p (output_pool r.limits.shared p) refl) h)
 
@@ -164,6 +177,6 @@ unfolding next answer
 input_goes k b s j v h =
     let r : Runner = s.runner in
     let x = input_answer (admits r.key k) r (length b) in
-    rw (received_items x (Item.Input (length b)))
+    rw (input_items k b x)
     (goes_by (Input.is_applied x) (Item.Input (length b)) (Call.input k b) s j (record { heard = refl; ended = refl }) refl (received_quiet x)
     (brought (length b) r j v h.rest (admits r.key k)) h)

@@ -142,9 +142,9 @@ module _ (r : Runner) (j : Judge) (valid : is_valid j.limits ≡ true) (h : Talk
       let some = ltb-true 0 n takes.1 in
       let size : j.limits.input.size ≡ r.limits.input.size = ap (λ (l : Limits). l.input.size) h.rest.0 in (
         accepts j (Item.Credit n) valid
-            (or_from j.terminal j.input_closed on (h.rest.2.open' (rw opens refl))) refl refl
+            (or_from j.terminal j.input_closed on (h.rest.2.unheard (rw opens refl))) refl refl
             (or_from (eqb n 0) _ (ne_eqb n 0 (omega arith)) (le-ltb j.limits.input.size (j.input_left + n) (omega arith))),
-        (h.rest.0, h.rest.1, record { told = h.rest.2.told; open' = h.rest.2.open'; same = λ e. omega arith; most = omega arith }, h.rest.3),
+        (h.rest.0, h.rest.1, record { told = h.rest.2.told; unheard = h.rest.2.unheard; same = λ e. omega arith; most = omega arith }, h.rest.3),
         h.begins,
       )
 
@@ -164,11 +164,11 @@ module _ (r : Runner) (j : Judge) (valid : is_valid j.limits ≡ true) (h : Talk
   unfolding effect
   says_closed m =
       let c : r.input.closed ≡ true = h.rest.2.told m in (
-        accepts j Item.InputClosed valid (or_from j.terminal j.input_closed on (h.rest.2.open' (or_right (not r.input.closed) r.input.closed_message m))) refl refl refl,
+        accepts j Item.InputClosed valid (or_from j.terminal j.input_closed on (h.rest.2.unheard (or_right (not r.input.closed) r.input.closed_message m))) refl refl refl,
         (
           h.rest.0,
           h.rest.1,
-          record { told = λ e. absurd (false≢true e); open' = λ e. absurd (false≢true (sym (ap (λ (b : Bool). not b || false) c) ∙ e)); same = λ e. absurd (true≢false (sym c ∙ e)); most = h.rest.2.most },
+          record { told = λ e. absurd (false≢true e); unheard = λ e. absurd (false≢true (sym (ap (λ (b : Bool). not b || false) c) ∙ e)); same = λ e. absurd (true≢false (sym c ∙ e)); most = h.rest.2.most },
           h.rest.3,
         ),
         h.begins,
@@ -177,10 +177,6 @@ module _ (r : Runner) (j : Judge) (valid : is_valid j.limits ≡ true) (h : Talk
   says_terminal : Says Item.Terminal (effect Choice.Terminal r)
   unfolding effect
   says_terminal = (accepts j Item.Terminal valid on refl refl refl, (h.rest.0, refl, h.rest.2, h.rest.3), h.begins)
-
-  or_true : (b : Bool) → (b || true) ≡ true
-  or_true true = refl
-  or_true false = refl
 
   says_end : (x : Stream) → awaits_launch r ≡ false → r.flags.started_message ≡ false → has_ended x j ≡ false → Says (Item.End x) (effect (Choice.End x) r)
   unfolding effect

@@ -1,15 +1,10 @@
 -- Judge and runner in step, and what the judge is told of a call: it accepts it, and is in step with the runner that the call leaves.
-use Rattle.std.specs.Prelude.{◌≡◌, refl, false, cond, ◌||◌, List, [], ◌∷◌, ◌++◌, Result, Ok, Err}
+use Rattle.std.specs.Prelude.{◌≡◌, false, ◌||◌, List, [], ◌∷◌, Ok}
 use Rattle.std.proofs.Common.{sym, ap, ◌∙◌}
-use mathlib.Core.List.{map}
-use Rattle.exec.specs.declared.Receipt.{Receipt}
-use Rattle.exec.specs.declared.Refusal.{Refusal}
 use Rattle.exec.specs.Each.{one}
-use Rattle.input.specs.Input as Input
 use Rattle.runner.specs.declared.runner.Runner.{Runner}
 use Rattle.calls.specs.Call.{Call, Message}
-use Rattle.account.specs.InputClaim.{is_applied}
-use Rattle.account.specs.Step.{State, received_as}
+use Rattle.account.specs.Step.{State}
 use Rattle.account.proofs.Plain.{next, answer}
 use Rattle.wire.specs.Messages.{said_in}
 use Rattle.wire.proofs.Ends as Ends
@@ -17,7 +12,7 @@ use Rattle.wire.proofs.Ends.{Muted, Tells, call_tells, unsaid}
 use Rattle.judge.specs.declared.Item.{Item}
 use Rattle.judge.specs.declared.Judge.{Judge}
 use Rattle.judge.specs.Judge.{judged, noted}
-use Rattle.talk.specs.TalkClaim.{item_of, items_by}
+use Rattle.talk.specs.TalkClaim.{items_by}
 use Rattle.talk.proofs.Begins.{BeginsIn, begins_on}
 use Rattle.talk.proofs.Judged.{Ended}
 use Rattle.talk.proofs.Rest.{Rest, rest_on}
@@ -45,17 +40,3 @@ pub untold_goes : (c : Call) (s : State) (j : Judge) → is_told c ≡ false →
 untold_goes c s j e m h =
     let p = ended_on c s j (none_said c s m) h in
     rw (none_told c s e m) (record { rest = rest_on j c s e h.rest; begins = begins_on (j.started || j.spoken) c s m h.begins; ended = p.0; muted = p.1 })
-
--- of credit and input it is told by whether they were applied
-pub received_items : (x : Result Receipt Refusal) (i : Item)
-    → (cond (is_applied (received_as x)) (i ∷ []) [] ++ map item_of (said_in (received_as x))) ≡ cond (Input.is_applied x) (i ∷ []) []
-received_items (Ok Receipt.Applied) i = refl
-received_items (Ok Receipt.Stale) i = refl
-received_items (Ok Receipt.Late) i = refl
-received_items (Err x) i = refl
-
-pub received_quiet : (x : Result Receipt Refusal) → said_in (received_as x) ≡ []
-received_quiet (Ok Receipt.Applied) = refl
-received_quiet (Ok Receipt.Stale) = refl
-received_quiet (Ok Receipt.Late) = refl
-received_quiet (Err x) = refl

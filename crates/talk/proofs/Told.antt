@@ -1,9 +1,8 @@
 -- The calls of which a judge may be told: credit, input and next_message.
-use Rattle.std.specs.Prelude.{◌≡◌, refl, Bool, true, false, List, []}
+use Rattle.std.specs.Prelude.{◌≡◌, refl, Bool, true, false, List, [], ℕ}
 use Rattle.std.proofs.lemmas.Bool.{true≢false}
 use Rattle.exec.specs.declared.Key.{Key}
 use Rattle.exec.specs.declared.Pool.{Pool}
-use Rattle.std.specs.Prelude.{ℕ}
 use Rattle.calls.specs.Call.{Call, Answer}
 use Rattle.account.specs.Step.{State}
 use Rattle.account.proofs.Plain.{answer}
