@@ -18,14 +18,14 @@ use Rattle.account.proofs.Demand.{Fine, fine_next, fine_open, opens_by, open_sam
 use Rattle.account.proofs.Plain.{next, answer, begun, run}
 use Rattle.account.proofs.Range.{lent}
 use Rattle.account.proofs.Records.{same_dones, good_open}
+use Rattle.wire.proofs.Ends.{Muted, ends}
+use Rattle.wire.proofs.Order.{fresh_muted}
 use Rattle.judge.specs.declared.Item.{Item}
 use Rattle.judge.specs.declared.Judge.{Judge}
 use Rattle.judge.specs.Judge.{new_judge, has_ended, judged, noted, first}
 use Rattle.talk.specs.TalkClaim.{items_by, items_of, Ours}
-use Rattle.wire.proofs.Ends.{Muted, ends}
-use Rattle.wire.proofs.Order.{fresh_muted}
-use Rattle.talk.proofs.Rest.{Even, AllEven}
 use Rattle.talk.proofs.Received.{credit_goes, input_goes}
+use Rattle.talk.proofs.Rest.{Even, AllEven}
 use Rattle.talk.proofs.Said.{message_goes}
 use Rattle.talk.proofs.Talk.{Talk, Goes, untold_goes}
 use Rattle.talk.proofs.Told.{Sort, granted, brought, spoken, untold, sort}

@@ -13,6 +13,7 @@ use Rattle.exec.specs.declared.Refusal.{Refusal}
 use Rattle.exec.specs.Key.{admits}
 use Rattle.exec.specs.Limits.{cost, is_valid, output_pool}
 use Rattle.exec.specs.Pair.{at}
+use Rattle.exec.specs.Stream.{index}
 use Rattle.credit.specs.declared.sender.Credit.{Credit}
 use Rattle.credit.specs.Sender.{grantable}
 use Rattle.input.specs.Input as Input
@@ -23,21 +24,20 @@ use Rattle.runner.specs.Streams.{credit_in, credit_answer, credit_next, input_an
 use Rattle.calls.specs.Call.{Call}
 use Rattle.account.specs.Step.{State, received_as}
 use Rattle.account.proofs.Plain.{next, answer}
+use Rattle.wire.specs.Messages.{said_in}
 use Rattle.judge.specs.declared.Item.{Item}
 use Rattle.judge.specs.declared.Judge.{Judge}
 use Rattle.judge.specs.Judge.{left_at, granted_at, judged, noted}
 use Rattle.talk.specs.TalkClaim.{items_by}
 use Rattle.talk.proofs.Begins.{BeginsIn, begins_on}
-use Rattle.talk.proofs.Told.{speaks}
-use Rattle.exec.specs.Stream.{index}
-use Rattle.wire.specs.Messages.{said_in}
 use Rattle.talk.proofs.Input.{receives}
 use Rattle.talk.proofs.Judged.{accepts, put_both}
 use Rattle.talk.proofs.Rest.{Even, Rest}
 use Rattle.talk.proofs.Talk.{Talk, Goes, ended_on}
+use Rattle.talk.proofs.Told.{speaks}
 
 -- what the judge's limits, Terminal, input and accounts are behind an item that may have been applied
-abbrev pub Hearing : Bool → Item → Runner → Judge → Type 0
+abbrev Hearing : Bool → Item → Runner → Judge → Type 0
 Hearing true x t j = (judged j x ≡ Ok tt) × Rest (noted j x) t
 Hearing false x t j = Rest j t
 

@@ -108,6 +108,11 @@ Brought : Runner → List ℕ → Choice → Type 0
 Brought r store (Choice.Output x n) = Brings r x n store
 Brought r store _ = Unit
 
+brought : (m : Choice) (s : State) (buffer : List ℕ) → Fine s → m ≡ choose s.runner (length buffer) → Brought s.runner s.bytes m
+unfolding Brought
+brought (Choice.Output x n) s buffer f e = brings x n s buffer f e
+brought _ s buffer f e = tt
+
 -- what was credited and not brought is within the window
 held : (u : Units.Unit) (l : Limits) (lengths : List ℕ) (i : Input) → HeldIn u l lengths i → i.window.open + i.window.returnable ≤ l.input.size
 held Bytes l lengths i h = omega (arith, h.0)
@@ -153,7 +158,7 @@ module _ (r : Runner) (j : Judge) (valid : is_valid j.limits ≡ true) (h : Talk
   says_started s =
       let none = h.begins.none (or_right (awaits_launch r) r.flags.started_message s) in (
         accepts j Item.Started valid (orders none) refl refl refl,
-        (h.rest.0, h.rest.1, h.rest.2, h.rest.3),
+        h.rest,
         begun true (awaits_launch r) false (h.begins.known s) refl,
       )
     where
@@ -182,7 +187,7 @@ module _ (r : Runner) (j : Judge) (valid : is_valid j.limits ≡ true) (h : Talk
   unfolding effect
   says_end x a s e = (
     accepts j (Item.End x) valid (or_from j.terminal (has_ended x j) on e) refl refl refl,
-    (h.rest.0, h.rest.1, h.rest.2, h.rest.3),
+    h.rest,
     begun (j.started || true) (awaits_launch r) r.flags.started_message a s,
   )
 
@@ -222,11 +227,6 @@ told_by (Choice.End x) r store j w b v f m t h = goes_on r j v h (f refl) (Call.
 told_by (Choice.Output x n) r store j w b v f m t h =
     goes_on r j v h (f refl) (Call.Output x (payload r x n store)) _ t (says_output r j v h (f refl) x n store b w.0 w.1 (unended r j v h (f refl) x (t.silent x)))
 told_by Choice.Terminal r store j w b v f m t h = goes_on r j v h (f refl) (Call.Terminal _) _ t (says_terminal r j v h (f refl))
-
-brought : (m : Choice) (s : State) (buffer : List ℕ) → Fine s → m ≡ choose s.runner (length buffer) → Brought s.runner s.bytes m
-unfolding Brought
-brought (Choice.Output x n) s buffer f e = brings x n s buffer f e
-brought _ s buffer f e = tt
 
 pub message_goes : (buffer : List ℕ) (s : State) (j : Judge) → Fine s → is_valid j.limits ≡ true → Talk s.runner j
     → Goes (items_by (Call.next_message buffer) (answer s (Call.next_message buffer))) (next s (Call.next_message buffer)).runner j

@@ -56,8 +56,8 @@ calls = Call.launched (Ok tt)
     ∷ message
     ∷ []
 
-session : items calls
-    ≡ Item.Granted Pool.Stdout 3
+abbrev heard : List Item
+heard = Item.Granted Pool.Stdout 3
     ∷ Item.Credit 8
     ∷ Item.Started
     ∷ Item.Output Stdout 3
@@ -66,11 +66,13 @@ session : items calls
     ∷ Item.End Stderr
     ∷ Item.Terminal
     ∷ []
+
+session : items calls ≡ heard
 unfolding items
 session = refl
 
--- and behind it: of credit and input that come late it is told nothing
-late : items (calls ++ (Call.credit own Pool.Stdout 9 ∷ Call.input own (97 ∷ []) ∷ message ∷ [])) ≡ items calls
+-- and behind it: of credit and input that come late the judge is told nothing
+late : items (calls ++ (Call.credit own Pool.Stdout 9 ∷ Call.input own (97 ∷ []) ∷ message ∷ [])) ≡ heard
 unfolding items
 late = refl
 
