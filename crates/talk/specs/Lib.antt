@@ -1,0 +1,2 @@
+-- That what our runner says keeps the judge's rules.
+pub mod TalkClaim
