@@ -13,17 +13,18 @@ use Rattle.calls.specs.Call.{Conf, Call}
 use Rattle.account.specs.Claim.{Opens}
 use Rattle.account.specs.Step as Step
 use Rattle.account.specs.Step.{State}
-use Rattle.account.specs.Records.{run_entries, calls_of}
+use Rattle.account.specs.Records.{Entry, run_entries, calls_of}
 use Rattle.account.proofs.Demand.{Fine, fine_next, fine_open, opens_by, open_same, same_run}
 use Rattle.account.proofs.Plain.{next, answer, begun, run}
-use Rattle.account.proofs.Range.{lent}
+use Rattle.account.proofs.Range.{Lent, lent}
 use Rattle.account.proofs.Records.{same_dones, good_open}
 use Rattle.wire.proofs.Ends.{Muted, ends}
 use Rattle.wire.proofs.Order.{fresh_muted}
 use Rattle.judge.specs.declared.Item.{Item}
 use Rattle.judge.specs.declared.Judge.{Judge}
 use Rattle.judge.specs.Judge.{new_judge, has_ended, judged, noted, first}
-use Rattle.talk.specs.TalkClaim.{items_by, items_of, Ours}
+use Rattle.judge.proofs.Exact.{exact}
+use Rattle.talk.specs.TalkClaim.{items_by, items_of, told, Ours}
 use Rattle.talk.proofs.Received.{credit_goes, input_goes}
 use Rattle.talk.proofs.Rest.{Even, AllEven}
 use Rattle.talk.proofs.Said.{message_goes}
@@ -77,8 +78,17 @@ module _ (conf : Conf) (now : ℕ) (bytes lengths : List ℕ) (op : Opens conf n
       none Stdout = refl
       none Stderr = refl
 
-  pub ours : Ours conf now bytes lengths
-  ours es =
+  lent_enough : Lent conf.limits bytes lengths
+  lent_enough = lent conf.limits bytes lengths (opens_by conf now bytes lengths op)
+
+  accepts_all : (es : List Entry) → first (new_judge conf.limits) (told conf now bytes lengths es) ≡ Ok tt
+  accepts_all es =
       let cs : List Call = calls_of conf (run_entries (Step.opened conf now bytes lengths) es) in
       rw (same_dones conf es (Step.opened conf now bytes lengths) (good_open conf now bytes lengths op) ∙ same_run conf now bytes lengths op cs)
-      (list cs (begun conf now bytes lengths) (new_judge conf.limits) (fine_open conf now bytes lengths (lent conf.limits bytes lengths (opens_by conf now bytes lengths op))) opens)
+      (list cs (begun conf now bytes lengths) (new_judge conf.limits) (fine_open conf now bytes lengths lent_enough) opens)
+
+  pub ours : Ours conf now bytes lengths
+  ours = record {
+    accepted = accepts_all;
+    keeps = λ es. (exact conf.limits lent_enough.limits).only (told conf now bytes lengths es) (accepts_all es);
+  }

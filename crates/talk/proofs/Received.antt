@@ -27,7 +27,7 @@ use Rattle.account.proofs.Plain.{next, answer}
 use Rattle.wire.specs.Messages.{said_in}
 use Rattle.judge.specs.declared.Item.{Item}
 use Rattle.judge.specs.declared.Judge.{Judge}
-use Rattle.judge.specs.Judge.{left_at, granted_at, judged, noted}
+use Rattle.judge.specs.Judge.{left_at, judged, noted}
 use Rattle.talk.specs.TalkClaim.{items_by}
 use Rattle.talk.proofs.Begins.{BeginsIn, begins_on}
 use Rattle.talk.proofs.Input.{receives}
@@ -138,13 +138,6 @@ record Still (x : Item) (j : Judge) : Type 0 where
   heard : ((noted j x).started || (noted j x).spoken) ≡ (j.started || j.spoken)
   ended : (noted j x).ended ≡ j.ended
 
-still_granted : (p : Pool) (u : ℕ) (j : Judge) → Still (Item.Granted p u) j
-still_granted p u j = let q = by (output_pool j.limits.shared p) in record { heard = q.0; ended = q.1 }
-  where
-    by : (q : Result ℕ Refusal) → (((granted_at q j u).started || (granted_at q j u).spoken) ≡ (j.started || j.spoken)) × ((granted_at q j u).ended ≡ j.ended)
-    by (Ok i) = (refl, refl)
-    by (Err x) = (refl, refl)
-
 goes_by : (b : Bool) (x : Item) (c : Call) (s : State) (j : Judge) → Still x j → speaks c ≡ false → said_in (answer s c) ≡ [] → Hearing b x (next s c).runner j → Talk s.runner j
     → Goes (cond b (x ∷ []) []) (next s c).runner j
 goes_by true x c s j t m q p h =
@@ -168,7 +161,7 @@ credit_goes k p u s j v h =
     let r : Runner = s.runner in
     let x = credit_answer (admits r.key k) (output_pool r.limits.shared p) r u in
     rw (credit_items k p u x)
-    (goes_by (Input.is_applied x) (Item.Granted p u) (Call.credit k p u) s j (still_granted p u j) refl (received_quiet x)
+    (goes_by (Input.is_applied x) (Item.Granted p u) (Call.credit k p u) s j (record { heard = refl; ended = refl }) refl (received_quiet x)
     (credited u r j v h.rest (admits r.key k) p (output_pool r.limits.shared p) refl) h)
 
 pub input_goes : (k : Key) (b : List ℕ) (s : State) (j : Judge) → is_valid j.limits ≡ true → Talk s.runner j

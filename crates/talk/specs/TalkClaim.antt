@@ -4,6 +4,7 @@ use Rattle.std.specs.Prelude.{cond, ◌≡◌, List, [], ◌∷◌, ◌++◌, �
 use mathlib.Core.List.{map}
 use Rattle.judge.specs.declared.Item.{Item}
 use Rattle.judge.specs.Judge.{new_judge, first}
+use Rattle.judge.specs.Rules.{Keeps}
 use Rattle.calls.specs.Call as Call
 use Rattle.calls.specs.Call.{Conf, Done, Call, Answer, Message}
 use Rattle.account.specs.InputClaim.{is_applied}
@@ -35,8 +36,13 @@ abbrev pub items_of : List Done → List Item
 items_of [] = []
 items_of (d ∷ ds) = items_by d.call d.answer ++ items_of ds
 
--- OURS, for a runner that open answered ok, stores of any content, and every list of calls, records and frames: the judge of its limits
--- refuses no item of it
-abbrev pub Ours : (conf : Conf) (now : ℕ) (bytes lengths : List ℕ) → Type 0
-Ours conf now bytes lengths =
-    (es : List Entry) → first (new_judge conf.limits) (items_of (dones_of conf (run_entries (opened conf now bytes lengths) es))) ≡ Ok tt
+-- what the judge is told of a list from open
+abbrev pub told : Conf → ℕ → (bytes lengths : List ℕ) → List Entry → List Item
+told conf now bytes lengths es = items_of (dones_of conf (run_entries (opened conf now bytes lengths) es))
+
+-- OURS, for a runner that open answered ok, stores of any content, and every list of calls, records and frames
+pub record Ours (conf : Conf) (now : ℕ) (bytes lengths : List ℕ) : Type 0 where
+  -- the judge of its limits refuses no item of it
+  pub accepted : (es : List Entry) → first (new_judge conf.limits) (told conf now bytes lengths es) ≡ Ok tt
+  -- so it keeps 02's rules, sentence by sentence
+  pub keeps : (es : List Entry) → Keeps conf.limits (told conf now bytes lengths es)
