@@ -2,4 +2,5 @@
 pub mod Log
 pub mod LogLaws
 pub mod Listens
+pub mod ByList
 pub mod Table

@@ -108,9 +108,13 @@ abbrev pub refused : (ended : Option Verdict) → Refusal → (place : ℕ) → 
 refused e r n = record { stage = Stage.Skipped; ended = e; said = Some (Verdict.Refused r n) }
 
 -- limits are item 0 of their list: bad ones 30, and 10 where one is 0
+abbrev pub begun_by : (is_valid : Bool) → Limits → (ended : Option Verdict) → Heard
+begun_by true l e = goes_on (Stage.Hearing (new_judge l) 0) e
+begun_by false l e = refused e Refusal.NoLimits 0
+
 unfoldable pub begun : (ended : Option Verdict) → Option Limits → Heard
 begun e None = refused e Refusal.BadLine 0
-begun e (Some l) = cond (is_valid l) (goes_on (Stage.Hearing (new_judge l) 0) e) (refused e Refusal.NoLimits 0)
+begun e (Some l) = begun_by (is_valid l) l e
 
 -- an item is heard by the judge of its list; what it refuses, and a bad line, ends what is heard of the list
 abbrev pub judged_by : Result (Unit {0}) Refusal → Judge → (place : ℕ) → Heard
