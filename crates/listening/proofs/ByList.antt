@@ -1,5 +1,5 @@
 -- A log is its lines; the log of a list is judged as the list; lists make no difference to each other.
-use Rattle.std.specs.Prelude.{Bool, true, false, cond, ◌≡◌, refl, List, [], ◌∷◌, ◌++◌, ℕ, suc, ◌+◌, ◌-◌, ◌^◌, ◌≤◌, ◌<◌, min, eqb, ltb, length, take, map, Option, Result, Some, None, Ok, Err}
+use Rattle.std.specs.Prelude.{Bool, true, false, cond, ◌≡◌, refl, List, [], ◌∷◌, ◌++◌, ℕ, suc, ◌+◌, ◌^◌, ◌≤◌, ◌<◌, eqb, ltb, length, take, map, Option, Result, Some, None, Ok, Err}
 use Rattle.std.proofs.Common.{sym, ap, ◌∙◌, arith, append_assoc, append-nil, length-append, length-take-le, take_all, lt-ltb, le-ltb, ne_eqb}
 use Rattle.std.proofs.lemmas.List.{take-append-le}
 use Rattle.std.proofs.lemmas.Bool.{false≢true}
@@ -9,12 +9,12 @@ use Rattle.exec.specs.declared.Refusal.{Refusal}
 use Rattle.exec.specs.Limits.{is_valid}
 use Rattle.judge.specs.declared.Item.{Item}
 use Rattle.judge.specs.declared.Judge.{Judge}
-use Rattle.judge.specs.Judge.{new_judge, hear, first, first_by}
+use Rattle.judge.specs.Judge.{new_judge, hear, after, first, first_by}
 use Rattle.listening.specs.declared.lines.Line.{Line}
 use Rattle.listening.specs.declared.stage.Stage.{Stage}
 use Rattle.listening.specs.declared.stage.Verdict.{Verdict}
-use Rattle.listening.specs.Log.{Listening, Step, read, more, begun, begun_by, judged_by, accepted, last, heard, verdict_text, said_text, heard_text, start, hold, line_ends, eat, feeds, ended, ends, prints}
-use Rattle.listening.specs.ByList.{cut_from, lines_in, read_line, lines_print, joined, NoEnd, NoEnds, ahead_by, heard_ahead, verdict_by, verdict_of, item_line, ByLine, LinesBack, Judged, Apart}
+use Rattle.listening.specs.Log.{Listening, Step, read, more, begun, begun_by, judged_by, accepted, last, heard, refused_text, verdict_text, said_text, heard_text, hold, line_ends, eat, feeds, ended, ends, prints}
+use Rattle.listening.specs.ByList.{cut_from, read_line, lines_print, joined, NoEnd, ahead_by, heard_ahead, verdict_by, verdict_of, item_line, ByLine, LinesBack, Judged, BadLine, Apart}
 
 -- ---- a log is its lines
 
@@ -110,11 +110,11 @@ lines_back (l ∷ ls) h = line_back [] l (joined ls) h.0 ∙ ap (λ (t : List (L
 
 -- ---- a list
 
--- where a list is skipped, its items say nothing
-skipped : (xs : List Item) → lines_print Stage.Skipped (map item_line xs) ≡ []
+-- where a list is skipped, what stands in it says nothing
+skipped : {A : Type 0} (f : A → Option Item) (xs : List A) → lines_print Stage.Skipped (map (λ x. Line.Says (f x)) xs) ≡ []
 unfolding lines_print
-skipped [] = refl
-skipped (x ∷ xs) = skipped xs
+skipped f [] = refl
+skipped f (x ∷ xs) = skipped f xs
 
 counted : (n : ℕ) → n + 1 < 2 ^ 64 → more n ≡ n + 1
 counted n h = omega arith
@@ -137,7 +137,7 @@ hears j n (x ∷ xs) h = by (hear j x).answer (hears (hear j x).judge (n + 1) xs
         ∙ ap (λ (i : ℕ). verdict_text (verdict_by (first (hear j x).judge xs) (n + length (x ∷ xs)) i)) (omega arith)
     by (Err r) f =
         let m : more n ≡ n + 0 + 1 = omega arith in
-        ap (λ (t : List ℕ). verdict_text (Verdict.Refused r (more n)) ++ t) (skipped xs)
+        ap (λ (t : List ℕ). verdict_text (Verdict.Refused r (more n)) ++ t) (skipped Some xs)
         ∙ append-nil (verdict_text (Verdict.Refused r (more n)))
         ∙ ap (λ (i : ℕ). verdict_text (Verdict.Refused r i)) m
 
@@ -159,6 +159,47 @@ judged log line lines l xs cut read_as valid items few =
     by_line log
     ∙ ap (λ (t : List (List ℕ)). lines_print Stage.Before (map read_line t)) cut
     ∙ rw (read_as, begins l valid, items) (hears_all l xs few)
+
+abbrev is_ok : Result (Unit {0}) Refusal → Bool
+is_ok (Ok u) = true
+is_ok (Err r) = false
+
+-- items that are heard, and lines behind them
+heard_before : (j : Judge) (n : ℕ) (xs : List Item) (tail : List Line) → first j xs ≡ Ok tt → n + length xs < 2 ^ 64
+    → lines_print (Stage.Hearing j n) (map item_line xs ++ tail) ≡ lines_print (Stage.Hearing (after j xs) (n + length xs)) tail
+unfolding lines_print
+heard_before j n [] tail e h = ap (λ (i : ℕ). lines_print (Stage.Hearing j i) tail) (omega arith)
+heard_before j n (x ∷ xs) tail e h =
+    by (hear j x).answer e (λ e. heard_before (hear j x).judge (n + 1) xs tail e (omega arith))
+  where
+    by : (r : Result (Unit {0}) Refusal) → first_by r (first (hear j x).judge xs) ≡ Ok tt
+        → (first (hear j x).judge xs ≡ Ok tt
+        → lines_print (Stage.Hearing (hear j x).judge (n + 1)) (map item_line xs ++ tail)
+        ≡ lines_print (Stage.Hearing (after (hear j x).judge xs) (n + 1 + length xs)) tail)
+        → heard_text (judged_by r (hear j x).judge (more n)) ++ lines_print (judged_by r (hear j x).judge (more n)).stage (map item_line xs ++ tail)
+        ≡ lines_print (Stage.Hearing (after (hear j x).judge xs) (n + length (x ∷ xs))) tail
+    by (Ok u) e f =
+        ap (λ (i : ℕ). lines_print (Stage.Hearing (hear j x).judge i) (map item_line xs ++ tail)) (counted n (omega arith))
+        ∙ f e
+        ∙ ap (λ (i : ℕ). lines_print (Stage.Hearing (after (hear j x).judge xs) i) tail) (omega arith)
+    by (Err r) e f = absurd (false≢true (ap is_ok e))
+
+bad_behind : (l : Limits) (xs : List Item) (rest : List (Option Item)) → first (new_judge l) xs ≡ Ok tt → length xs + 1 < 2 ^ 64
+    → lines_print (Stage.Hearing (new_judge l) 0) (map item_line xs ++ (Line.Says None ∷ map Line.Says rest)) ≡ refused_text Refusal.BadLine (length xs + 1)
+unfolding lines_print
+bad_behind l xs rest e h =
+    let m : more (0 + length xs) ≡ length xs + 1 = omega arith in
+    heard_before (new_judge l) 0 xs (Line.Says None ∷ map Line.Says rest) e (omega arith)
+    ∙ ap (λ (t : List ℕ). refused_text Refusal.BadLine (more (0 + length xs)) ++ t) (skipped (λ x. x) rest)
+    ∙ append-nil (refused_text Refusal.BadLine (more (0 + length xs)))
+    ∙ ap (refused_text Refusal.BadLine) m
+
+pub bad_line : BadLine
+unfolding lines_print
+bad_line log line lines l xs rest cut read_as valid items all few =
+    by_line log
+    ∙ ap (λ (t : List (List ℕ)). lines_print Stage.Before (map read_line t)) cut
+    ∙ rw (read_as, begins l valid, items) (bad_behind l xs rest all few)
 
 -- ---- lists
 

@@ -9,7 +9,7 @@ use Rattle.judge.specs.Judge.{new_judge, hear, first}
 use Rattle.listening.specs.declared.lines.Line.{Line}
 use Rattle.listening.specs.declared.stage.Stage.{Stage}
 use Rattle.listening.specs.declared.stage.Verdict.{Verdict}
-use Rattle.listening.specs.Log.{read, last, heard, verdict_text, said_text, heard_text, prints}
+use Rattle.listening.specs.Log.{read, last, heard, refused_text, verdict_text, said_text, heard_text, prints}
 
 -- ---- the lines of a log
 
@@ -84,6 +84,17 @@ Judged = (log line : List ℕ) (lines : List (List ℕ)) (l : Limits) (xs : List
     → map read_line lines ≡ map item_line xs
     → length xs < 2 ^ 64
     → prints log ≡ verdict_text (verdict_of (new_judge l) xs)
+
+-- A BAD LINE BEHIND ITEMS THAT ARE HEARD is refused by 30 at its place, whatever stands behind it up to other limits
+abbrev pub BadLine : Type 0
+BadLine = (log line : List ℕ) (lines : List (List ℕ)) (l : Limits) (xs : List Item) (rest : List (Option Item))
+    → lines_in log ≡ line ∷ lines
+    → read_line line ≡ Line.Begins (Some l)
+    → is_valid l ≡ true
+    → map read_line lines ≡ map item_line xs ++ (Line.Says None ∷ map Line.Says rest)
+    → first (new_judge l) xs ≡ Ok tt
+    → length xs + 1 < 2 ^ 64
+    → prints log ≡ refused_text Refusal.BadLine (length xs + 1)
 
 -- LISTS MAKE NO DIFFERENCE TO EACH OTHER: where lines stand behind others and begin with limits, each prints what it prints alone
 abbrev pub Apart : Type 0
