@@ -82,10 +82,12 @@ logs : (log "" ≡ bytes "refused,30,0\n")
     × (log "limits,4,B,8,B,8,0\nTerminal\nStdout,0\n" ≡ bytes "refused,45,2\n")
     × (log "limits,0,B,8,B,8,0\nStarted\n" ≡ bytes "refused,10,0\n")
     × (log "limits,4\nStarted\n" ≡ bytes "refused,30,0\n")
+    × (log "limits,4,B,8,B,8,0\nStarted\nlimits" ≡ bytes "accepted,1\nrefused,30,0\n")
+    × (log "limits,4,B,8,B,8,0\nStarted\nlimits,4,B,0,B,8,0" ≡ bytes "accepted,1\nrefused,10,0\n")
     × (log "limits,4,B,8,B,8,0\nStarted\n\nStdout,0" ≡ bytes "refused,30,2\n")
     × (log "Started\nlimits,4,B,8,B,8,0\nStarted\nlimits,4,B,8,B,8,0\nStarted\nStarted\nStarted\nlimits" ≡ bytes "refused,30,0\naccepted,1\nrefused,45,2\nrefused,30,0\n")
 unfolding log
-logs = (refl, refl, refl, refl, refl, refl, refl, refl, refl, refl, refl)
+logs = (refl, refl, refl, refl, refl, refl, refl, refl, refl, refl, refl, refl, refl)
 
 -- a line of 255 bytes, and one of 256; limits of 256 are a bad line of the list that stands
 zeros : ℕ → List ℕ

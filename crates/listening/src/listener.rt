@@ -21,23 +21,23 @@ pub struct Listener {
 
 // ---- what is said, written
 
-fn put_accepted(n: u64, out: &mut Text<'_>)
+fn put_accepted(heard: u64, out: &mut Text<'_>)
     requires { HasRoom 50 out.old }
-    ensures { Adds 50 out.old out.new (accepted_text n) }
+    ensures { Adds 50 out.old out.new (accepted_text heard) }
 {
     out.put(b"accepted,");
-    n.put(out);
+    heard.put(out);
     out.put_byte(b'\n');
 }
 
-fn put_refused(refusal: Refusal, n: u64, out: &mut Text<'_>)
+fn put_refused(refusal: Refusal, place: u64, out: &mut Text<'_>)
     requires { HasRoom 50 out.old }
-    ensures { Adds 50 out.old out.new (refused_text refusal n) }
+    ensures { Adds 50 out.old out.new (refused_text refusal place) }
 {
     out.put(b"refused,");
     refusal.number().put(out);
     out.put_byte(b',');
-    n.put(out);
+    place.put(out);
     out.put_byte(b'\n');
 }
 
