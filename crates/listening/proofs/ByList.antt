@@ -14,7 +14,7 @@ use Rattle.listening.specs.declared.lines.Line.{Line}
 use Rattle.listening.specs.declared.stage.Stage.{Stage}
 use Rattle.listening.specs.declared.stage.Verdict.{Verdict}
 use Rattle.listening.specs.Log.{Listening, Step, read, more, begun, begun_by, judged_by, accepted, last, heard, refused_text, verdict_text, said_text, heard_text, hold, line_ends, eat, feeds, ended, ends, prints}
-use Rattle.listening.specs.ByList.{cut_from, read_line, lines_print, joined, NoEnd, ahead_by, heard_ahead, verdict_by, verdict_of, item_line, ByLine, LinesBack, Judged, BadLine, Apart}
+use Rattle.listening.specs.ByList.{cut_from, read_line, lines_print, joined, NoEnd, ahead_by, heard_ahead, verdict_by, verdict_of, item_line, Parted, FirstRefused, ByLine, LinesBack, Judged, BadLine, Apart}
 
 -- ---- a log is its lines
 
@@ -200,6 +200,38 @@ bad_line log line lines l xs rest cut read_as valid items all few =
     by_line log
     ∙ ap (λ (t : List (List ℕ)). lines_print Stage.Before (map read_line t)) cut
     ∙ rw (read_as, begins l valid, items) (bad_behind l xs rest all few)
+
+-- the first refused item
+parted : (j : Judge) (xs : List Item) (r : Refusal) → first j xs ≡ Err r → Parted j xs r
+unfolding heard_ahead
+parted j [] r e = absurd (false≢true (sym (ap is_ok e)))
+parted j (x ∷ xs) r e = by (hear j x).answer refl e (λ e. parted (hear j x).judge xs r e)
+  where
+    by : (a : Result (Unit {0}) Refusal) → (hear j x).answer ≡ a → first_by a (first (hear j x).judge xs) ≡ Err r
+        → (first (hear j x).judge xs ≡ Err r → Parted (hear j x).judge xs r) → Parted j (x ∷ xs) r
+    by (Ok u) w e f =
+        let p = f e in
+        record {
+          before = x ∷ p.before;
+          item = p.item;
+          behind = p.behind;
+          whole = ap (λ (t : List Item). x ∷ t) p.whole;
+          heard = rw w p.heard;
+          refused = p.refused;
+          place = rw w (ap (λ (k : ℕ). k + 1) p.place ∙ omega arith);
+        }
+    by (Err q) w e f = record {
+      before = [];
+      item = x;
+      behind = xs;
+      whole = refl;
+      heard = refl;
+      refused = w ∙ e;
+      place = rw w refl;
+    }
+
+pub first_refused : FirstRefused
+first_refused = parted
 
 -- ---- lists
 

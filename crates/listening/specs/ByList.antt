@@ -5,7 +5,7 @@ use Rattle.exec.specs.declared.Refusal.{Refusal}
 use Rattle.exec.specs.Limits.{is_valid}
 use Rattle.judge.specs.declared.Item.{Item}
 use Rattle.judge.specs.declared.Judge.{Judge}
-use Rattle.judge.specs.Judge.{new_judge, hear, first}
+use Rattle.judge.specs.Judge.{new_judge, hear, after, first}
 use Rattle.listening.specs.declared.lines.Line.{Line}
 use Rattle.listening.specs.declared.stage.Stage.{Stage}
 use Rattle.listening.specs.declared.stage.Verdict.{Verdict}
@@ -62,6 +62,16 @@ verdict_by (Err r) whole ahead = Verdict.Refused r (ahead + 1)
 abbrev pub verdict_of : Judge → List Item → Verdict
 verdict_of j xs = verdict_by (first j xs) (length xs) (heard_ahead j xs)
 
+-- where an item is refused, the list is parted there: the judge hears the items before it, and refuses it behind them
+pub record Parted (j : Judge) (xs : List Item) (r : Refusal) : Type 0 where
+  pub before : List Item
+  pub item : Item
+  pub behind : List Item
+  pub whole : xs ≡ before ++ (item ∷ behind)
+  pub heard : first j before ≡ Ok tt
+  pub refused : (hear (after j before) item).answer ≡ Err r
+  pub place : heard_ahead j xs ≡ length before
+
 -- a line that reads as an item
 abbrev pub item_line : Item → Line
 item_line x = Line.Says (Some x)
@@ -84,6 +94,10 @@ Judged = (log line : List ℕ) (lines : List (List ℕ)) (l : Limits) (xs : List
     → map read_line lines ≡ map item_line xs
     → length xs < 2 ^ 64
     → prints log ≡ verdict_text (verdict_of (new_judge l) xs)
+
+-- and the place that is said is that of the first refused item
+abbrev pub FirstRefused : Type 0
+FirstRefused = (j : Judge) (xs : List Item) (r : Refusal) → first j xs ≡ Err r → Parted j xs r
 
 -- A BAD LINE BEHIND ITEMS THAT ARE HEARD is refused by 30 at its place, whatever stands behind it up to other limits
 abbrev pub BadLine : Type 0

@@ -20,6 +20,7 @@ pub enum Line {
 
 // ---- limits
 
+// (As crate opening reads it, whose function is its own.)
 fn window(unit: &[u8], size: &[u8]) -> Option<Window>
     ensures { result ≡ window unit.now size.now }
 {

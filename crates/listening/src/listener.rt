@@ -12,11 +12,11 @@ use printing::{Field, Text};
 
 #[derive(Clone, Copy)]
 pub struct Listener {
-    pub stage: Stage,
-    // The line that has not ended: how many bytes of it are held, and whether it has more than that.
-    pub line: [u8; 255],
-    pub held: u8,
-    pub long: bool,
+    stage: Stage,
+    // The line that has not ended: its first bytes, how many of them are held, and whether it has more than have room.
+    line: [u8; 255],
+    held: u8,
+    long: bool,
 }
 
 // ---- what is said, written
@@ -51,7 +51,6 @@ fn put_verdict(verdict: Verdict, out: &mut Text<'_>)
     }
 }
 
-#[tactic(auto, using(crate::specs::Listens::adds_none))]
 fn put_said(said: Option<Verdict>, out: &mut Text<'_>)
     requires { HasRoom 50 out.old }
     ensures { Adds 50 out.old out.new (said_text said) }
@@ -77,6 +76,7 @@ impl Listener {
         }
     }
 
+    // A byte of the line that has not ended.
     #[tactic(auto, unfolding(crate::specs::Log::hold), using(crate::specs::Listens::held_one, crate::specs::Listens::held_most))]
     fn hold(&mut self, byte: u8)
         ensures { listening_of self.new ≡ hold byte (listening_of self.old) }
@@ -101,7 +101,7 @@ impl Listener {
     }
 
     // The line that is held ends.
-    #[tactic(auto, unfolding(crate::specs::Log::line_ends), using(printing::specs::Adding::both))]
+    #[tactic(auto, unfolding(crate::specs::Log::line_ends))]
     fn end_line(&mut self, out: &mut Text<'_>)
         requires { HasRoom 100 out.old }
         ensures heard { listening_of self.new ≡ (line_ends (listening_of self.old)).listening }
@@ -116,7 +116,7 @@ impl Listener {
     }
 
     // One byte more.
-    #[tactic(auto, unfolding(crate::specs::Log::eat), using(printing::specs::Adding::at_most, crate::specs::Listens::adds_none))]
+    #[tactic(auto, unfolding(crate::specs::Log::eat), using(printing::specs::Adding::at_most))]
     fn take(&mut self, byte: u8, out: &mut Text<'_>)
         requires { HasRoom 150 out.old }
         ensures heard { listening_of self.new ≡ (eat (listening_of self.old) byte).listening }
@@ -130,7 +130,7 @@ impl Listener {
     }
 
     // A line that has begun ends where the input does.
-    #[tactic(auto, unfolding(crate::specs::Log::ended), using(crate::specs::Listens::adds_none, crate::specs::Listens::held_most))]
+    #[tactic(auto, unfolding(crate::specs::Log::ended), using(crate::specs::Listens::held_most))]
     fn end_held(&mut self, out: &mut Text<'_>)
         requires { HasRoom 100 out.old }
         ensures heard { listening_of self.new ≡ (ended (listening_of self.old)).listening }
@@ -141,7 +141,7 @@ impl Listener {
         }
     }
 
-    #[tactic(auto, unfolding(crate::specs::Log::ends), using(printing::specs::Adding::both))]
+    // That line, and the end of the list that stands.
     fn finish(&mut self, out: &mut Text<'_>)
         requires { HasRoom 150 out.old }
         ensures { Adds 150 out.old out.new (ends (listening_of self.old)) }
@@ -150,7 +150,8 @@ impl Listener {
         put_said(self.stage.last(), out);
     }
 
-    // Hears one byte. What is said is written at the start of `out`, and its length returned.
+    // Hears one byte. What is said is written at the start of `out`, and its length returned. (150 bytes are more than is said at once:
+    // it is at most two lines of at most 32.)
     pub fn eat(&mut self, byte: u8, out: &mut [u8]) -> usize
         requires { 150 ≤ length out.old }
         ensures heard { listening_of self.new ≡ (eat (listening_of self.old) byte).listening }
