@@ -1,5 +1,5 @@
 -- A log is its lines; the log of a list is judged as the list; lists make no difference to each other.
-use Rattle.std.specs.Prelude.{Bool, true, false, cond, ◌≡◌, refl, List, [], ◌∷◌, ◌++◌, ℕ, suc, ◌+◌, ◌^◌, ◌≤◌, ◌<◌, eqb, ltb, length, take, map, Option, Result, Some, None, Ok, Err}
+use Rattle.std.specs.Prelude.{Bool, true, false, cond, ◌≡◌, refl, List, [], ◌∷◌, ◌++◌, ℕ, suc, ◌+◌, ◌-◌, ◌^◌, ◌≤◌, ◌<◌, eqb, ltb, length, take, map, Option, Result, Some, None, Ok, Err}
 use Rattle.std.proofs.Common.{sym, ap, ◌∙◌, arith, append_assoc, append-nil, length-append, length-take-le, take_all, lt-ltb, le-ltb, ne_eqb}
 use Rattle.std.proofs.lemmas.List.{take-append-le}
 use Rattle.std.proofs.lemmas.Bool.{false≢true}
@@ -13,17 +13,17 @@ use Rattle.judge.specs.Judge.{new_judge, hear, after, first, first_by}
 use Rattle.listening.specs.declared.lines.Line.{Line}
 use Rattle.listening.specs.declared.stage.Stage.{Stage}
 use Rattle.listening.specs.declared.stage.Verdict.{Verdict}
-use Rattle.listening.specs.Log.{Listening, Step, read, more, begun, begun_by, judged_by, accepted, last, heard, refused_text, verdict_text, said_text, heard_text, hold, line_ends, eat, feeds, ended, ends, prints}
+use Rattle.listening.specs.Log.{Listening, Step, line_most, read, more, begun, begun_by, judged_by, accepted, last, heard, refused_text, verdict_text, said_text, heard_text, hold, line_ends, eat, feeds, ended, ends, prints}
 use Rattle.listening.specs.ByList.{cut_from, read_line, lines_print, joined, NoEnd, ahead_by, heard_ahead, verdict_by, verdict_of, item_line, Parted, FirstRefused, ByLine, LinesBack, Judged, BadLine, Apart}
 
 -- ---- a log is its lines
 
 -- a stage, and what is held of a line
 abbrev holding : Stage → (held : List ℕ) → Listening
-holding s held = record { stage = s; held = take 255 held; long = ltb 255 (length held) }
+holding s held = record { stage = s; held = take line_most held; long = ltb line_most (length held) }
 
-short : (held : List ℕ) → length held ≤ 255 → take 255 held ≡ held
-short held h = take_all 255 held h
+short : (held : List ℕ) → length held ≤ line_most → take line_most held ≡ held
+short held h = take_all line_most held h
 
 one_more : (held : List ℕ) (b : ℕ) → length (held ++ (b ∷ [])) ≡ length held + 1
 one_more held b = length-append held (b ∷ [])
@@ -31,24 +31,24 @@ one_more held b = length-append held (b ∷ [])
 hold_one : (s : Stage) (held : List ℕ) (b : ℕ) → hold b (holding s held) ≡ holding s (held ++ (b ∷ []))
 unfolding hold
 hold_one s held b =
-    elim (dec_lt (length held) 255) [
+    elim (dec_lt (length held) line_most) [
       | yes h ↦
           rw
-          (short held (omega arith), lt-ltb (length held) 255 h, le-ltb 255 (length held) (omega arith), one_more held b, le-ltb 255 (length held + 1) (omega arith), short (held ++ (b ∷ [])) (omega (arith, one_more held b)))
+          (short held (omega arith), lt-ltb (length held) line_most h, le-ltb line_most (length held) (omega arith), one_more held b, le-ltb line_most (length held + 1) (omega arith), short (held ++ (b ∷ [])) (omega (arith, one_more held b)))
           refl
       | no h ↦
-          let l : length (take 255 held) ≡ 255 = length-take-le 255 held (omega arith) in
+          let l : length (take line_most held) ≡ line_most = length-take-le line_most held (omega arith) in
           rw
-          (take-append-le 255 held (b ∷ []) (omega arith), one_more held b, lt-ltb 255 (length held + 1) (omega arith), le-ltb (length (take 255 held)) 255 (omega arith))
+          (take-append-le line_most held (b ∷ []) (omega arith), one_more held b, lt-ltb line_most (length held + 1) (omega arith), le-ltb (length (take line_most held)) line_most (omega arith))
           refl
     ]
 
-read_held : (held : List ℕ) → read (ltb 255 (length held)) (take 255 held) ≡ read_line held
+read_held : (held : List ℕ) → read (ltb line_most (length held)) (take line_most held) ≡ read_line held
 unfolding read
 read_held held =
-    elim (dec_lt 255 (length held)) [
-      | yes h ↦ rw (lt-ltb 255 (length held) h) refl
-      | no h ↦ ap (read (ltb 255 (length held))) (short held (omega arith))
+    elim (dec_lt line_most (length held)) [
+      | yes h ↦ rw (lt-ltb line_most (length held) h) refl
+      | no h ↦ ap (read (ltb line_most (length held))) (short held (omega arith))
     ]
 
 -- the line that is held ends
@@ -69,7 +69,7 @@ unfolding feeds ends ended cut_from lines_print
 feeds_none s [] = refl
 feeds_none s (b ∷ held) =
     rw
-    (begun_line (length (take 254 held)), begun_line (length held))
+    (begun_line (length (take (line_most - 1) held)), begun_line (length held))
     (ap (λ (x : Step). x.printed ++ said_text (last x.listening.stage)) (ends_held s (b ∷ held)))
 
 feeds_more : (b : ℕ) (log : List ℕ) → Feeds log → Feeds (b ∷ log)

@@ -9,7 +9,7 @@ use Rattle.judge.specs.Judge.{new_judge, hear, after, first}
 use Rattle.listening.specs.declared.lines.Line.{Line}
 use Rattle.listening.specs.declared.stage.Stage.{Stage}
 use Rattle.listening.specs.declared.stage.Verdict.{Verdict}
-use Rattle.listening.specs.Log.{read, last, heard, refused_text, verdict_text, said_text, heard_text, prints}
+use Rattle.listening.specs.Log.{line_most, read, last, heard, refused_text, verdict_text, said_text, heard_text, prints}
 
 -- ---- the lines of a log
 
@@ -21,9 +21,9 @@ cut_from held (b ∷ log) = cond (eqb b 10) (held ∷ cut_from [] log) (cut_from
 abbrev pub lines_in : (log : List ℕ) → List (List ℕ)
 lines_in log = cut_from [] log
 
--- a line of more than 255 bytes is a bad item
+-- a line, which is a bad item where it is too long
 abbrev pub read_line : (line : List ℕ) → Line
-read_line line = read (ltb 255 (length line)) line
+read_line line = read (ltb line_most (length line)) line
 
 -- what lines print, one after the other, and behind them the end
 unfoldable pub lines_print : Stage → List Line → List ℕ

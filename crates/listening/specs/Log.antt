@@ -89,7 +89,10 @@ unfoldable pub line_of : (fields : List (List ℕ)) → Line
 line_of [] = Line.Says None
 line_of (name ∷ rest) = cond (is_limits name) (Line.Begins (limits_of rest)) (Line.Says (item_of name rest))
 
--- a line has at most 255 bytes; a longer one is a bad item, whatever it begins with
+-- the most bytes of a line; a longer one is a bad item, whatever it begins with
+abbrev pub line_most : ℕ
+line_most = 255
+
 unfoldable pub read : (long : Bool) (held : List ℕ) → Line
 read long held = cond long (Line.Says None) (line_of (fields held))
 
@@ -170,8 +173,8 @@ heard_text h = said_text h.ended ++ said_text h.said
 
 pub record Listening : Type 0 where
   pub stage : Stage
-  pub held : List ℕ  -- of the line that has not ended, its first 255 bytes
-  pub long : Bool  -- whether it has more
+  pub held : List ℕ  -- of the line that has not ended, the first bytes
+  pub long : Bool  -- whether it has more than are held
 
 abbrev pub start : Listening
 start = record { stage = Stage.Before; held = []; long = false }
@@ -186,7 +189,7 @@ quiet s = record { listening = s; printed = [] }
 
 unfoldable pub hold : ℕ → Listening → Listening
 hold b s =
-    cond (ltb (length s.held) 255)
+    cond (ltb (length s.held) line_most)
     (record { stage = s.stage; held = s.held ++ (b ∷ []); long = s.long })
     (record { stage = s.stage; held = s.held; long = true })
 
