@@ -1,0 +1,2 @@
+-- A log line by line, and list by list.
+pub mod ByList
