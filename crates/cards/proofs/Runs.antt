@@ -23,7 +23,8 @@ use Rattle.syntax.specs.Lines.{zeros}
 use Rattle.opening.specs.Open.{Opening}
 use Rattle.grammar.specs.Calls.{made_of}
 use Rattle.grammar.specs.Feed.{First, Running, Over, Answered, answer_of, prints}
-use Rattle.grammar.specs.ByLine.{Line, lines_in, lines_from}
+use Rattle.textlines.specs.Lines.{lines_in}
+use Rattle.grammar.specs.ByLine.{Line, lines_from}
 use Rattle.grammar.proofs.ByLine.{by_line}
 use Rattle.grammar.proofs.Opened.{opened_so, first_line, first_either}
 use Rattle.grammar.proofs.Refused.{refused_lines}

@@ -31,7 +31,8 @@ use Rattle.syntax.specs.Words.{bytes}
 use Rattle.syntax.specs.Lines.{line_call, zeros}
 use Rattle.opening.specs.Open.{Opening, line_open, timeout, open_of, is_open, opening_of, limits_of, timers_of}
 use Rattle.grammar.specs.Feed.{First, Running, Answered, prints, is_short, answer_of}
-use Rattle.grammar.specs.ByLine.{lines_in, answers_from, text_from}
+use Rattle.textlines.specs.Lines.{lines_in}
+use Rattle.grammar.specs.ByLine.{answers_from, text_from}
 use Rattle.grammar.proofs.ByLine.{by_line}
 use Rattle.grammar.proofs.Later.{later_line}
 use Rattle.grammar.proofs.LeftOpen.{every_card, timed, opens}

@@ -2,7 +2,7 @@
 use Rattle.std.specs.Prelude.{◌≡◌, List, [], ◌∷◌, ◌++◌, ℕ, take}
 use Rattle.card.specs.declared.feed.Card.{Card}
 use Rattle.card.specs.declared.feed.Eaten.{Eaten}
-use Rattle.grammar.specs.ByLine.{lines_in}
+use Rattle.textlines.specs.Lines.{lines_in}
 use Rattle.card.specs.Holding.{Lent}
 use Rattle.card.specs.Turning.{new_card, Finishes}
 use Rattle.cards.specs.Host.{EatCall, lending, AllEat, card_after, lent_after, eaten_by, printed_by, Room}

@@ -18,7 +18,8 @@ use Rattle.syntax.specs.Lines.{zeros}
 use Rattle.opening.specs.Open.{Opening, line_open}
 use Rattle.grammar.specs.Feed.{First, Running, answer_of, start, feeds, ended}
 use Rattle.grammar.specs.Calls.{made_of}
-use Rattle.grammar.specs.ByLine.{Line, lines_in, call_said, lines_from, answers_of, text_from}
+use Rattle.textlines.specs.Lines.{lines_in}
+use Rattle.grammar.specs.ByLine.{Line, call_said, lines_from, answers_of, text_from}
 
 -- ---- lines
 

@@ -8,7 +8,8 @@ use borrow.Author.Tests.{ne_eqb}
 use mathlib.Core.Path.{subst}
 use Rattle.syntax.specs.Answers.{line_text}
 use Rattle.grammar.specs.Feed.{Stage, First, Session, Step, Answered, answer_of, line_ends, hold, eat, feeds, ended, ends, prints}
-use Rattle.grammar.specs.ByLine.{start_with, lines_in, stage_after, answers_from, text_from, ByLine}
+use Rattle.textlines.specs.Lines.{start_with, lines_in}
+use Rattle.grammar.specs.ByLine.{stage_after, answers_from, text_from, ByLine}
 
 -- ---- a line
 

@@ -35,7 +35,8 @@ use Rattle.opening.specs.Timeout.{number_else, number_itself, line_bad, line_ope
 use Rattle.opening.specs.Only.{line_says}
 use Rattle.grammar.specs.Feed.{First, Running, Over, Answered, bad, prints, is_short, answer_of, answered, first, later, too_long}
 use Rattle.grammar.specs.LeftOpen.{asked, Starts, EveryCard}
-use Rattle.grammar.specs.ByLine.{lines_in, answers_from, text_from}
+use Rattle.textlines.specs.Lines.{lines_in}
+use Rattle.grammar.specs.ByLine.{answers_from, text_from}
 use Rattle.grammar.proofs.ByLine.{by_line}
 use Rattle.grammar.proofs.Opened.{Opened, opened_so, first_line}
 

@@ -1,7 +1,6 @@
 -- The proofs of what is claimed of cards, of any bytes and line by line.
 pub mod Called
 pub mod Refused
-pub mod Cut
 pub mod Calls
 pub mod ByLine
 pub mod Later

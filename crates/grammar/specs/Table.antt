@@ -10,7 +10,8 @@ use Rattle.syntax.specs.Lines.{line_call}
 use Rattle.opening.specs.Open.{open_of, is_open}
 use Rattle.account.specs.Step.{State, next, answer}
 use Rattle.grammar.specs.Feed.{Stage, First, Running, Over, bad, first, later, answered, too_long, is_short, answer_of}
-use Rattle.grammar.specs.ByLine.{lines_in, call_said, text_from}
+use Rattle.textlines.specs.Lines.{lines_in}
+use Rattle.grammar.specs.ByLine.{call_said, text_from}
 
 -- 0a alone ends a line; a last line needs none, and behind a last 0a there is none
 texts : (lines_in [] ≡ [])

@@ -7,6 +7,7 @@ use Rattle.std.proofs.Math.Decide.{dec_lt}
 use Rattle.exec.specs.declared.Limits.{Limits}
 use Rattle.exec.specs.declared.Refusal.{Refusal}
 use Rattle.exec.specs.Limits.{is_valid}
+use Rattle.textlines.specs.Lines.{start_with, lines_in}
 use Rattle.judge.specs.declared.Item.{Item}
 use Rattle.judge.specs.declared.Judge.{Judge}
 use Rattle.judge.specs.Judge.{new_judge, hear, after, first, first_by}
@@ -14,9 +15,43 @@ use Rattle.listening.specs.declared.lines.Line.{Line}
 use Rattle.listening.specs.declared.stage.Stage.{Stage}
 use Rattle.listening.specs.declared.stage.Verdict.{Verdict}
 use Rattle.listening.specs.Log.{Listening, Step, line_most, read, more, begun, begun_by, judged_by, accepted, last, heard, refused_text, verdict_text, said_text, heard_text, hold, line_ends, eat, feeds, ended, ends, prints}
-use Rattle.listening.specs.ByList.{cut_from, read_line, lines_print, joined, NoEnd, ahead_by, heard_ahead, verdict_by, verdict_of, item_line, Parted, FirstRefused, ByLine, LinesBack, Judged, BadLine, Apart}
+use Rattle.listening.specs.ByList.{read_line, lines_print, ahead_by, heard_ahead, verdict_by, verdict_of, item_line, Parted, FirstRefused, ByLine, Judged, BadLine, Apart}
 
 -- ---- a log is its lines
+
+begun_line : (n : ℕ) → eqb (suc n) 0 ≡ false
+begun_line n = ne_eqb (suc n) 0 (omega arith)
+
+-- the lines of a text with what is held of the first in front
+cut_from : (held log : List ℕ) → List (List ℕ)
+cut_from held [] = cond (eqb (length held) 0) [] (held ∷ [])
+cut_from held (b ∷ log) = cond (eqb b 10) (held ∷ cut_from [] log) (cut_from (held ++ (b ∷ [])) log)
+
+put_first : (held : List ℕ) → List (List ℕ) → List (List ℕ)
+put_first [] ls = ls
+put_first (h ∷ held) [] = (h ∷ held) ∷ []
+put_first (h ∷ held) (l ∷ ls) = ((h ∷ held) ++ l) ∷ ls
+
+cut_is : (held log : List ℕ) → cut_from held log ≡ put_first held (lines_in log)
+unfolding lines_in cut_from put_first
+cut_is [] [] = refl
+cut_is (h ∷ held) [] = rw (begun_line (length held)) refl
+cut_is held (b ∷ log) = by (eqb b 10) held (lines_in log) (cut_is [] log) (cut_is (held ++ (b ∷ [])) log)
+  where
+    more : (held : List ℕ) (ls : List (List ℕ)) → put_first (held ++ (b ∷ [])) ls ≡ put_first held (start_with b ls)
+    more [] [] = refl
+    more [] (l ∷ ls) = refl
+    more (h ∷ held) [] = refl
+    more (h ∷ held) (l ∷ ls) = ap (λ (t : List ℕ). (h ∷ t) ∷ ls) (append_assoc held (b ∷ []) l)
+
+    ended : (held : List ℕ) (ls : List (List ℕ)) → held ∷ ls ≡ put_first held ([] ∷ ls)
+    ended [] ls = refl
+    ended (h ∷ held) ls = ap (λ (t : List ℕ). (h ∷ t) ∷ ls) (sym (append-nil held))
+
+    by : (e : Bool) (held : List ℕ) (ls : List (List ℕ)) → cut_from [] log ≡ ls → cut_from (held ++ (b ∷ [])) log ≡ put_first (held ++ (b ∷ [])) ls
+        → cond e (held ∷ cut_from [] log) (cut_from (held ++ (b ∷ [])) log) ≡ put_first held (cond e ([] ∷ ls) (start_with b ls))
+    by true held ls p q = ap (λ (t : List (List ℕ)). held ∷ t) p ∙ ended held ls
+    by false held ls p q = q ∙ more held ls
 
 -- a stage, and what is held of a line
 abbrev holding : Stage → (held : List ℕ) → Listening
@@ -57,9 +92,6 @@ ends_held : (s : Stage) (held : List ℕ)
 unfolding line_ends
 ends_held s held = ap (λ (x : Line). record { listening = holding (heard s x).stage []; printed = heard_text (heard s x) }) (read_held held)
 
-begun_line : (n : ℕ) → eqb (suc n) 0 ≡ false
-begun_line n = ne_eqb (suc n) 0 (omega arith)
-
 abbrev Feeds : List ℕ → Type 0
 Feeds log = (s : Stage) (held : List ℕ)
     → (feeds (holding s held) log).printed ++ ends (feeds (holding s held) log).listening ≡ lines_print s (map read_line (cut_from held log))
@@ -92,21 +124,8 @@ all_feeds [] = feeds_none
 all_feeds (b ∷ log) = feeds_more b log (all_feeds log)
 
 pub by_line : ByLine
-unfolding prints
-by_line log = all_feeds log Stage.Before []
-
--- ---- the lines of a text of lines
-
-line_back : (held line : List ℕ) (log : List ℕ) → NoEnd line → cut_from held (line ++ (10 ∷ log)) ≡ (held ++ line) ∷ cut_from [] log
-unfolding cut_from
-line_back held [] log h = rw (append-nil held) refl
-line_back held (b ∷ line) log h =
-    rw h.0 (line_back (held ++ (b ∷ [])) line log h.1 ∙ ap (λ (t : List ℕ). t ∷ cut_from [] log) (append_assoc held (b ∷ []) line))
-
-pub lines_back : LinesBack
-unfolding cut_from
-lines_back [] h = refl
-lines_back (l ∷ ls) h = line_back [] l (joined ls) h.0 ∙ ap (λ (t : List (List ℕ)). l ∷ t) (lines_back ls h.1)
+unfolding prints put_first
+by_line log = all_feeds log Stage.Before [] ∙ ap (λ (ls : List (List ℕ)). lines_print Stage.Before (map read_line ls)) (cut_is [] log)
 
 -- ---- a list
 

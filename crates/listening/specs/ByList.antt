@@ -1,8 +1,9 @@
 -- A log list by list: its lines, what they print, and what is said of a list of items; with the claims, which proofs/ByList proves.
-use Rattle.std.specs.Prelude.{true, false, cond, ◌≡◌, List, [], ◌∷◌, ◌++◌, ℕ, ◌+◌, ◌^◌, ◌<◌, eqb, ltb, length, map, Option, Result, Some, None, Ok, Err}
+use Rattle.std.specs.Prelude.{true, ◌≡◌, List, [], ◌∷◌, ◌++◌, ℕ, ◌+◌, ◌^◌, ◌<◌, ltb, length, map, Option, Result, Some, None, Ok, Err}
 use Rattle.exec.specs.declared.Limits.{Limits}
 use Rattle.exec.specs.declared.Refusal.{Refusal}
 use Rattle.exec.specs.Limits.{is_valid}
+use Rattle.textlines.specs.Lines.{lines_in}
 use Rattle.judge.specs.declared.Item.{Item}
 use Rattle.judge.specs.declared.Judge.{Judge}
 use Rattle.judge.specs.Judge.{new_judge, hear, after, first}
@@ -13,14 +14,6 @@ use Rattle.listening.specs.Log.{line_most, read, last, heard, refused_text, verd
 
 -- ---- the lines of a log
 
--- with what is held of the first: 0a ends a line, and so does the end where one has begun
-unfoldable pub cut_from : (held log : List ℕ) → List (List ℕ)
-cut_from held [] = cond (eqb (length held) 0) [] (held ∷ [])
-cut_from held (b ∷ log) = cond (eqb b 10) (held ∷ cut_from [] log) (cut_from (held ++ (b ∷ [])) log)
-
-abbrev pub lines_in : (log : List ℕ) → List (List ℕ)
-lines_in log = cut_from [] log
-
 -- a line, which is a bad item where it is too long
 abbrev pub read_line : (line : List ℕ) → Line
 read_line line = read (ltb line_most (length line)) line
@@ -29,19 +22,6 @@ read_line line = read (ltb line_most (length line)) line
 unfoldable pub lines_print : Stage → List Line → List ℕ
 lines_print s [] = said_text (last s)
 lines_print s (x ∷ xs) = heard_text (heard s x) ++ lines_print (heard s x).stage xs
-
--- the text of lines, each with its 0a, where none has one of its own
-abbrev pub joined : (lines : List (List ℕ)) → List ℕ
-joined [] = []
-joined (l ∷ ls) = l ++ (10 ∷ joined ls)
-
-abbrev pub NoEnd : (line : List ℕ) → Type 0
-NoEnd [] = Unit
-NoEnd (b ∷ line) = (eqb b 10 ≡ false) × NoEnd line
-
-abbrev pub NoEnds : (lines : List (List ℕ)) → Type 0
-NoEnds [] = Unit
-NoEnds (l ∷ ls) = NoEnd l × NoEnds ls
 
 -- ---- a list of items
 
@@ -81,9 +61,6 @@ item_line x = Line.Says (Some x)
 -- A LOG IS ITS LINES
 abbrev pub ByLine : Type 0
 ByLine = (log : List ℕ) → prints log ≡ lines_print Stage.Before (map read_line (lines_in log))
-
-abbrev pub LinesBack : Type 0
-LinesBack = (lines : List (List ℕ)) → NoEnds lines → lines_in (joined lines) ≡ lines
 
 -- THE LOG OF A LIST IS JUDGED AS THE LIST: where its first line reads as valid limits and the others as items
 abbrev pub Judged : Type 0

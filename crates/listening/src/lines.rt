@@ -7,6 +7,7 @@ ghost use Rattle.listening.specs.Log.{limits_by, limits_of, plain_items, granted
 
 use exec::{Limits, Stream, Window};
 use judge::Item;
+use opening::window;
 use reading::lines::cut;
 use reading::words::named;
 use reading::{fields, words};
@@ -19,15 +20,6 @@ pub enum Line {
 }
 
 // ---- limits
-
-// (As crate opening reads it, whose function is its own.)
-fn window(unit: &[u8], size: &[u8]) -> Option<Window>
-    ensures { result ≡ window unit.now size.now }
-{
-    let unit = words::unit(unit)?;
-    let size = fields::narrow(size)?;
-    Some(Window { unit, size })
-}
 
 fn limits_by(
     chunk: &[u8],

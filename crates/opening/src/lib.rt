@@ -59,7 +59,7 @@ fn is_open(line: &[u8]) -> bool
     (count(line) == 13) & (field(line, 0) == b"open".as_slice())
 }
 
-fn window(unit: &[u8], size: &[u8]) -> Option<Window>
+pub fn window(unit: &[u8], size: &[u8]) -> Option<Window>
     ensures { result ≡ window unit.now size.now }
 {
     let unit = words::unit(unit)?;

@@ -5,7 +5,7 @@ use mathlib.Core.List.{List, [], ◌∷◌}
 use Prim.Native.Nat.{ℕ}
 use lib.Dec.{eqb}
 use Rattle.std.proofs.Common.{eqb-true}
-use Rattle.grammar.specs.ByLine.{start_with, lines_in, joined, closed, NoEnds, Cut}
+use Rattle.textlines.specs.Lines.{start_with, lines_in, joined, closed, NoEnds, Cut}
 
 -- a byte before a line that has begun
 more_joined : (b c : ℕ) (text : List ℕ) → joined (start_with b (lines_in (c ∷ text))) ≡ b ∷ joined (lines_in (c ∷ text))

@@ -1,0 +1,2 @@
+-- That the lines of a text are the text.
+pub mod Cut

@@ -1,0 +1,2 @@
+-- The lines of a text.
+pub mod Lines
