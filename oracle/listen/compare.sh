@@ -29,7 +29,7 @@ hold() {
     first=$(awk -F '\t' '$0 != $1 FS $1 { print NR; exit }' $out/both)
     [ -n "$first" ] || return 0
     wrong=1
-    awk -F , -v list="$first" '$1 == "limits" { at++ } at == list' "$out/$1.log"
+    LC_ALL=C awk -F , -v list="$first" '$1 == "limits" { at++ } at == list' "$out/$1.log"
     awk -F '\t' -v list="$first" 'NR == list { print "judge.py: " $1; print "program: " $2 }' $out/both
 }
 

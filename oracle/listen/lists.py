@@ -84,7 +84,8 @@ class Model:
         r, stream = self.r, self.r.choice(STREAMS)
         if fault == "order":
             broken = [(kind,) for kind in ("Started", "InputClosed", "Terminal") if not self.keeping(kind)]
-            broken += [message for stream in self.ended for message in (("End", stream), (stream, between(r, 0, self.chunk)))]
+            over = [stream for stream in STREAMS if stream in self.ended]
+            broken += [message for stream in over for message in (("End", stream), (stream, between(r, 0, self.chunk)))]
             broken += [("Credit", between(r, 0, 9))] if self.said & {"InputClosed", "Terminal"} else []
             broken += [("End", stream), (stream, between(r, 0, self.chunk))] if "Terminal" in self.said else []
             return r.choice(broken) if broken else None
