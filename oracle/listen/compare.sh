@@ -1,8 +1,8 @@
 #!/bin/sh
-# Holds a program that judges logs to judge.py: on cases.txt, COUNT random lists from SEED on, all short lists, and what the recorded
-# session cards come to; with NVX_SRC, also what 20,000 random cards from SEED on come to, as the Rust answers them. Prints how many
-# lists there are of each verdict and how many the program answers otherwise, the first of these whole. Stops with 1 if there is one,
-# if judge.py misses a case, or if it refuses what a card comes to.
+# Holds a program that judges logs to judge.py: on cases.txt, the examples, what the gate runs, COUNT random lists from SEED on, all short
+# lists, and what the recorded session cards come to; with NVX_SRC, also what 20,000 random cards from SEED on come to, as the Rust
+# answers them. Prints how many lists there are of each verdict and how many the program answers otherwise, the first of these whole.
+# Stops with 1 if there is one, if judge.py misses what is recorded, or if it refuses what a card comes to.
 #     [NVX_SRC=FOLDER] oracle/listen/compare.sh PROGRAM SEED COUNT
 set -e
 program="$1" seed="$2" count="$3"
@@ -42,6 +42,14 @@ hold_accepted() {
 awk '!/^#/ { for (i = 1; $i != "=>"; i++) print $i }' cases.txt >$out/cases.log
 hold cases
 awk '!/^#/ { print $NF }' cases.txt | diff - $out/judge || wrong=1
+
+cat ../../examples/*.log >$out/examples.log
+hold examples
+cat ../../examples/*.verdict | diff - $out/judge || wrong=1
+
+cp ../../crates/listen/stdin $out/gate.log
+hold gate
+diff ../../crates/listen/stdout $out/judge || wrong=1
 
 ./lists.py "$seed" "$count" >$out/random.log
 hold random

@@ -164,9 +164,17 @@ def refusal(limits, items):
 
 # The lines of a log.
 
+LONGEST = 255
+
 
 class BadLine(Exception):
     pass
+
+
+def fields(line):
+    if len(line) > LONGEST:
+        raise BadLine
+    return line.split(b",")
 
 
 # Digits alone, with any zeros in front, of at most so many bits.
@@ -188,7 +196,7 @@ def window(unit, size):
 
 
 def limits_of(line):
-    match line.split(b","):
+    match fields(line):
         case [b"limits", chunk, unit_in, size_in, unit_out, size_out, shared]:
             into, out = window(unit_in, size_in), window(unit_out, size_out)
             return Limits(number(chunk, 32), into, out, one_of((b"0", b"1"), shared) == b"1")
@@ -196,7 +204,7 @@ def limits_of(line):
 
 
 def item_of(line):
-    match line.split(b","):
+    match fields(line):
         case [b"credit", pool, units]:
             return Granted(one_of(POOLS, pool), number(units, 32))
         case [b"input", length]:
@@ -233,12 +241,17 @@ def verdict(lines):
     return "accepted,%d" % len(items)
 
 
+# Whether a line begins a list: one that is too long does not.
+def begins(line):
+    return line.split(b",")[0] == b"limits" and len(line) <= LONGEST
+
+
 # The lists of a log. Each begins with a line `limits`, the first with whatever line is first.
 def lists(log):
     lines = []
     for line in log:
         line = line.removesuffix(b"\n")
-        if lines and line.split(b",")[0] == b"limits":
+        if lines and begins(line):
             yield lines
             lines = []
         lines.append(line)
@@ -246,9 +259,10 @@ def lists(log):
         yield lines
 
 
+# (A log with no line at all is refused, as a list without limits.)
 def main():
-    for lines in lists(sys.stdin.buffer):
-        print(verdict(lines))
+    for line in [verdict(lines) for lines in lists(sys.stdin.buffer)] or ["refused,30,0"]:
+        print(line)
 
 
 if __name__ == "__main__":
