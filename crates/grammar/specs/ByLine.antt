@@ -1,9 +1,10 @@
 -- A card line by line: its lines, the calls that they make of the runner, and their answers, each where the one before it left the
 -- session.
-use Rattle.std.specs.Prelude.{false, cond, ◌≡◌, List, [], ◌∷◌, ◌++◌, ℕ, ◌+◌, eqb, Option, Some, None}
+use Rattle.std.specs.Prelude.{cond, ◌≡◌, List, [], ◌∷◌, ◌++◌, ℕ, ◌+◌, Option, Some, None}
 use Rattle.calls.specs.Call as Call
 use Rattle.calls.specs.Call.{Call, Answer}
 use Rattle.account.specs.Step.{State, next, answer}
+use Rattle.textlines.specs.Lines.{lines_in}
 use Rattle.syntax.specs.Lines.{line_call}
 use Rattle.syntax.specs.Answers.{line_text}
 use Rattle.grammar.specs.Feed.{Stage, First, Running, Over, start, is_short, answer_of, feeds, ended, prints}
