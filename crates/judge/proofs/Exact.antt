@@ -8,13 +8,13 @@ use Rattle.judge.specs.declared.Item.{Item}
 use Rattle.judge.specs.declared.Judge.{Judge}
 use Rattle.judge.specs.Judge.{Hearing, new_judge, judged, noted, hear, hear_by, after, first, first_by}
 use Rattle.judge.specs.Rules.{Keeps, breaks_order, breaks_length, breaks_cost, breaks_window, breach}
-use Rattle.judge.specs.Exact.{Exact, Careful}
+use Rattle.judge.specs.Exact.{TheJudge, AnyJudge}
 use Rattle.judge.proofs.Heard.{Heard, none_heard, same, same_cost, passed, more}
 use Rattle.judge.proofs.Keeps.{AtEach, keeps, passes}
 
 -- ---- any judge
 
-pub careful : (j : Judge) (x : Item) → Careful j x
+pub careful : AnyJudge
 unfolding judged
 careful j x = record {
   limits = λ e. rw e refl;
@@ -102,7 +102,7 @@ first_append (x ∷ xs) ys j = by (judged j x) (first_append xs ys (hear j x).ju
 
 -- ---- THE JUDGE IS THE RULES
 
-pub exact : (l : Limits) → is_valid l ≡ true → Exact l
+pub exact : TheJudge
 exact l v = record {
   accepts = λ xs k. (all_heard l v xs [] (new_judge l) (none_heard l) (passes l xs k)).0;
   only = λ xs e. only xs (first (new_judge l) xs) e (ends l v xs [] (new_judge l) (none_heard l));

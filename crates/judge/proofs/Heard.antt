@@ -15,8 +15,8 @@ use Rattle.exec.specs.Stream.{index, same_stream}
 use Rattle.judge.specs.declared.Item.{Item}
 use Rattle.judge.specs.declared.Item.TheVariants.{Granted, Input, Credit, Started, Output, End, InputClosed, Terminal}
 use Rattle.judge.specs.declared.Judge.{Judge}
-use Rattle.judge.specs.Judge.{new_judge, has_ended, left_at, is_out_of_order, is_off_chunk, is_unpaid, is_above_window, granted_above, verdict, judged, left_by, noted}
-use Rattle.judge.specs.Rules.{is_started, is_end, is_spoken, is_closed, is_terminal, any, total, units_at, granted_to, cost_to, brought_by, charge_of, breaks_order, breaks_length, breaks_cost, granted_breaks, breaks_window, breach}
+use Rattle.judge.specs.Judge.{new_judge, has_ended, left_at, is_out_of_order, is_off_chunk, is_unpaid, is_above_window, granted_above, judged, left_by, noted}
+use Rattle.judge.specs.Rules.{verdict, is_started, is_end, is_spoken, is_closed, is_terminal, any, total, units_at, granted_to, cost_to, brought_by, charge_of, breaks_order, breaks_length, breaks_cost, granted_breaks, breaks_window, breach}
 use Rattle.judge.proofs.Lists.{any_more, total_more}
 
 -- the judge that heard the items pre

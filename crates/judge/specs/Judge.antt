@@ -10,6 +10,7 @@ use Rattle.exec.specs.Stream.{index}
 use Rattle.judge.specs.declared.Item.{Item}
 use Rattle.judge.specs.declared.Item.TheVariants.{Granted, Input, Credit, Started, Output, End, InputClosed, Terminal}
 use Rattle.judge.specs.declared.Judge.{Judge}
+use Rattle.judge.specs.Rules.{verdict}
 
 abbrev pub new_judge : Limits → Judge
 new_judge l = record {
@@ -62,15 +63,6 @@ abbrev pub is_above_window : Judge → Item → Bool
 is_above_window j (Granted p u) = is_granted_above j p u
 is_above_window j (Credit u) = eqb u 0 || ltb j.limits.input.size (j.input_left + u)
 is_above_window j _ = false
-
--- 02: a breach of order with 45, then length by 4, costs and charges by 5, units and windows by 3
-abbrev pub verdict : (order length cost window : Bool) → Result (Unit {0}) Refusal
-verdict order length cost window =
-    cond order (Err Refusal.OutOfOrder)
-    (cond length (Err Refusal.Chunk)
-    (cond cost (Err Refusal.Window)
-    (cond window (Err Refusal.Credit)
-    (Ok tt))))
 
 -- limits with a 0 are refused first
 unfoldable pub judged : Judge → Item → Result (Unit {0}) Refusal

@@ -8,7 +8,6 @@ use Rattle.exec.specs.Limits.{cost, off_chunk, output_pool, pool_of}
 use Rattle.exec.specs.Stream.{same_stream}
 use Rattle.judge.specs.declared.Item.{Item}
 use Rattle.judge.specs.declared.Item.TheVariants.{Granted, Input, Credit, Started, Output, End, InputClosed, Terminal}
-use Rattle.judge.specs.Judge.{verdict}
 
 -- ---- items
 
@@ -147,6 +146,15 @@ abbrev pub breaks_window : Limits → (pre : List Item) → Item → Bool
 breaks_window l pre (Granted p u) = granted_breaks (output_pool l.shared p) l pre u
 breaks_window l pre (Credit u) = eqb u 0 || ltb (l.input.size + total (charge_of l) pre) (total brought_by pre + u)
 breaks_window l pre _ = false
+
+-- 02: a breach of order with 45, then length by 4, costs and charges by 5, units and windows by 3
+abbrev pub verdict : (order length cost window : Bool) → Result (Unit {0}) Refusal
+verdict order length cost window =
+    cond order (Err Refusal.OutOfOrder)
+    (cond length (Err Refusal.Chunk)
+    (cond cost (Err Refusal.Window)
+    (cond window (Err Refusal.Credit)
+    (Ok tt))))
 
 abbrev pub breach : Limits → (pre : List Item) → Item → Result (Unit {0}) Refusal
 breach l pre x = verdict (breaks_order pre x) (breaks_length l x) (breaks_cost l pre x) (breaks_window l pre x)

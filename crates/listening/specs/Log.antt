@@ -18,7 +18,7 @@ use Rattle.listening.specs.declared.stage.Heard.{Heard}
 use Rattle.listening.specs.declared.stage.Stage.{Stage}
 use Rattle.listening.specs.declared.stage.Verdict.{Verdict}
 
--- ---- limits: the fields behind the word, which are 4 to 9 of the card's first line
+-- ---- limits: the fields behind the word, which are CHUNK to SHARED of the card's first line
 
 abbrev pub limits_by : (chunk : List ℕ) (input output : Option Window) (shared : List ℕ) → Option Limits
 limits_by chunk input output shared =

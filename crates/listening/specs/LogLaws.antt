@@ -13,7 +13,7 @@ pub item_none : (name a b t : List ℕ) → item_of name (a ∷ b ∷ fields t) 
 unfolding item_of
 item_none name a b t = let f = fields_some t in rw f.is refl
 
--- THE LIMITS ARE FIELDS 4 TO 9 OF THE CARD'S FIRST LINE, whatever stands in its others
+-- THE LIMITS ARE CHUNK TO SHARED OF THE CARD'S FIRST LINE, whatever stands in its others
 pub limits_card : (word now id generation c u n v m b : List ℕ) (timers : List (List ℕ))
     → limits_of (c ∷ u ∷ n ∷ v ∷ m ∷ b ∷ []) ≡ Open.limits_of (word ∷ now ∷ id ∷ generation ∷ c ∷ u ∷ n ∷ v ∷ m ∷ b ∷ timers)
 unfolding limits_of Open.limits_of

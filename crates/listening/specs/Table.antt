@@ -37,12 +37,14 @@ items : (reads "credit,Stdout,8" ≡ says (Item.Granted Pool.Stdout 8))
     × (reads "Started" ≡ says Item.Started)
     × (reads "Stdout,4294967296" ≡ says (Item.Output Stdout 4294967296))
     × (reads "Stderr,007" ≡ says (Item.Output Stderr 7))
+    × (reads "Stderr,18446744073709551615" ≡ says (Item.Output Stderr 18446744073709551615))
+    × (reads "Stdout,18446744073709551615" ≡ says (Item.Output Stdout 18446744073709551615))
     × (reads "End,Stdout" ≡ says (Item.End Stdout))
     × (reads "End,Stderr" ≡ says (Item.End Stderr))
     × (reads "InputClosed" ≡ says Item.InputClosed)
     × (reads "Terminal" ≡ says Item.Terminal)
 unfolding reads
-items = (refl, refl, refl, refl, refl, refl, refl, refl, refl, refl, refl, refl, refl)
+items = (refl, refl, refl, refl, refl, refl, refl, refl, refl, refl, refl, refl, refl, refl, refl)
 
 -- other words, other numbers of fields, bad fields, other letters, blanks, nothing at all
 bad_lines : (reads "" ≡ bad) × (reads "," ≡ bad) × (reads "Output,Stdout,3" ≡ bad) × (reads "Started," ≡ bad) × (reads "started" ≡ bad)
@@ -97,5 +99,6 @@ long : (prints (bytes "limits,4,B,8,B,8,0\nCredit,8\ninput," ++ zeros 248 ++ byt
     × (prints (bytes "limits,4,B,8,B,8,0\nCredit,8\ninput," ++ zeros 249 ++ bytes "3\n") ≡ bytes "refused,30,2\n")
     × (prints (bytes "limits," ++ zeros 237 ++ bytes "4,B,8,B,8,0\n") ≡ bytes "accepted,0\n")
     × (prints (bytes "limits," ++ zeros 238 ++ bytes "4,B,8,B,8,0\n") ≡ bytes "refused,30,0\n")
+    × (prints (bytes "limits,4,B,8,B,8,0\nStarted\nlimits," ++ zeros 238 ++ bytes "4,B,8,B,8,0\nStarted\n") ≡ bytes "refused,30,2\n")
 unfolding log zeros
-long = (refl, refl, refl, refl)
+long = (refl, refl, refl, refl, refl)

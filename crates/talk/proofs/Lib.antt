@@ -9,3 +9,4 @@ pub mod Received
 pub mod Said
 pub mod Lists
 pub mod Session
+pub mod Carried

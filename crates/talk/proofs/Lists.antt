@@ -24,7 +24,7 @@ use Rattle.judge.specs.declared.Item.{Item}
 use Rattle.judge.specs.declared.Judge.{Judge}
 use Rattle.judge.specs.Judge.{new_judge, has_ended, judged, noted, first}
 use Rattle.judge.proofs.Exact.{exact}
-use Rattle.talk.specs.TalkClaim.{items_by, items_of, told, Ours}
+use Rattle.talk.specs.TalkClaim.{items_by, items_of, told, OurRunner}
 use Rattle.talk.proofs.Received.{credit_goes, input_goes}
 use Rattle.talk.proofs.Rest.{Even, AllEven}
 use Rattle.talk.proofs.Said.{message_goes}
@@ -87,8 +87,8 @@ module _ (conf : Conf) (now : ℕ) (bytes lengths : List ℕ) (op : Opens conf n
       rw (same_dones conf es (Step.opened conf now bytes lengths) (good_open conf now bytes lengths op) ∙ same_run conf now bytes lengths op cs)
       (list cs (begun conf now bytes lengths) (new_judge conf.limits) (fine_open conf now bytes lengths lent_enough) opens)
 
-  pub ours : Ours conf now bytes lengths
-  ours = record {
-    accepted = accepts_all;
-    keeps = λ es. (exact conf.limits lent_enough.limits).only (told conf now bytes lengths es) (accepts_all es);
-  }
+pub ours : OurRunner
+ours conf now bytes lengths op = record {
+  accepted = accepts_all conf now bytes lengths op;
+  keeps = λ es. (exact conf.limits (lent_enough conf now bytes lengths op).limits).only (told conf now bytes lengths es) (accepts_all conf now bytes lengths op es);
+}

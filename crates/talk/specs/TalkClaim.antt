@@ -7,6 +7,7 @@ use Rattle.judge.specs.Judge.{new_judge, first}
 use Rattle.judge.specs.Rules.{Keeps}
 use Rattle.calls.specs.Call as Call
 use Rattle.calls.specs.Call.{Conf, Done, Call, Answer, Message}
+use Rattle.account.specs.Claim.{Opens}
 use Rattle.account.specs.InputClaim.{is_applied}
 use Rattle.account.specs.Records.{Entry, run_entries, dones_of}
 use Rattle.account.specs.Step.{opened}
@@ -40,9 +41,13 @@ items_of (d ∷ ds) = items_by d.call d.answer ++ items_of ds
 abbrev pub told : Conf → ℕ → (bytes lengths : List ℕ) → List Entry → List Item
 told conf now bytes lengths es = items_of (dones_of conf (run_entries (opened conf now bytes lengths) es))
 
--- OURS, for a runner that open answered ok, stores of any content, and every list of calls, records and frames
+-- of a runner that was opened so, and every list of calls, records and frames
 pub record Ours (conf : Conf) (now : ℕ) (bytes lengths : List ℕ) : Type 0 where
   -- the judge of its limits refuses no item of it
   pub accepted : (es : List Entry) → first (new_judge conf.limits) (told conf now bytes lengths es) ≡ Ok tt
   -- so it keeps 02's rules, sentence by sentence
   pub keeps : (es : List Entry) → Keeps conf.limits (told conf now bytes lengths es)
+
+-- THE CLAIM: of every runner that open answered ok, stores of any content
+abbrev pub OurRunner : Type 0
+OurRunner = (conf : Conf) (now : ℕ) (bytes lengths : List ℕ) → Opens conf now bytes lengths → Ours conf now bytes lengths
