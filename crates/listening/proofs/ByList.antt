@@ -221,10 +221,10 @@ bad_line log line lines l xs rest cut read_as valid items all few =
     ∙ rw (read_as, begins l valid, items) (bad_behind l xs rest all few)
 
 -- the first refused item
-parted : (j : Judge) (xs : List Item) (r : Refusal) → first j xs ≡ Err r → Parted j xs r
+pub first_refused : FirstRefused
 unfolding heard_ahead
-parted j [] r e = absurd (false≢true (sym (ap is_ok e)))
-parted j (x ∷ xs) r e = by (hear j x).answer refl e (λ e. parted (hear j x).judge xs r e)
+first_refused j [] r e = absurd (false≢true (sym (ap is_ok e)))
+first_refused j (x ∷ xs) r e = by (hear j x).answer refl e (λ e. first_refused (hear j x).judge xs r e)
   where
     by : (a : Result (Unit {0}) Refusal) → (hear j x).answer ≡ a → first_by a (first (hear j x).judge xs) ≡ Err r
         → (first (hear j x).judge xs ≡ Err r → Parted (hear j x).judge xs r) → Parted j (x ∷ xs) r
@@ -248,9 +248,6 @@ parted j (x ∷ xs) r e = by (hear j x).answer refl e (λ e. parted (hear j x).j
       refused = w ∙ e;
       place = rw w refl;
     }
-
-pub first_refused : FirstRefused
-first_refused = parted
 
 -- ---- lists
 

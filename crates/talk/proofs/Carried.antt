@@ -1,6 +1,6 @@
 -- Sessions that are computed from the definitions, whose credit and messages are carried by records, and by frames: as the judge is told of
 -- them.
-use Rattle.std.specs.Prelude.{◌≡◌, refl, [], ◌∷◌, ◌++◌}
+use Rattle.std.specs.Prelude.{◌≡◌, refl, List, [], ◌∷◌, ◌++◌, ℕ, ◌≤◌, length}
 use Rattle.exec.specs.declared.Pool.TheVariants as Pool
 use Rattle.exec.specs.declared.Stream.TheVariants.{Stdout, Stderr}
 use Rattle.exec.specs.Key.{admits}
@@ -25,11 +25,12 @@ use Rattle.channel.specs.Calls as Channel
 use Rattle.frames.specs.Calls as Frames
 use Rattle.account.specs.Step as Step
 use Rattle.account.specs.Records.{Entry, read_frame, write_frame, next_entry, answer_entry, made, call_of, frame_calls}
-use Rattle.account.proofs.Session.{conf}
-use Rattle.account.proofs.TurnSession.{channel, zeros, written, records, zero_status}
+use Rattle.account.proofs.Session.{conf, open_ok}
+use Rattle.account.proofs.TurnSession.{channel, zeros, written, records, zero_status, channel_opens}
 use Rattle.peer.proofs.Session.{entries}
 use Rattle.judge.specs.declared.Item.{Item}
-use Rattle.talk.specs.TalkClaim.{told}
+use Rattle.talk.specs.TalkClaim.{told, Ours}
+use Rattle.talk.proofs.Lists.{ours}
 
 -- records of a channel: a WINDOW_ADJUST is credit on the shared pool, and every message goes out, Started and InputClosed in no bytes
 by_records : told channel 0 (zeros 16) [] (records zero_status ++ (written ∷ written ∷ []))
@@ -57,3 +58,10 @@ input_by_frames : told conf 0 (zeros 16) [] (framed ∷ data_read ∷ [])
     ≡ Item.Credit 8 ∷ Item.Input 2 ∷ []
 unfolding framed data_read next_entry Step.next Calls.«open» Calls.next_message Range.fresh Range.stop Range.in_range output_fits bytes_with admits cost wrap ring_read ring_from ring_write copied if_else order Message.sendable_of Message.choose Message.effect Message.buffer_after Message.said_for number_at be32_at Carrier.admitted Carrier.accepted Carrier.wrote Carrier.wrote_buffer Carrier.told Carrier.asked Carrier.sent Carrier.readied Carrier.written Carrier.write answer_entry made Step.answer be24_at Frames.made Frames.parsed_read Frames.read_frame Frames.sent_as Frames.write_frame Framing.is_whole Framing.number31_at Framing.stream_of Framing.data_in Framing.of_four Framing.kinded Framing.on_stream Framing.read frame_calls Calls.input Streams.received Streams.input_answer Streams.input_next Streams.input_store Streams.input_lengths Input.receive_answer Input.receive_input Input.receive_bytes Input.receive_lengths Calls.end_input Streams.end_answer Streams.end_next Input.end_answer Input.end_input Frames.data_made Frames.then_end
 input_by_frames = refl
+
+-- and the claim is met by such runners, of streams that share a pool and streams that do not, over any stores that do
+shared_claim : (bytes lengths : List ℕ) → 16 ≤ length bytes → Ours channel 0 bytes lengths
+shared_claim bytes lengths h = ours channel 0 bytes lengths (channel_opens zero_status bytes lengths h)
+
+apart_claim : (bytes lengths : List ℕ) → 16 ≤ length bytes → Ours conf 0 bytes lengths
+apart_claim bytes lengths h = ours conf 0 bytes lengths (open_ok bytes lengths h)
