@@ -17,6 +17,7 @@ pub record Conf : Type 0 where
   pub key : Key
   pub limits : Limits
   pub timers : Timers
+  pub smallest : ℕ  -- the smallest grant of the input's units
 
 -- a call with its arguments; the stores are lent to each as the last left them
 pub data Call : Type 0 where

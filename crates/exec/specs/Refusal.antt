@@ -2,7 +2,7 @@
 use Rattle.std.specs.Prelude.{ℕ, ◌≡◌, refl, Bool, true, false, cond, List, [], ◌∷◌, eqb, Option, Some, None}
 use Rattle.std.proofs.Common.{arith, eqb-true}
 use Rattle.exec.specs.declared.Refusal.{Refusal}
-use Rattle.exec.specs.declared.Refusal.TheVariants.{Key, Pool, Credit, Chunk, Window, Ended, NoLimits, StoreShort, StateOutOfRange, NotAChannel, BadLength, UnknownKind, OtherChannel, BadType, NotInbound, BufferShort, BadLine, UntoldStatus, BadRequest, NotFramed, BadFrame, PaddedFrame, OutOfOrder}
+use Rattle.exec.specs.declared.Refusal.TheVariants.{Key, Pool, Credit, Chunk, Window, Ended, NoLimits, StoreShort, StateOutOfRange, NotAChannel, BadLength, UnknownKind, OtherChannel, BadType, NotInbound, BufferShort, BadLine, UntoldStatus, BadRequest, NotFramed, BadFrame, PaddedFrame, OutOfOrder, SmallestGrant}
 
 abbrev pub number : Refusal → ℕ
 number Key = 1
@@ -28,13 +28,14 @@ number NotFramed = 42
 number BadFrame = 43
 number PaddedFrame = 44
 number OutOfOrder = 45
+number SmallestGrant = 46
 
 -- every refusal, in the order of the table
 abbrev pub stops : List Refusal
 stops =
     Key ∷ Pool ∷ Credit ∷ Chunk ∷ Window ∷ Ended ∷ NoLimits ∷ StoreShort ∷ StateOutOfRange ∷ NotAChannel ∷ BadLength ∷ UnknownKind
     ∷ OtherChannel ∷ BadType ∷ NotInbound ∷ BufferShort ∷ BadLine ∷ UntoldStatus ∷ BadRequest ∷ NotFramed ∷ BadFrame
-    ∷ PaddedFrame ∷ OutOfOrder ∷ []
+    ∷ PaddedFrame ∷ OutOfOrder ∷ SmallestGrant ∷ []
 
 unfoldable pub find : ℕ → List Refusal → Option Refusal
 find n [] = None
@@ -69,6 +70,7 @@ refusal_number NotFramed = refl
 refusal_number BadFrame = refl
 refusal_number PaddedFrame = refl
 refusal_number OutOfOrder = refl
+refusal_number SmallestGrant = refl
 
 -- a refusal that was found, at the head of a list or behind it, has the number
 found : (b : Bool) (n : ℕ) (x y : Refusal) (rest : Option Refusal) → eqb (number y) n ≡ b → (rest ≡ Some x → number x ≡ n)

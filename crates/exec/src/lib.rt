@@ -434,8 +434,8 @@ pub enum Receipt {
     Late,
 }
 
-// Why a call is refused: the Rust's Violation, then what the stores, the state, the records, the card, the exit requests, the frames and the
-// judge add. A refused call changes nothing.
+// Why a call is refused: the Rust's Violation, then what the stores, the state, the records, the card, the exit requests, the frames, the
+// judge and the smallest grant add. A refused call changes nothing.
 #[derive(Clone, Copy, Debug, PartialEq, Eq)]
 pub enum Refusal {
     Key = 1,
@@ -461,6 +461,7 @@ pub enum Refusal {
     BadFrame = 43,
     PaddedFrame = 44,
     OutOfOrder = 45,
+    SmallestGrant = 46,
 }
 
 impl Refusal {
@@ -498,6 +499,7 @@ impl fmt::Display for Refusal {
             Refusal::BadFrame => "the frame is none that a peer sends on these streams",
             Refusal::PaddedFrame => "the frame is padded",
             Refusal::OutOfOrder => "the message is out of order",
+            Refusal::SmallestGrant => "the smallest grant is 0 or above the input's window",
         })
     }
 }

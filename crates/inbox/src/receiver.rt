@@ -1,31 +1,41 @@
 // The receiver's side of a pool.
 ghost use Rattle.std.specs.Prelude.{◌≡◌, ◌+◌, ◌<◌, ◌^◌};
-ghost use Rattle.inbox.specs.Receiver.{new_granted, charge, freed, take_grant, units_fit};
+ghost use Rattle.inbox.specs.Receiver.{new_granted, charge, freed, is_due, take_grant, grant_fits, units_fit};
 
 use exec::Refusal;
 
-// The units that the sender may still send, and those that the consumer freed, or that were never granted, to be granted next.
+// The units that the sender may still send, those that the consumer freed, or that were never granted, to be granted next, and
+// the fewest that are granted at once.
 #[derive(Clone, Copy)]
 pub struct Granted {
     pub open: u32,
     pub returnable: u32,
+    pub smallest: u32,
 }
 
-// What taking a grant leaves, and its units. (A number and no Option: it is asked only where there is some.)
+// What taking a grant leaves, and its units: none where it is not due.
 #[derive(Clone, Copy)]
 pub struct Taking {
     pub granted: Granted,
     pub units: u32,
 }
 
+// Whether a smallest grant is at least 1, and no more than the window.
+pub fn grant_fits(smallest: u32, size: u32) -> bool
+    ensures { result ≡ grant_fits smallest size }
+{
+    (0 < smallest) & (smallest <= size)
+}
+
 impl Granted {
     // Before the first grant, which opens the whole window.
-    pub fn new(size: u32) -> Self
-        ensures { result ≡ new_granted size }
+    pub fn new(size: u32, smallest: u32) -> Self
+        ensures { result ≡ new_granted size smallest }
     {
         Granted {
             open: 0,
             returnable: size,
+            smallest,
         }
     }
 
@@ -49,18 +59,29 @@ impl Granted {
         self
     }
 
-    // Opens all that is to be granted.
-    pub fn take_grant(self) -> Taking
+    // Whether as much is to be granted as is granted at once.
+    pub fn is_due(self) -> bool
+        ensures { result ≡ is_due self }
+    {
+        self.smallest <= self.returnable
+    }
+
+    // Opens all that is to be granted, once it is due.
+    pub fn take_grant(mut self) -> Taking
         requires { self.open + self.returnable < 2 ^ 32 }
         ensures { result ≡ take_grant self }
     {
+        if self.returnable < self.smallest {
+            return Taking {
+                granted: self,
+                units: 0,
+            };
+        }
         let units = self.returnable;
-        let open = self.open + units;
+        self.open += units;
+        self.returnable = 0;
         Taking {
-            granted: Granted {
-                open,
-                returnable: 0,
-            },
+            granted: self,
             units,
         }
     }

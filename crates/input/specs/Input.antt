@@ -9,17 +9,17 @@ use Rattle.exec.specs.Limits.{cost, off_chunk}
 use Rattle.inbox.specs.Inbox.{new_inbox, pushed, bytes_pushed, lengths_pushed, front, pop_freed, pop_came, pop_inbox, pop_lengths}
 use Rattle.inbox.specs.Need.{byte_need, length_need}
 use Rattle.inbox.specs.RangeLaws.{InRange}
-use Rattle.inbox.specs.Receiver.{new_granted, opened, freed}
+use Rattle.inbox.specs.Receiver.{new_granted, opened, is_due, freed}
 use Rattle.input.specs.declared.Crediting.{Crediting}
 use Rattle.input.specs.declared.Input.{Input}
 use Rattle.input.specs.declared.Receiving.{Receiving}
 use Rattle.input.specs.declared.Writing.{Writing}
 use Rattle.input.specs.Setters.{set_inbox, set_window, set_peer_ended, set_input_closed, set_close_requested, set_closed_message}
 
-abbrev pub new_input : ℕ → Input
-new_input size = record {
+abbrev pub new_input : (size smallest : ℕ) → Input
+new_input size smallest = record {
   inbox = new_inbox;
-  window = new_granted size;
+  window = new_granted size smallest;
   peer_ended = false;
   closed = false;
   close_requested = false;
@@ -31,9 +31,11 @@ new_input size = record {
 abbrev pub input_accepts : Input → Bool
 input_accepts i = not i.closed && not i.peer_ended
 
+-- credit waits to be granted: at least the smallest grant
 abbrev pub can_grant : Input → Bool
-can_grant i = input_accepts i && ltb 0 i.window.returnable
+can_grant i = input_accepts i && is_due i.window
 
+-- where it is due: all that is returnable
 abbrev pub granted_in : Input → Input
 granted_in i = set_window (opened i.window) i
 
@@ -90,6 +92,7 @@ receive_input l i n =
     (set_window (record {
       «open» = cond (is_paid l i n) (i.window.open - cost l.input.unit n) i.window.open;
       returnable = i.window.returnable;
+      smallest = i.window.smallest;
     }) i)
 
 unfoldable pub receive_bytes : Limits → Input → (bytes store : List ℕ) → List ℕ

@@ -1,10 +1,10 @@
 // The workload's standard input, as the runner receives and writes it.
 #![tactic(auto)]
 
-ghost use Rattle.std.specs.Prelude.{◌≡◌, false, ◌+◌, ◌<◌, ◌^◌, length};
+ghost use Rattle.std.specs.Prelude.{◌≡◌, true, false, ◌+◌, ◌<◌, ◌^◌, length};
 ghost use Rattle.exec.specs.Limits.{cost, check_chunk, off_chunk};
 ghost use Rattle.inbox.specs.Range.{Waiting};
-ghost use Rattle.inbox.specs.Receiver.{charge};
+ghost use Rattle.inbox.specs.Receiver.{charge, is_due};
 ghost use Rattle.input.specs.Input.{
   new_input,
   input_accepts,
@@ -52,7 +52,7 @@ pub struct Receiving {
     pub received: Result<Receipt, Refusal>,
 }
 
-// What is left once credit is taken, and its units. (A number and no Option: it is asked only where there is some.)
+// What is left once credit is taken, and its units. (A number and no Option: it is asked only where some is due.)
 #[derive(Clone, Copy)]
 pub struct Crediting {
     pub input: Input,
@@ -67,11 +67,11 @@ pub struct Writing {
 }
 
 impl Input {
-    pub fn new(size: u32) -> Self
-        ensures { result ≡ new_input size }
+    pub fn new(size: u32, smallest: u32) -> Self
+        ensures { result ≡ new_input size smallest }
     {
         let inbox = Inbox::new();
-        let window = Granted::new(size);
+        let window = Granted::new(size, smallest);
         Input {
             inbox,
             window,
@@ -89,16 +89,16 @@ impl Input {
         !self.closed & !self.peer_ended
     }
 
-    // Whether credit waits to be granted.
+    // Whether credit waits to be granted: at least the smallest grant.
     pub fn can_grant(self) -> bool
         ensures { result ≡ can_grant self }
     {
-        (!self.closed & !self.peer_ended) & (0 < self.window.returnable)
+        (!self.closed & !self.peer_ended) & self.window.is_due()
     }
 
-    // Grants all that is returnable.
+    // Grants all that is returnable, where it is due.
     pub fn take_credit(mut self) -> Crediting
-        requires { self.window.open + self.window.returnable < 2 ^ 32 }
+        requires { (is_due self.window ≡ true) × (self.window.open + self.window.returnable < 2 ^ 32) }
         ensures { result ≡ take_credit self }
     {
         let taking = self.window.take_grant();

@@ -1,4 +1,4 @@
--- The calls, each whole: refusals 12, 10 and 11 first, which change nothing, and then what the call does. One definition a
+-- The calls, each whole: refusals 12, 10, 46 and 11 first, which change nothing, and then what the call does. One definition a
 -- call, named after it: its answer, the next state and every lent list that it writes.
 use Rattle.std.specs.Prelude.{ℕ, ◌≡◌, Bool, true, ◌&&◌, List, length, Option, Result, Some, None, Ok, Err}
 use Rattle.exec.specs.declared.Admission.{Admission}
@@ -64,12 +64,12 @@ unless (Err x) value = Err x
 -- ---- the calls, in the Rust's order
 
 -- a refused open hands back a runner without limits, so that every call on it is refused by 10
-abbrev pub open_by : Result (Unit {0}) Refusal → Key → Limits → Timers → ℕ → After (Unit {0})
-open_by (Ok tt) k l t now = record { runner = fresh k l t now; answer = (Ok tt) }
-open_by (Err x) k l t now = record { runner = fresh k no_limits t now; answer = Err x }
+abbrev pub open_by : Result (Unit {0}) Refusal → Key → Limits → Timers → (smallest now : ℕ) → After (Unit {0})
+open_by (Ok tt) k l t smallest now = record { runner = fresh k l t smallest now; answer = (Ok tt) }
+open_by (Err x) k l t smallest now = record { runner = fresh k no_limits t smallest now; answer = Err x }
 
-unfoldable pub «open» : Key → Limits → Timers → ℕ → (bytes lengths : List ℕ) → After (Unit {0})
-«open» k l t now bytes lengths = open_by (open_stop l (bytes_do l bytes && lengths_do l lengths)) k l t now
+unfoldable pub «open» : Key → Limits → Timers → (smallest now : ℕ) → (bytes lengths : List ℕ) → After (Unit {0})
+«open» k l t smallest now bytes lengths = open_by (open_stop l smallest (bytes_do l bytes && lengths_do l lengths)) k l t smallest now
 
 unfoldable pub key : Runner → Result Key Refusal
 key r = unless (stop r true) r.key

@@ -1,25 +1,27 @@
--- What is known of an output message that was chosen: it has bytes, they are queued and fit the buffer, and credit has their cost.
+-- What is known of a message that was chosen. Of an output: it has bytes, they are queued and fit the buffer, and credit has their cost.
 use Rattle.std.specs.Prelude.{◌≡◌, refl, Bool, true, false, cond, ◌&&◌, List, length, Ok}
 use Rattle.std.proofs.Math.Bool.{not}
 use Prim.Native.Nat.{ℕ, ◌+◌, ◌≤◌, ◌<◌, min}
 use Rattle.std.proofs.Common.{arith, ltb-true, leb-true}
+use Rattle.std.proofs.lemmas.Bool.{not-true}
 use Rattle.std.proofs.Math.Dec.{ltb}
 use Rattle.exec.specs.declared.Stream.{Stream}
 use Rattle.exec.specs.declared.Stream.TheVariants.{Stdout, Stderr}
 use Rattle.exec.specs.declared.Unit as Units
 use Rattle.exec.specs.declared.Unit.TheVariants.{Bytes, Frames}
 use Rattle.exec.specs.Limits.{cost, pool_of}
-use Rattle.exec.specs.Stream.{stream_at, following, pick, picked}
+use Rattle.exec.specs.Stream.{pick, picked}
 use Rattle.ring.specs.RingLaws.{read_length}
 use Rattle.inbox.specs.Need.{byte_need}
 use Rattle.inbox.specs.RangeLaws.{both}
+use Rattle.inbox.specs.Receiver.{is_due, take_grant}
 use Rattle.credit.specs.Sender.{sendable}
 use Rattle.choice.specs.declared.Choice.{Choice}
 use Rattle.runner.specs.declared.runner.Runner.{Runner}
 use Rattle.choice.specs.Order.{if_else, order}
-use Rattle.input.specs.Input.{can_grant}
+use Rattle.input.specs.Input.{input_accepts, can_grant}
 use Rattle.runner.specs.Life.{awaits_launch, is_ready}
-use Rattle.runner.specs.Message.{sendable_of, untold, choose, payload}
+use Rattle.runner.specs.Message.{sendable_of, choose, effect, payload}
 use Rattle.runner.specs.Range.{bytes_do, stop}
 use Rattle.runner.specs.RangeLaws.{Queued, InRange, Good, is_good_lem}
 use Rattle.runner.specs.State.{out_of, base, credit_at}
@@ -49,56 +51,62 @@ is_said Choice.Terminal = true
 abbrev pub Sayable : Choice → Runner → (store buffer : List ℕ) → Type 0
 Sayable c r store buffer = is_said c ≡ true → InRange r × (byte_need r.limits ≤ length store) × (c ≡ choose r (length buffer))
 
--- ---- the choice of an output is of what its stream can send
+-- ---- what a choice shows, by one walk through the order of messages
 
--- a claim on outputs alone
-Of : (Stream → ℕ → Type 0) → Choice → Type 0
-Of P Choice.None = Unit
-Of P Choice.Credit = Unit
-Of P Choice.Started = Unit
-Of P Choice.InputClosed = Unit
-Of P (Choice.End x) = Unit
-Of P (Choice.Output x n) = P x n
-Of P Choice.Terminal = Unit
-
-either : (P : Choice → Type 0) (b : Bool) (x y : Choice) → (b ≡ true → P x) → P y → P (if_else b x y)
-unfolding if_else
-either P true x y hx hy = hx refl
-either P false x y hx hy = hy
-
-module _ (P : Stream → ℕ → Type 0) (finished detached can credited started closed awaits end0 end1 ready : Bool) (x : Stream) (n1 n2 : ℕ)
-    (h1 : 0 < n1 → P x n1) (h2 : 0 < n2 → P (following x) n2) where
-  some : (n : ℕ) → (not awaits && ltb 0 n) ≡ true → 0 < n
-  some n h = ltb-true 0 n (both (not awaits) (ltb 0 n) h).1
-
-  ordered : Of P (order finished detached can credited started closed awaits end0 end1 ready x n1 n2)
-  unfolding order Of
-  ordered =
-      either (Of P) finished _ _ (λ _. tt)
-      (either (Of P) detached _ _ (λ _. either (Of P) ready _ _ (λ _. tt) tt)
-      (either (Of P) (can && not credited) _ _ (λ _. tt)
-      (either (Of P) started _ _ (λ _. tt)
-      (either (Of P) closed _ _ (λ _. tt)
-      (either (Of P) (not awaits && end0) _ _ (λ _. tt)
-      (either (Of P) (not awaits && end1) _ _ (λ _. tt)
-      (either (Of P) (not awaits && ltb 0 n1) _ _ (λ h. h1 (some n1 h))
-      (either (Of P) (not awaits && ltb 0 n2) _ _ (λ h. h2 (some n2 h))
-      (either (Of P) can _ _ (λ _. tt)
-      (either (Of P) ready _ _ (λ _. tt) tt))))))))))
-
+-- the bytes of an output are what its stream can send, and there are some
 pub record Chosen (r : Runner) (buffer : ℕ) (x : Stream) (n : ℕ) : Type 0 where
   pub bytes : n ≡ sendable_of r buffer x
   pub some_bytes : 0 < n
 
+-- Credit can be granted; Started and InputClosed are to be told; End and Output come with the launch known and its Started told;
+-- Terminal once all is told
+abbrev pub Shows : Runner → (buffer : ℕ) → Choice → Type 0
+Shows r buffer Choice.None = Unit
+Shows r buffer Choice.Credit = can_grant r.input ≡ true
+Shows r buffer Choice.Started = r.flags.started_message ≡ true
+Shows r buffer Choice.InputClosed = r.input.closed_message ≡ true
+Shows r buffer (Choice.End x) = (awaits_launch r ≡ false) × (r.flags.started_message ≡ false)
+Shows r buffer (Choice.Output x n) = (awaits_launch r ≡ false) × (r.flags.started_message ≡ false) × Chosen r buffer x n
+Shows r buffer Choice.Terminal = is_ready r ≡ true
+
+pick_if : (P : Choice → Type 0) (b : Bool) (x y : Choice) → (b ≡ true → P x) → (b ≡ false → P y) → P (if_else b x y)
+unfolding if_else
+pick_if P true x y p q = p refl
+pick_if P false x y p q = q refl
+
+pub shows : (buffer : ℕ) (r : Runner) → Shows r buffer (choose r buffer)
+unfolding choose order
+shows buffer r =
+    let P = Shows r buffer in
+    let known : (b : Bool) → (not (awaits_launch r) && b) ≡ true → awaits_launch r ≡ false = λ b e. not-true (awaits_launch r) (both (not (awaits_launch r)) b e).0 in
+    let some : (n : ℕ) → (not (awaits_launch r) && ltb 0 n) ≡ true → 0 < n = λ n e. ltb-true 0 n (both (not (awaits_launch r)) (ltb 0 n) e).1 in
+    pick_if P _ _ _ (λ _. tt) (λ _.
+    pick_if P _ _ _ (λ _. pick_if P _ _ _ (λ e. e) (λ _. tt)) (λ _.
+    pick_if P _ _ _ (λ c. (both (can_grant r.input) (not r.flags.credited) c).0) (λ _.
+    pick_if P _ _ _ (λ s. s) (λ s.
+    pick_if P _ _ _ (λ c. c) (λ _.
+    pick_if P _ _ _ (λ e. (known _ e, s)) (λ _.
+    pick_if P _ _ _ (λ e. (known _ e, s)) (λ _.
+    pick_if P _ _ _ (λ e. (known _ e, s, record { bytes = refl; some_bytes = some _ e })) (λ _.
+    pick_if P _ _ _ (λ e. (known _ e, s, record { bytes = refl; some_bytes = some _ e })) (λ _.
+    pick_if P _ _ _ (λ c. c) (λ _.
+    pick_if P _ _ _ (λ e. e) (λ _. tt)))))))))))
+
+pub shown : (r : Runner) (buffer : ℕ) (c : Choice) → c ≡ choose r buffer → Shows r buffer c
+shown r buffer c e = rw e (shows buffer r)
+
 pub chosen : (r : Runner) (buffer : ℕ) (x : Stream) (n : ℕ) → Choice.Output x n ≡ choose r buffer → Chosen r buffer x n
-unfolding choose Of
-chosen r buffer x n e =
-    let x₁ = stream_at r.turn in
-    let all : Of (Chosen r buffer) (choose r buffer) =
-    ordered (Chosen r buffer) r.flags.finished r.flags.detached (can_grant r.input) r.flags.credited r.flags.started_message
-    r.input.closed_message (awaits_launch r) (untold r Stdout) (untold r Stderr) (is_ready r) x₁ (sendable_of r buffer x₁) (sendable_of r buffer (following x₁))
-    (λ h. record { bytes = refl; some_bytes = h }) (λ h. record { bytes = refl; some_bytes = h }) in
-    rw (← e) at all
+chosen r buffer x n e = (shown r buffer (Choice.Output x n) e).2
+
+-- Credit is chosen only where it is due
+pub credit_due : (r : Runner) (buffer : ℕ) → Choice.Credit ≡ choose r buffer → is_due r.input.window ≡ true
+credit_due r buffer e = (both (input_accepts r.input) (is_due r.input.window) (shown r buffer Choice.Credit e)).1
+
+-- and then it is what take_grant takes
+pub credit_takes : (r : Runner) (buffer : ℕ) → Choice.Credit ≡ choose r buffer
+    → take_grant r.input.window ≡ record { granted = (effect Choice.Credit r).input.window; units = r.input.window.returnable }
+unfolding effect
+credit_takes r buffer e = rw (credit_due r buffer e) refl
 
 -- ---- what a stream can send
 

@@ -1,14 +1,16 @@
--- What is met before a call: a state out of range (12), no limits (10), a lent store that is short (11); and open.
+-- What is met before a call: a state out of range (12), no limits (10), a smallest grant of none or too many (46), a lent store that is
+-- short (11); and open.
 use Rattle.std.specs.Prelude.{ℕ, Bool, false, cond, not, ◌&&◌, List, [], ◌∷◌, leb, length, Result, None, Ok, Err}
 use Rattle.exec.specs.declared.Refusal.{Refusal}
 use Rattle.exec.specs.declared.Key.{Key}
 use Rattle.exec.specs.declared.Limits.{Limits}
-use Rattle.exec.specs.declared.Refusal.TheVariants.{NoLimits, StoreShort, StateOutOfRange}
+use Rattle.exec.specs.declared.Refusal.TheVariants.{NoLimits, StoreShort, StateOutOfRange, SmallestGrant}
 use Rattle.exec.specs.declared.Timers.{Timers}
 use Rattle.exec.specs.Limits.{is_valid}
 use Rattle.exec.specs.Time.{timeout_at}
 use Rattle.inbox.specs.Need.{byte_need, length_need}
 use Rattle.inbox.specs.Range.{inbox_fits}
+use Rattle.inbox.specs.Receiver.{grant_fits}
 use Rattle.credit.specs.Sender.{new_credit}
 use Rattle.lifecycle.specs.declared.life.Exit.TheVariants as Exit
 use Rattle.lifecycle.specs.declared.life.Launch.TheVariants as Launch
@@ -33,21 +35,23 @@ bytes_do l bytes = leb (byte_need l) (length bytes)
 abbrev pub lengths_do : Limits → List ℕ → Bool
 lengths_do l lengths = leb (length_need l) (length lengths)
 
--- what open meets: no limits (10), then, unless the lent stores do, a short store (11); Ok where it is neither
-abbrev pub open_stop : Limits → (stores : Bool) → Result (Unit {0}) Refusal
-open_stop l stores =
+-- what open meets: no limits (10), then a smallest grant of 0 or above the input's size (46), then, unless the lent stores do, a short
+-- store (11); Ok where it is none of them
+abbrev pub open_stop : Limits → (smallest : ℕ) → (stores : Bool) → Result (Unit {0}) Refusal
+open_stop l smallest stores =
     cond (not (is_valid l)) (Err NoLimits)
-    (cond (not stores) (Err StoreShort) (Ok tt))
+    (cond (not (grant_fits smallest l.input.size)) (Err SmallestGrant)
+    (cond (not stores) (Err StoreShort) (Ok tt)))
 
 -- what any other call meets: a state out of range (12), and then the same
 unfoldable pub stop : Runner → (stores : Bool) → Result (Unit {0}) Refusal
-stop r stores = cond (not (in_range r)) (Err StateOutOfRange) (open_stop r.limits stores)
+stop r stores = cond (not (in_range r)) (Err StateOutOfRange) (open_stop r.limits r.input.window.smallest stores)
 
 -- ---- open
 
 -- a fresh runner
-unfoldable pub fresh : Key → Limits → Timers → ℕ → Runner
-fresh k l t now = record {
+unfoldable pub fresh : Key → Limits → Timers → (smallest now : ℕ) → Runner
+fresh k l t smallest now = record {
   key = k;
   limits = l;
   timers = t;
@@ -66,7 +70,7 @@ fresh k l t now = record {
     settling = Settling.Idle;
   };
   flags = flags_of false false false false false false false;
-  input = new_input l.input.size;
+  input = new_input l.input.size smallest;
   outputs = new_output ∷ new_output ∷ [];
   credits = new_credit l.output.size ∷ new_credit l.output.size ∷ [];
   turn = 0;

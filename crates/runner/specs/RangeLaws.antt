@@ -4,13 +4,14 @@ use Rattle.std.proofs.Common.{arith, sym, ◌∙◌, leb-true, ltb-true}
 use Rattle.std.proofs.Math.Bool.{true, false, cond, and-true, and-false}
 use Rattle.exec.specs.declared.Limits.{Limits}
 use Rattle.exec.specs.declared.Refusal.{Refusal}
-use Rattle.exec.specs.declared.Refusal.TheVariants.{NoLimits, StoreShort, StateOutOfRange}
+use Rattle.exec.specs.declared.Refusal.TheVariants.{NoLimits, StoreShort, StateOutOfRange, SmallestGrant}
 use Rattle.exec.specs.declared.Stream.{Stream}
 use Rattle.exec.specs.declared.Stream.TheVariants.{Stdout, Stderr}
 use Rattle.exec.specs.Limits.{is_valid}
 use Rattle.exec.specs.Stream.{index, every_stream_lem}
 use Rattle.inbox.specs.Range.{inbox_fits, inbox_within}
 use Rattle.inbox.specs.RangeLaws as Inbox
+use Rattle.inbox.specs.Receiver.{grant_fits}
 use Rattle.credit.specs.Sender.{credit_fits}
 use Rattle.output.specs.declared.Output.{Output}
 use Rattle.output.specs.Output as Queue
@@ -56,72 +57,99 @@ in_range_lem r h =
 
 -- ---- a call that meets no stop, and one that does
 
--- none of 12, 10 and 11
-abbrev is_good : Runner → (stores : Bool) → Bool
-is_good r stores = (in_range r && is_valid r.limits) && stores
+-- the smallest grant is one that open takes
+abbrev pub grants : Runner → Bool
+grants r = grant_fits r.input.window.smallest r.limits.input.size
 
--- the refusal of an open that meets 10 or 11, and of a call that meets one of the three
-abbrev pub unopened : Limits → Refusal
-unopened l = cond (is_valid l) StoreShort NoLimits
+-- none of 12, 10, 46 and 11
+abbrev is_good : Runner → (stores : Bool) → Bool
+is_good r stores = (in_range r && is_valid r.limits) && (grants r && stores)
+
+-- the refusal of an open that meets 10, 46 or 11, and of a call that meets one of the four
+abbrev pub unopened : Limits → (smallest : ℕ) → Refusal
+unopened l smallest = cond (is_valid l) (cond (grant_fits smallest l.input.size) StoreShort SmallestGrant) NoLimits
 
 unfoldable pub stopped : Runner → Refusal
-stopped r = cond (in_range r) (unopened r.limits) StateOutOfRange
+stopped r = cond (in_range r) (unopened r.limits r.input.window.smallest) StateOutOfRange
 
 -- what a call meets, given whether it meets none
 unfoldable pub stop_if : (good : Bool) → Runner → Result (Unit {0}) Refusal
 stop_if good r = cond good (Ok tt) (Err (stopped r))
 
+-- what holds of each way to end a test holds of its end: of an open, and of any other call
+module _ (P : Result (Unit {0}) Refusal → Type 0) (none : P (Err NoLimits)) (few : P (Err SmallestGrant)) (short : P (Err StoreShort)) where
+  pub open_ends : (l : Limits) (smallest : ℕ) (stores : Bool) → (is_valid l ≡ true → grant_fits smallest l.input.size ≡ true → stores ≡ true → P (Ok tt))
+      → P (open_stop l smallest stores)
+  open_ends l smallest stores good = by (is_valid l) (grant_fits smallest l.input.size) stores good
+    where
+      by : (v g s : Bool) → (v ≡ true → g ≡ true → s ≡ true → P (Ok tt))
+          → P (cond (not v) (Err NoLimits) (cond (not g) (Err SmallestGrant) (cond (not s) (Err StoreShort) (Ok tt))))
+      by true true true h = h refl refl refl
+      by true true false h = short
+      by true false s h = few
+      by false g s h = none
+
+  pub stop_ends : (r : Runner) (stores : Bool) → P (Err StateOutOfRange)
+      → (in_range r ≡ true → is_valid r.limits ≡ true → grants r ≡ true → stores ≡ true → P (Ok tt)) → P (stop r stores)
+  unfolding stop
+  stop_ends r stores out good = by (in_range r) good
+    where
+      by : (i : Bool) → (i ≡ true → is_valid r.limits ≡ true → grants r ≡ true → stores ≡ true → P (Ok tt))
+          → P (cond (not i) (Err StateOutOfRange) (open_stop r.limits r.input.window.smallest stores))
+      by true h = open_ends r.limits r.input.window.smallest stores (h refl)
+      by false h = out
+
 module _ (r : Runner) (stores : Bool) where
   stop_by : (b : Bool) → is_good r stores ≡ b → stop r stores ≡ stop_if b r
   unfolding stop stopped stop_if
-  stop_by b e = by (in_range r) (is_valid r.limits) stores e
+  stop_by b e = by (in_range r) (is_valid r.limits) (grants r) stores e
     where
-      by : (i v s : Bool) → ((i && v) && s) ≡ b
-          → ◌≡◌ {A = Result (Unit {0}) Refusal} (cond (not i) (Err StateOutOfRange) (cond (not v) (Err NoLimits) (cond (not s) (Err StoreShort) (Ok tt))))
-          (cond b (Ok tt) (Err (cond i (cond v StoreShort NoLimits) StateOutOfRange)))
-      by true true true e = rw (← e)
-      by true true false e = rw (← e)
-      by true false s e = rw (← e)
-      by false v s e = rw (← e)
+      by : (i v g s : Bool) → ((i && v) && (g && s)) ≡ b
+          → ◌≡◌ {A = Result (Unit {0}) Refusal}
+          (cond (not i) (Err StateOutOfRange) (cond (not v) (Err NoLimits) (cond (not g) (Err SmallestGrant) (cond (not s) (Err StoreShort) (Ok tt)))))
+          (cond b (Ok tt) (Err (cond i (cond v (cond g StoreShort SmallestGrant) NoLimits) StateOutOfRange)))
+      by true true true true e = rw (← e)
+      by true true true false e = rw (← e)
+      by true true false s e = rw (← e)
+      by true false g s e = rw (← e)
+      by false v g s e = rw (← e)
 
-  pub unstopped : in_range r ≡ true → is_valid r.limits ≡ true → stores ≡ true → stop r stores ≡ Ok tt
+  pub unstopped : in_range r ≡ true → is_valid r.limits ≡ true → grants r ≡ true → stores ≡ true → stop r stores ≡ Ok tt
   unfolding stop
-  unstopped i v s = rw (i, v, s)
+  unstopped i v g s = rw (i, v, g, s)
+
+no_error : {T : Type 0} (x : Refusal) → ◌≡◌ {A = Result (Unit {0}) Refusal} (Err x) (Ok tt) → T
+no_error x e = let n : ◌≡◌ {A = ℕ} 0 1 = cc in absurd (omega arith)
 
 pub record Good (r : Runner) (stores : Bool) : Type 0 where
   pub range : InRange r
   pub valid : is_valid r.limits ≡ true
+  pub grants : grants r ≡ true
   pub stores_do : stores ≡ true
 
 pub is_good_lem : (r : Runner) (stores : Bool) → stop r stores ≡ Ok tt → Good r stores
-unfolding stop_if
-is_good_lem r stores h =
-    let p = Inbox.both (in_range r && is_valid r.limits) stores (by (is_good r stores) refl) in
-    let q = Inbox.both (in_range r) (is_valid r.limits) p.0 in
-    record { range = in_range_lem r q.0; valid = q.1; stores_do = p.1 }
-  where
-    by : (b : Bool) → is_good r stores ≡ b → is_good r stores ≡ true
-    by true e = e
-    by false e = let z : Ok tt ≡ stop_if false r = sym h ∙ stop_by r stores false e in let n : ◌≡◌ {A = ℕ} 0 1 = cc in absurd (omega arith)
+is_good_lem r stores =
+    stop_ends (λ x. x ≡ Ok tt → Good r stores) (no_error NoLimits) (no_error SmallestGrant) (no_error StoreShort) r stores (no_error StateOutOfRange)
+    (λ i v g s e. record { range = in_range_lem r i; valid = v; grants = g; stores_do = s })
 
 -- what open found
-pub open_by_lem : (l : Limits) (stores b : Bool) → (is_valid l && stores) ≡ b → open_stop l stores ≡ cond b (Ok tt) (Err (unopened l))
-open_by_lem l stores b e = by (is_valid l) stores e
+pub open_by_lem : (l : Limits) (smallest : ℕ) (stores b : Bool) → (is_valid l && (grant_fits smallest l.input.size && stores)) ≡ b
+    → open_stop l smallest stores ≡ cond b (Ok tt) (Err (unopened l smallest))
+open_by_lem l smallest stores b e = by (is_valid l) (grant_fits smallest l.input.size) stores e
   where
-    by : (v s : Bool) → (v && s) ≡ b
-        → ◌≡◌ {A = Result (Unit {0}) Refusal} (cond (not v) (Err NoLimits) (cond (not s) (Err StoreShort) (Ok tt)))
-        (cond b (Ok tt) (Err (cond v StoreShort NoLimits)))
-    by true true e = rw (← e)
-    by true false e = rw (← e)
-    by false s e = rw (← e)
+    by : (v g s : Bool) → (v && (g && s)) ≡ b
+        → ◌≡◌ {A = Result (Unit {0}) Refusal} (cond (not v) (Err NoLimits) (cond (not g) (Err SmallestGrant) (cond (not s) (Err StoreShort) (Ok tt))))
+        (cond b (Ok tt) (Err (cond v (cond g StoreShort SmallestGrant) NoLimits)))
+    by true true true e = rw (← e)
+    by true true false e = rw (← e)
+    by true false s e = rw (← e)
+    by false g s e = rw (← e)
 
-pub is_opened : (l : Limits) (stores : Bool) → open_stop l stores ≡ Ok tt → (is_valid l ≡ true) × (stores ≡ true)
-is_opened l stores h = by (is_valid l) stores h
-  where
-    by : (v s : Bool) → ◌≡◌ {A = Result (Unit {0}) Refusal} (cond (not v) (Err NoLimits) (cond (not s) (Err StoreShort) (Ok tt))) (Ok tt) → (v ≡ true) × (s ≡ true)
-    by true true e = (refl, refl)
-    by true false e = let n : ◌≡◌ {A = ℕ} 0 1 = cc in absurd (omega arith)
-    by false s e = let n : ◌≡◌ {A = ℕ} 0 1 = cc in absurd (omega arith)
+pub is_opened : (l : Limits) (smallest : ℕ) (stores : Bool) → open_stop l smallest stores ≡ Ok tt
+    → (is_valid l ≡ true) × (grant_fits smallest l.input.size ≡ true) × (stores ≡ true)
+is_opened l smallest stores =
+    open_ends (λ x. x ≡ Ok tt → (is_valid l ≡ true) × (grant_fits smallest l.input.size ≡ true) × (stores ≡ true))
+    (no_error NoLimits) (no_error SmallestGrant) (no_error StoreShort) l smallest stores (λ v g s e. (v, g, s))
 
 -- ---- the code's test, in two halves that are each small enough to be made a part of every call (docs/DECISIONS.md, Speed)
 
@@ -129,11 +157,11 @@ is_opened l stores h = by (is_valid l) stores h
 unfoldable pub stands : Runner → Bool
 stands r = (outputs_within r.limits.chunk r.outputs && credits_fit r.credits) && leb r.turn 1
 
--- the inbox likewise, the limits, and the stores
+-- the inbox likewise, the limits, the smallest grant, and the stores
 unfoldable pub agrees : Runner → (stores : Bool) → Bool
 agrees r stores =
     (inbox_within r.limits.input.unit r.limits.input.size r.limits.chunk r.input.window r.input.inbox
-    && is_valid r.limits) && stores
+    && is_valid r.limits) && (grants r && stores)
 
 regroup : (o c t i s : Bool) → (((i && true) && s) && ((o && c) && t)) ≡ (((((o && c) && i) && t) && true) && s)
 regroup true true true true s = and-true s
@@ -161,8 +189,8 @@ good_halves r stores = by (is_valid r.limits) refl
     within : Bool
     within = inbox_within r.limits.input.unit r.limits.input.size chunk r.input.window r.input.inbox
 
-    by : (v : Bool) → is_valid r.limits ≡ v → (((within && v) && stores) && stands r) ≡ ((in_range r && v) && stores)
-    by false h = none (stands r) within stores (in_range r)
+    by : (v : Bool) → is_valid r.limits ≡ v → (((within && v) && (grants r && stores)) && stands r) ≡ ((in_range r && v) && (grants r && stores))
+    by false h = none (stands r) within (grants r && stores) (in_range r)
     by true h =
         let p = (Inbox.both (ltb 0 chunk && ltb 0 r.limits.input.size) (ltb 0 r.limits.output.size) h).0 in
         let q = Inbox.both (ltb 0 chunk) (ltb 0 r.limits.input.size) p in
@@ -172,7 +200,7 @@ good_halves r stores = by (is_valid r.limits) refl
           Queue.within_fits chunk (out_of Stderr r) hc,
           Inbox.within_fits r.limits r.input.window r.input.inbox (ltb-true 0 r.limits.input.size q.1) hc,
         )
-        (regroup (outputs_fit chunk r.outputs) (credits_fit r.credits) (leb r.turn 1) (inbox_fits r.limits r.input.window r.input.inbox) stores)
+        (regroup (outputs_fit chunk r.outputs) (credits_fit r.credits) (leb r.turn 1) (inbox_fits r.limits r.input.window r.input.inbox) (grants r && stores))
 
 -- by what the code tested, where found is whether the stores do
 module _ (r : Runner) {stores found s a : Bool} (hf : found ≡ stores) (hs : s ≡ stands r) (ha : a ≡ agrees r found) where

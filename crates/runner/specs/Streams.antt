@@ -1,4 +1,4 @@
--- The output streams and the input: what each call does once it is not refused by 12, 10 or 11.
+-- The output streams and the input: what each call does once it is not refused by 12, 10, 46 or 11.
 use Rattle.std.specs.Prelude.{ℕ, ◌-◌, max, Bool, false, cond, not, ◌&&◌, ◌||◌, List, ltb, length, Result, Ok, Err}
 use Rattle.exec.specs.declared.Receipt.{Receipt}
 use Rattle.exec.specs.declared.Admission.TheVariants.{Own, Stale}
@@ -113,7 +113,7 @@ is_taken (Err x) r = false
 is_taken (Ok Stale) r = false
 is_taken (Ok Own) r = not r.flags.finished
 
--- the answer to one that is not: of a call that meets none of refusals 12, 10 and 11, and of any
+-- the answer to one that is not: of a call that meets none of refusals 12, 10, 46 and 11, and of any
 abbrev pub met_by : Result Admission Refusal → Result Receipt Refusal
 met_by (Err x) = Err x
 met_by (Ok Stale) = Ok Stale

@@ -1,7 +1,7 @@
 -- Terminal is chosen only when the runner is ready: no bytes are queued then, so it is chosen for a buffer of any length.
 use Rattle.std.specs.Prelude.{Bool, true, false, not, ◌&&◌, ◌||◌, ◌≡◌, refl, ℕ, ◌≤◌, min, ltb}
-use Rattle.std.proofs.lemmas.Bool.{false≢true, not-true}
-use Rattle.std.proofs.Common.{sym, ap, ◌∙◌, arith, ltb-false}
+use Rattle.std.proofs.lemmas.Bool.{not-true}
+use Rattle.std.proofs.Common.{sym, ◌∙◌, arith, ltb-false}
 use Rattle.exec.specs.declared.Stream.{Stream}
 use Rattle.exec.specs.Limits.{pool_of}
 use Rattle.exec.specs.Stream.{every_stream_lem, stream_at, following}
@@ -10,49 +10,16 @@ use Rattle.lifecycle.specs.Life.{exit_known, is_fenced, is_settled}
 use Rattle.output.specs.Output.{is_done, is_delivered}
 use Rattle.output.specs.Outputs.{all_delivered}
 use Rattle.choice.specs.declared.Choice.{Choice}
-use Rattle.choice.specs.Order.{if_else, order}
 use Rattle.runner.specs.declared.runner.Runner.{Runner}
 use Rattle.runner.specs.Life.{awaits_launch, is_ready}
 use Rattle.runner.specs.Message.{sendable_of, choose}
-use Rattle.runner.specs.MessageLaws.{least}
+use Rattle.runner.specs.MessageLaws.{shown, least}
 use Rattle.runner.specs.State.{out_of, credit_at}
 
 -- ---- Terminal is chosen only when ready
 
-abbrev is_terminal : Choice → Bool
-is_terminal Choice.None = false
-is_terminal Choice.Credit = false
-is_terminal Choice.Started = false
-is_terminal Choice.InputClosed = false
-is_terminal (Choice.End x) = false
-is_terminal (Choice.Output x n) = false
-is_terminal Choice.Terminal = true
-
-peel : (b : Bool) (x y : Choice) → if_else b x y ≡ Choice.Terminal → is_terminal x ≡ false → y ≡ Choice.Terminal
-unfolding if_else
-peel true x y e n = absurd (false≢true (sym n ∙ ap is_terminal e))
-peel false x y e n = e
-
-final : (b : Bool) → if_else b Choice.Terminal Choice.None ≡ Choice.Terminal → b ≡ true
-unfolding if_else
-final true e = refl
-final false e = absurd (false≢true (ap is_terminal e))
-
-either : (b : Bool) (x y : Choice) (P : Type 0) → if_else b x y ≡ Choice.Terminal → (x ≡ Choice.Terminal → P) → (y ≡ Choice.Terminal → P) → P
-unfolding if_else
-either true x y P e f g = f e
-either false x y P e f g = g e
-
-order_ready : (finished detached can credited started closed awaits end0 end1 ready : Bool) (x : Stream) (n1 n2 : ℕ)
-    → order finished detached can credited started closed awaits end0 end1 ready x n1 n2 ≡ Choice.Terminal → ready ≡ true
-unfolding order
-order_ready finished detached can credited started closed awaits end0 end1 ready x n1 n2 e =
-    either detached _ _ (ready ≡ true) (peel finished _ _ e refl) (final ready)
-    (λ d. final ready (peel _ _ _ (peel _ _ _ (peel _ _ _ (peel _ _ _ (peel _ _ _ (peel _ _ _ (peel _ _ _ (peel _ _ _ d refl) refl) refl) refl) refl) refl) refl) refl))
-
 pub chosen_ready : (n : ℕ) (r : Runner) → choose r n ≡ Choice.Terminal → is_ready r ≡ true
-unfolding choose
-chosen_ready n r e = order_ready _ _ _ _ _ _ _ _ _ _ _ _ _ e
+chosen_ready n r e = shown r n Choice.Terminal (sym e)
 
 -- ---- and then nothing is queued
 

@@ -79,7 +79,7 @@ impl Runner {
         })
     }
 
-    // The choice of a call, given whether it meets none of refusals 12, 10 and 11.
+    // The choice of a call, given whether it meets none of refusals 12, 10, 46 and 11.
     pub(crate) fn choice(self, good: bool, buffer: usize) -> Choice
         requires { good ≡ true → InRange self }
         ensures { result ≡ choice_of good self buffer }

@@ -1,4 +1,4 @@
-// What is met before a call: refusals 12, 10 and 11.
+// What is met before a call: refusals 12, 10, 46 and 11.
 ghost use Rattle.std.specs.Prelude.{◌≡◌, leb, length, true};
 ghost use Rattle.inbox.specs.Need.{byte_need, length_need};
 ghost use Rattle.runner.specs.Range.{in_range, stop};
@@ -10,6 +10,7 @@ use crate::answer::After;
 use crate::pairs::credits_fit;
 use crate::runner::Runner;
 use exec::{Admission, Key, Limits, Receipt, Refusal};
+use inbox::receiver::grant_fits;
 
 // Whether a byte store of so many bytes does.
 pub(crate) fn bytes_do(limits: Limits, bytes: usize) -> bool
@@ -25,14 +26,17 @@ pub(crate) fn lengths_do(limits: Limits, lengths: usize) -> bool
     inbox::need::length_need(limits) <= lengths
 }
 
-// Which of 10 and 11, of an open that meets one.
-pub(crate) fn unopened(limits: Limits) -> Refusal
-    ensures { result ≡ unopened limits }
+// Which of 10, 46 and 11, of an open that meets one.
+pub(crate) fn unopened(limits: Limits, smallest: u32) -> Refusal
+    ensures { result ≡ unopened limits smallest }
 {
-    if limits.is_valid() {
+    if !limits.is_valid() {
+        return Refusal::NoLimits;
+    }
+    if grant_fits(smallest, limits.input.size) {
         return Refusal::StoreShort;
     }
-    Refusal::NoLimits
+    Refusal::SmallestGrant
 }
 
 impl Runner {
@@ -48,8 +52,8 @@ impl Runner {
             & (self.turn <= 1)
     }
 
-    // Whether none of the three is met, given whether the lent stores do, in two halves that each call asks with `&`: the inbox, the
-    // limits and the stores; and the outputs, the accounts and the turn, for limits that are valid. One function of both would be too
+    // Whether none of the four is met, given whether the lent stores do, in two halves that each call asks with `&`: the inbox, the
+    // limits, the smallest grant and the stores; and the outputs, the accounts and the turn, for limits that are valid. One function of both would be too
     // large for the compiler to make it a part of every call, and would copy the runner for each. The inbox comes first: its test
     // goes by the unit, and what was tested before it would have to be kept over the branch.
     #[tactic(auto, unfolding(crate::specs::RangeLaws::agrees))]
@@ -60,7 +64,8 @@ impl Runner {
         let input = self.input;
         let inbox = input.inbox;
         let window = input.window;
-        (inbox.within(limits, window) & limits.is_valid()) & stores
+        (inbox.within(limits, window) & limits.is_valid())
+            & (grant_fits(window.smallest, limits.input.size) & stores)
     }
 
     #[tactic(auto, unfolding(crate::specs::RangeLaws::stands))]
@@ -75,13 +80,13 @@ impl Runner {
             & (self.turn <= 1)
     }
 
-    // Which of the three, of a call that meets one.
+    // Which of the four, of a call that meets one.
     #[tactic(auto, unfolding(crate::specs::RangeLaws::stopped))]
     pub(crate) fn stopped(self) -> Refusal
         ensures { result ≡ stopped self }
     {
         if self.in_range() {
-            return unopened(self.limits);
+            return unopened(self.limits, self.input.window.smallest);
         }
         Refusal::StateOutOfRange
     }
@@ -98,7 +103,7 @@ impl Runner {
         Err(self.stopped())
     }
 
-    // The same, given whether it meets none of the three: of a call that changes the runner in place. `answer` and `meets` test that
+    // The same, given whether it meets none of the four: of a call that changes the runner in place. `answer` and `meets` test that
     // themselves, as a `reply` with more callers is no part of each (a tick takes 160 instructions so, and 218 by `?`).
     #[tactic(auto, unfolding(crate::specs::RangeLaws::stop_if))]
     pub(crate) fn reply(self, good: bool) -> Result<(), Refusal>

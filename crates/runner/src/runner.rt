@@ -1,6 +1,6 @@
 // The side of an execution that runs its workload. The state goes in by value and comes back beside the answer; its queues
 // stand in stores that the caller lends: the byte store has a ring of a chunk for each output stream and then the inbox, the
-// length store the frames of the input. Every call first meets 12, 10 and, for a store that it is lent, 11.
+// length store the frames of the input. Every call first meets 12, 10, 46 and, for a store that it is lent, 11.
 ghost use Rattle.std.specs.Prelude.{◌≡◌};
 ghost use Rattle.runner.specs.Calls.{
   «open»,
@@ -52,6 +52,7 @@ use exec::{
     Admission, Cause, Key, LaunchFailure, Limits, Pool, Receipt, Refusal, Settlement, Status,
     Stream, Timers,
 };
+use inbox::receiver::grant_fits;
 use input::Input;
 use lifecycle::clocks::Clocks;
 use lifecycle::flags::Flags;
@@ -82,42 +83,43 @@ pub struct Runner {
 }
 
 impl Runner {
-    // A fresh runner of the execution `key`, created at an instant from which its timeout runs. A refused open hands back a
-    // runner without limits, on which every call is refused by 10.
+    // A fresh runner of the execution `key`, created at an instant from which its timeout runs, whose input is granted at least
+    // `smallest` units at once. A refused open hands back a runner without limits, on which every call is refused by 10.
     #[tactic(auto, unfolding(crate::specs::Calls::open))]
     pub fn open(
         key: Key,
         limits: Limits,
         timers: Timers,
+        smallest: u32,
         created: u64,
         store: &[u8],
         lengths: &[u32],
     ) -> After<()>
-        ensures { result ≡ «open» key limits timers created store.now lengths.now }
+        ensures { result ≡ «open» key limits timers smallest created store.now lengths.now }
     {
         let enough = bytes_do(limits, store.len()) & lengths_do(limits, lengths.len());
-        if limits.is_valid() & enough {
-            let runner = Runner::fresh(key, limits, timers, created);
+        if limits.is_valid() & (grant_fits(smallest, limits.input.size) & enough) {
+            let runner = Runner::fresh(key, limits, timers, smallest, created);
             return After {
                 runner,
                 answer: Ok(()),
             };
         }
         let none = Limits::none();
-        let runner = Runner::fresh(key, none, timers, created);
+        let runner = Runner::fresh(key, none, timers, smallest, created);
         After {
             runner,
-            answer: Err(unopened(limits)),
+            answer: Err(unopened(limits, smallest)),
         }
     }
 
     #[tactic(auto, unfolding(crate::specs::Range::fresh))]
-    fn fresh(key: Key, limits: Limits, timers: Timers, now: u64) -> Runner
-        ensures { result ≡ fresh key limits timers now }
+    fn fresh(key: Key, limits: Limits, timers: Timers, smallest: u32, now: u64) -> Runner
+        ensures { result ≡ fresh key limits timers smallest now }
     {
         let output = Output::new();
         let credit = Credit::new(limits.output.size);
-        let input = Input::new(limits.input.size);
+        let input = Input::new(limits.input.size, smallest);
         let timeout_at = timers.timeout_at(now);
         Runner {
             key,

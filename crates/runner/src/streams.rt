@@ -1,4 +1,4 @@
-// The output streams, the credit and the input: what each call does once it is not refused by 12, 10 or 11.
+// The output streams, the credit and the input: what each call does once it is not refused by 12, 10, 46 or 11.
 ghost use Rattle.std.specs.Prelude.{◌≡◌, cond, not, ◌&&◌, ◌≤◌, ◌<◌, ◌^◌, max, length};
 ghost use Rattle.exec.specs.declared.Admission.TheVariants.{Own};
 ghost use Rattle.exec.specs.Key.{admits};
@@ -49,7 +49,7 @@ impl Runner {
         self.high_water.max(self.held())
     }
 
-    // Whether a message of the peer's does something, given whether it meets none of refusals 12, 10 and 11: its key is the
+    // Whether a message of the peer's does something, given whether it meets none of refusals 12, 10, 46 and 11: its key is the
     // execution's own, and the outcome was not returned.
     pub(crate) fn hears(self, good: bool, key: Key) -> bool
         ensures { result ≡ (good && is_taken (admits self.key key) self) }
