@@ -104,12 +104,13 @@ pub fn key() -> Key {
 // calls that are measured are not made here, so that each has one caller.
 pub fn running(limits: Limits, timeout: u64, store: &[u8], lengths: &[u32], units: u32) -> Runner {
     let timers = Timers::new(1000, 1000).timeout(timeout);
-    let mut r = Runner::open(key(), limits, timers, 0, store, lengths).runner;
+    let mut r = Runner::open(key(), limits, timers, 1, 0, store, lengths).runner;
     r = r.launched(Ok(())).runner;
     r.flags.started_message = false;
     r.input.window = Granted {
         open: limits.input.size,
         returnable: 0,
+        smallest: 1,
     };
     let window = limits.output.size;
     let stdout = Credit {

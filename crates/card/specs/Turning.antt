@@ -62,7 +62,7 @@ unfoldable pub new_card : Card
 new_card = record {
   standing = record {
     stage = Stage.First;
-    runner = (Calls.«open» (new_key 0 0) no_limits (new_timers 0 0) 0 [] []).runner;
+    runner = (Calls.«open» (new_key 0 0) no_limits (new_timers 0 0) 1 0 [] []).runner;
   };
   lines = 0;
   held = 0;

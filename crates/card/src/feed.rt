@@ -116,7 +116,7 @@ impl Card {
         ensures { result ≡ new_card }
     {
         let none = Limits::none();
-        let noting = Runner::open(Key::new(0, 0), none, Timers::new(0, 0), 0, &[], &[]);
+        let noting = Runner::open(Key::new(0, 0), none, Timers::new(0, 0), 1, 0, &[], &[]);
         let runner = noting.runner;
         Card {
             standing: Standing {

@@ -15,7 +15,7 @@ use Rattle.runner.specs.Message.{MessageAfter, message_after}
 use Rattle.runner.specs.Range.{bytes_do, stop}
 use Rattle.std.proofs.Math.Bool.{true, false}
 
--- ---- what is met first: 12, 10, 11, and then, where the carrier is not for the runner, a refusal of its own
+-- ---- what is met first: 12, 10, 46, 11, and then, where the carrier is not for the runner, a refusal of its own
 
 abbrev pub is_bytes : Units.Unit → Bool
 is_bytes Bytes = true

@@ -10,9 +10,9 @@ use exec::{Limits, Receipt, Refusal};
 use runner::answer::{After, Message};
 use runner::runner::Runner;
 
-// ---- what is met first: 12, 10, 11, and then the carrier's own refusal
+// ---- what is met first: 12, 10, 46, 11, and then the carrier's own refusal
 
-// The runner's own limits tell 12 and 10; `enough` is whether the lent stores do, `carries` whether the carrier is for the
+// The runner's own limits tell 12, 10 and 46; `enough` is whether the lent stores do, `carries` whether the carrier is for the
 // runner. (All are tests of a runner that the call behind them takes away.)
 #[tactic(auto, unfolding(crate::specs::CarrierLaws::admitted_by, crate::specs::Carrier::carried))]
 pub fn admit(

@@ -1,17 +1,16 @@
 -- What the record of a Terminal tells, that a Terminal that is left stays with the runner, and what a write keeps of the buffer.
-use Rattle.std.specs.Prelude.{Bool, cond, not, List, ℕ, ◌+◌, ◌-◌, ◌^◌, ◌≤◌, ◌<◌, length, take, drop, ◌++◌, Option, Result, Some, None, Ok, Err}
+use Rattle.std.specs.Prelude.{Bool, List, ℕ, ◌+◌, ◌-◌, ◌^◌, ◌≤◌, ◌<◌, eqb, length, take, drop, ◌++◌, Option, Result, Some, None, Ok, Err}
 use Rattle.std.proofs.Math.Bool.{true, false}
 use Rattle.std.proofs.lemmas.Bool.{false≢true}
 use Rattle.std.proofs.Math.Path.{◌≡◌, refl, sym, ap, subst⁻¹}
-use Rattle.std.proofs.Common.{subst, ◌∙◌, arith, length-append, length-drop, length-take-le}
+use Rattle.std.proofs.Common.{subst, ◌∙◌, arith, eq-eqb, true≢false, length-append, length-drop, length-take-le}
 use Rattle.exec.specs.declared.Limits.{Limits}
 use Rattle.exec.specs.declared.Refusal.{Refusal}
-use Rattle.exec.specs.declared.Refusal.TheVariants.{NoLimits, StoreShort, StateOutOfRange, UntoldStatus}
+use Rattle.exec.specs.declared.Refusal.TheVariants.{NoLimits, StoreShort, StateOutOfRange, UntoldStatus, SmallestGrant}
 use Rattle.exec.specs.declared.Outcome.{Outcome}
 use Rattle.exec.specs.declared.Status.{Status}
 use Rattle.exec.specs.declared.Stream.{Stream}
 use Rattle.exec.specs.declared.Stream.TheVariants.{Stdout, Stderr}
-use Rattle.exec.specs.Limits.{is_valid}
 use Rattle.exec.specs.Refusal.{number}
 use Rattle.choice.specs.declared.Choice.{Choice}
 use Rattle.runner.specs.declared.answer.Message.{Message}
@@ -19,7 +18,8 @@ use Rattle.runner.specs.declared.runner.Runner.{Runner}
 use Rattle.runner.specs.Calls as Calls
 use Rattle.runner.specs.Life.{outcome_of}
 use Rattle.runner.specs.Message.{choose, said_for}
-use Rattle.runner.specs.Range.{in_range, bytes_do, stop}
+use Rattle.runner.specs.Range.{bytes_do, stop}
+use Rattle.runner.specs.RangeLaws.{stop_ends}
 use Rattle.runner.specs.TerminalLaws.{still}
 use Rattle.codec.specs.declared.Record.{Record}
 use Rattle.codec.specs.declared.Record.TheVariants.{Adjust, Data, Extended, Eof}
@@ -60,13 +60,14 @@ said_number (Choice.End x) r channel ended = refl
 said_number (Choice.Output x n) r channel ended = refl
 said_number Choice.Terminal r channel ended = refl
 
-stop_number : (i v s : Bool) (x : Refusal)
-    → ◌≡◌ {A = Result (Unit {0}) Refusal} (cond (not i) (Err StateOutOfRange) (cond (not v) (Err NoLimits) (cond (not s) (Err StoreShort) (Ok tt)))) (Err x)
-    → number x < 40
-stop_number false v s x e = let q : number StateOutOfRange ≡ number x = cc in omega arith
-stop_number true false s x e = let q : number NoLimits ≡ number x = cc in omega arith
-stop_number true true false x e = let q : number StoreShort ≡ number x = cc in omega arith
-stop_number true true true x e = let z : ◌≡◌ {A = ℕ} 0 1 = cc in absurd (omega arith)
+-- what a call meets ahead of it is no 40
+stop_number : (r : Runner) (stores : Bool) (x : Refusal) → stop r stores ≡ Err x → number x ≡ 40 → ⊥
+stop_number r stores =
+    stop_ends (λ m. (x : Refusal) → m ≡ Err x → number x ≡ 40 → ⊥) (other NoLimits refl) (other SmallestGrant refl) (other StoreShort refl) r stores
+    (other StateOutOfRange refl) (λ i v g s x e n. (let z : ◌≡◌ {A = ℕ} 0 1 = cc in absurd (omega arith)))
+  where
+    other : (y : Refusal) → eqb (number y) 40 ≡ false → (x : Refusal) → ◌≡◌ {A = Result (Unit {0}) Refusal} (Err y) (Err x) → number x ≡ 40 → ⊥
+    other y f x e n = let q : number y ≡ number x = cc in true≢false (sym (eq-eqb (number y) 40 (q ∙ n)) ∙ f)
 
 module _ (r : Runner) (channel : ℕ) (store b : List ℕ) where
   k : Carriage
@@ -101,7 +102,7 @@ module _ (r : Runner) (channel : ℕ) (store b : List ℕ) where
       by (Ok tt) g = by_writes g _ _ (writes k r store b g) refl n
       by (Err x) g =
           let z : number x ≡ 40 = sym (ap (λ (w : WriteAfter). number_of w.writing.answer) (stopped k r store b x g)) ∙ n in
-          absurd (omega (arith, stop_number (in_range r) (is_valid r.limits) (bytes_do r.limits store) x g))
+          absurd (stop_number r (bytes_do r.limits store) x g z)
 
 -- ---- a Terminal that is told
 

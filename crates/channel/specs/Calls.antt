@@ -1,4 +1,4 @@
--- The two record calls on a runner, each whole: 12, 10, 11 and 13 first, then the record's own refusals, which all change
+-- The two record calls on a runner, each whole: 12, 10, 46, 11 and 13 first, then the record's own refusals, which all change
 -- nothing, and then the call that the record makes. A record read makes one of the runner's calls; a record written is a message.
 use Rattle.std.specs.Prelude.{Bool, false, cond, ◌&&◌, List, ◌++◌, ℕ, ◌+◌, length, drop, Option, Result, Some, None, Ok, Err}
 use Rattle.exec.specs.declared.Limits.{Limits}

@@ -66,7 +66,7 @@ in_frames = limits_for 4 (frames_window 2) (bytes_window 8) false
 -- a runner as open returns it
 opened : Limits → Runner
 unfolding Calls.«open» Range.fresh Range.stop Range.in_range output_fits bytes_with admits
-opened l = (Calls.«open» own l timers 0 (zeros 16) (zeros 2)).runner
+opened l = (Calls.«open» own l timers 1 0 (zeros 16) (zeros 2)).runner
 
 -- and after its first message, Credit: the input's window is open
 granted : Limits → Runner
@@ -179,7 +179,7 @@ edge8 = refl
 -- (9) "2^64 − 2 plus 1 is a time, plus 2 none": the timeout of a runner opened then
 timed : ℕ → Result (Option ℕ) Refusal
 unfolding opened Calls.deadline Life.deadline_of
-timed timeout = Calls.deadline (Calls.«open» own in_bytes (with_timeout timers timeout) (2 ^ 64 - 2) (zeros 16) []).runner
+timed timeout = Calls.deadline (Calls.«open» own in_bytes (with_timeout timers timeout) 1 (2 ^ 64 - 2) (zeros 16) []).runner
 
 edge9 : (timed 1 ≡ Ok (Some (2 ^ 64 - 1))) × (timed 2 ≡ Ok None)
 unfolding timed
@@ -188,7 +188,7 @@ edge9 = (refl, refl)
 -- (10) "Chunk 4, Frames 2: 16 bytes and 2 lengths do, 15 give 11"; so does one length
 opened_with : (bytes lengths : ℕ) → Result (Unit {0}) Refusal
 unfolding Calls.«open» bytes_with
-opened_with bytes lengths = (Calls.«open» own in_frames timers 0 (zeros bytes) (zeros lengths)).answer
+opened_with bytes lengths = (Calls.«open» own in_frames timers 1 0 (zeros bytes) (zeros lengths)).answer
 
 edge10 : (opened_with 16 2 ≡ Ok tt)
     × (opened_with 15 2 ≡ Err Refusal.StoreShort)

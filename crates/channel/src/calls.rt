@@ -34,7 +34,7 @@ pub enum Sending {
     Ending(Option<Status>),
 }
 
-// ---- what is met before a record: 12, 10, 11, 13
+// ---- what is met before a record: 12, 10, 46, 11, 13
 
 // Whether both streams have one pool, and bytes are counted both ways, as on a channel.
 fn is_channel(limits: Limits) -> bool

@@ -59,6 +59,7 @@ fn open(limits: Limits, store: &[u8]) -> Runner {
         Key::new(7, 2),
         limits,
         Timers::new(10, 5),
+        1,
         10,
         store,
         &lengths,

@@ -1,6 +1,6 @@
 -- DATA that ends its stream is refused as a whole or not at all: where its bytes are not refused, the end of the input that is made
 -- behind them answers as they did, of every runner that takes bytes.
-use Rattle.std.specs.Prelude.{Bool, true, false, cond, not, ◌&&◌, ◌≡◌, refl, List, ℕ, ◌+◌, ◌-◌, ◌≤◌, leb, eqb, length, Result, Ok, Err}
+use Rattle.std.specs.Prelude.{Bool, true, false, cond, ◌&&◌, ◌≡◌, refl, List, ℕ, ◌+◌, ◌-◌, ◌≤◌, leb, eqb, length, Result, Ok, Err}
 use Rattle.std.proofs.lemmas.Bool.{false≢true}
 use Rattle.std.proofs.Common.{ap, arith, le-leb, leb-true, ltb-false}
 use Rattle.exec.specs.declared.Admission.{Admission}
@@ -19,14 +19,15 @@ use Rattle.inbox.specs.Range.{ring_fits, frames_fit, inbox_fits}
 use Rattle.inbox.specs.Receiver.{units_fit}
 use Rattle.inbox.specs.RangeLaws.{both}
 use Rattle.input.specs.Input as Input
-use Rattle.input.specs.Input.{off_window, is_receipt, is_paid, is_kept, passed}
+use Rattle.input.specs.Input.{off_window, is_receipt, is_paid, is_kept}
 use Rattle.output.specs.Outputs.{outputs_fit}
 use Rattle.runner.specs.State.{credits_fit}
 use Rattle.runner.specs.declared.runner.Runner.{Runner}
 use Rattle.runner.specs.Calls as Calls
 use Rattle.runner.specs.Calls.{stores_do}
 use Rattle.runner.specs.Range.{in_range, stop}
-use Rattle.runner.specs.RangeLaws.{unstopped}
+use Rattle.runner.specs.RangeLaws.{passed, unstopped}
+use Rattle.runner.specs.SmallestLaws.{input_smallest}
 use Rattle.runner.specs.Streams.{input_answer, input_next, received, end_answer}
 
 and_true : (a b : Bool) → a ≡ true → b ≡ true → a && b ≡ true
@@ -43,7 +44,7 @@ inbox_in u size chunk g b =
 
 -- where its window paid for n bytes, which are kept or dropped
 inbox_stays : (u : Units.Unit) → u ≡ Bytes → (size chunk n : ℕ) (kept : Bool) (g : Granted) (b : Inbox) → cost u n ≤ g.open
-    → inbox_in u size chunk g b ≡ true → inbox_in u size chunk (record { «open» = g.open - cost u n; returnable = g.returnable }) (cond kept (pushed u n b) b) ≡ true
+    → inbox_in u size chunk g b ≡ true → inbox_in u size chunk (record { «open» = g.open - cost u n; returnable = g.returnable; smallest = g.smallest }) (cond kept (pushed u n b) b) ≡ true
 unfolding cost bytes_with
 inbox_stays Bytes e size chunk n kept g b h f = by kept
   where
@@ -65,7 +66,7 @@ inbox_stays Bytes e size chunk n kept g b h f = by kept
         and_true _ _ (and_true _ _ (both ring (leb b.length size) p.0).0 (le-leb length size l))
         (and_true _ _ (le-leb (g.open - n + g.returnable + length) size m) (both (units_fit g b.length size) frames p.1).1)
 
-    by : (kept : Bool) → inbox_in Bytes size chunk (record { «open» = g.open - n; returnable = g.returnable }) (cond kept (pushed Bytes n b) b) ≡ true
+    by : (kept : Bool) → inbox_in Bytes size chunk (record { «open» = g.open - n; returnable = g.returnable; smallest = g.smallest }) (cond kept (pushed Bytes n b) b) ≡ true
     by true = whole (b.length + n) (omega (arith, units)) (omega (arith, units))
     by false = whole b.length (omega (arith, units)) (omega (arith, units))
 inbox_stays Frames e size chunk n kept g b h f = let z : ◌≡◌ {A = ℕ} 0 1 = cc in absurd (omega arith)
@@ -73,7 +74,7 @@ inbox_stays Frames e size chunk n kept g b h f = let z : ◌≡◌ {A = ℕ} 0 1
 module _ (r : Runner) (n : ℕ) (bytes : r.limits.input.unit ≡ Bytes) where
   -- (the window paid for what is not refused)
   paid : is_paid r.limits r.input n ≡ true → cost r.limits.input.unit n ≤ r.input.window.open
-  paid e = ltb-false r.input.window.open (cost r.limits.input.unit n) (passed r.limits r.input n e).window
+  paid e = ltb-false r.input.window.open (cost r.limits.input.unit n) (Input.passed r.limits r.input n e).window
 
   stays : (finished : Bool) (x : Receipt) → r.flags.finished ≡ finished → input_answer (Ok Own) r n ≡ Ok x → in_range r ≡ true → in_range (input_next (Ok Own) r n) ≡ true
   unfolding in_range input_next input_answer Input.receive_input
@@ -109,16 +110,6 @@ module _ (r : Runner) (n : ℕ) (bytes : r.limits.input.unit ≡ Bytes) (x : Rec
   by_key (Ok Stale) e h = (h, e)
   by_key (Err y) e h = let z : ◌≡◌ {A = ℕ} 0 1 = cc in absurd (omega arith)
 
-in_range_so : (r : Runner) (stores : Bool) → stop r stores ≡ Ok tt → (in_range r ≡ true) × (is_valid r.limits ≡ true)
-unfolding stop
-in_range_so r stores = by (in_range r) (is_valid r.limits) stores
-  where
-    by : (i v s : Bool) → ◌≡◌ {A = Result (Unit {0}) Refusal} (cond (not i) (Err Refusal.StateOutOfRange) (cond (not v) (Err Refusal.NoLimits) (cond (not s) (Err Refusal.StoreShort) (Ok tt)))) (Ok tt)
-        → (i ≡ true) × (v ≡ true)
-    by true true s e = (refl, refl)
-    by true false s e = let z : ◌≡◌ {A = ℕ} 0 1 = cc in absurd (omega arith)
-    by false v s e = let z : ◌≡◌ {A = ℕ} 0 1 = cc in absurd (omega arith)
-
 -- BYTES AND THEIR END ANSWER ALIKE
 pub alike : (r : Runner) (b store lengths : List ℕ) (x : Receipt) → r.limits.input.unit ≡ Bytes → stop r (stores_do r store lengths) ≡ Ok tt
     → (Calls.input r r.key b store lengths).hearing.answer ≡ Ok x
@@ -126,9 +117,9 @@ pub alike : (r : Runner) (b store lengths : List ℕ) (x : Receipt) → r.limits
 unfolding Calls.input Calls.end_input received input_next
 alike r b store lengths x bytes g e =
     let a = admits r.key r.key in
-    let h = in_range_so r (stores_do r store lengths) g in
+    let h = passed r (stores_do r store lengths) g in
     let p = by_key r (length b) bytes x a (rw g at e) h.0 in
-    let next : stop (input_next a r (length b)) true ≡ Ok tt = unstopped (input_next a r (length b)) true p.0 (valid a h.1) refl in
+    let next : stop (input_next a r (length b)) true ≡ Ok tt = unstopped (input_next a r (length b)) true p.0 (valid a h.1) (rw (input_smallest a r (length b)) h.2) refl in
     rw (g, next) p.1
   where
     valid : (a : Result Admission Refusal) → is_valid r.limits ≡ true → is_valid (input_next a r (length b)).limits ≡ true

@@ -1,4 +1,4 @@
--- The two frame calls on a runner, each whole: 12, 10, 11 and 42 first, then the frame's own refusals, 43 and 44, which all change
+-- The two frame calls on a runner, each whole: 12, 10, 46, 11 and 42 first, then the frame's own refusals, 43 and 44, which all change
 -- nothing, and then the calls that the frame makes. A message is written as no frame, one, or two.
 use Rattle.std.specs.Prelude.{Bool, true, false, cond, not, ◌&&◌, List, [], ◌∷◌, ◌++◌, ℕ, ◌+◌, eqb, leb, length, take, drop, Result, Ok, Err}
 use Rattle.exec.specs.declared.Receipt.{Receipt}
@@ -21,7 +21,7 @@ use Rattle.framing.specs.declared.Frame.{Frame}
 use Rattle.framing.specs.declared.Frame.TheVariants.{Update, Data, Reset}
 use Rattle.framing.specs.Framing.{is_stream, start, size, bytes_of, read}
 
--- ---- what is met before a frame: 12, 10, 11, 42
+-- ---- what is met before a frame: 12, 10, 46, 11, 42
 
 -- a pool for each stream, and bytes counted both ways
 abbrev pub is_plain : Limits → Bool

@@ -71,7 +71,7 @@ own = new_key 7 2
 
 opened : Runner
 unfolding Calls.«open» Range.fresh Range.stop Range.in_range output_fits bytes_with admits limits
-opened = (Calls.«open» own (limits 4 8 8 false) (new_timers 10 5) 0 (zeros 16) []).runner
+opened = (Calls.«open» own (limits 4 8 8 false) (new_timers 10 5) 1 0 (zeros 16) []).runner
 
 -- what a frame leaves that is read at instant 3, and the next message's frames, in a buffer of sevens
 reads : Runner → List ℕ → ReadAfter

@@ -31,7 +31,7 @@ const MOST_PAYLOAD: u32 = 16384;
 
 const MOST_WINDOW: u32 = 2147483647;
 
-// ---- what is met before a frame: 12, 10, 11, 42
+// ---- what is met before a frame: 12, 10, 46, 11, 42
 
 // Whether each stream has a pool, and bytes are counted both ways.
 fn is_plain(limits: Limits) -> bool

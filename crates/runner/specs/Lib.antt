@@ -5,6 +5,7 @@ pub mod Streams
 pub mod Message
 pub mod Range
 pub mod RangeLaws
+pub mod SmallestLaws
 pub mod MessageLaws
 pub mod TerminalLaws
 pub mod Calls

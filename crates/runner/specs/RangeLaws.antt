@@ -127,10 +127,14 @@ pub record Good (r : Runner) (stores : Bool) : Type 0 where
   pub grants : grants r ≡ true
   pub stores_do : stores ≡ true
 
+-- what a call that meets none has passed
+pub passed : (r : Runner) (stores : Bool) → stop r stores ≡ Ok tt → (in_range r ≡ true) × (is_valid r.limits ≡ true) × (grants r ≡ true) × (stores ≡ true)
+passed r stores =
+    stop_ends (λ x. x ≡ Ok tt → (in_range r ≡ true) × (is_valid r.limits ≡ true) × (grants r ≡ true) × (stores ≡ true))
+    (no_error NoLimits) (no_error SmallestGrant) (no_error StoreShort) r stores (no_error StateOutOfRange) (λ i v g s e. (i, v, g, s))
+
 pub is_good_lem : (r : Runner) (stores : Bool) → stop r stores ≡ Ok tt → Good r stores
-is_good_lem r stores =
-    stop_ends (λ x. x ≡ Ok tt → Good r stores) (no_error NoLimits) (no_error SmallestGrant) (no_error StoreShort) r stores (no_error StateOutOfRange)
-    (λ i v g s e. record { range = in_range_lem r i; valid = v; grants = g; stores_do = s })
+is_good_lem r stores e = let p = passed r stores e in record { range = in_range_lem r p.0; valid = p.1; grants = p.2; stores_do = p.3 }
 
 -- what open found
 pub open_by_lem : (l : Limits) (smallest : ℕ) (stores b : Bool) → (is_valid l && (grant_fits smallest l.input.size && stores)) ≡ b

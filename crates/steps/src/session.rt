@@ -57,6 +57,7 @@ impl<'a, W: Write, C: Carrier> Session<'a, W, C> {
             Key::new(7, 2),
             limits,
             Timers::new(10, 5),
+            1,
             NOW,
             store,
             &lengths,
