@@ -20,7 +20,8 @@ use Rattle.inbox.specs.Need.{byte_need, length_need_as, length_need}
 use Rattle.input.specs.declared.Input.{Input}
 use Rattle.runner.specs.Calls as Calls
 use Rattle.runner.specs.Range.{bytes_do, lengths_do, stop, open_stop, fresh}
-use Rattle.runner.specs.RangeLaws.{unstopped}
+use Rattle.inbox.specs.Receiver.{grant_fits}
+use Rattle.runner.specs.RangeLaws.{grants, unstopped}
 use Rattle.calls.specs.Call as Call
 use Rattle.calls.specs.Call.{Conf, Call, Done}
 use Rattle.account.specs.Step as Step
@@ -54,15 +55,16 @@ slots_by : (u : units.Unit) (l : Limits) (lengths : List ℕ) (i : Input) → He
 slots_by Bytes l lengths i h = omega arith
 slots_by Frames l lengths i h = h.4
 
--- a state that came from open: in range, lent enough, with limits
+-- a state that came from open: in range, lent enough, with limits, and a smallest grant that open takes
 pub record Fine (s : State) : Type 0 where
   pub sound : Sound s
   pub limits : is_valid s.runner.limits ≡ true
+  pub grants : grants s.runner ≡ true
 
 pub goes : (s : State) (c : Call) → Fine s → stop s.runner (enough s c) ≡ Ok tt
 goes s c h =
     let r = h.sound.ranged in
-    unstopped s.runner (enough s c) (in_range_lem s.lengths s.runner r) h.limits
+    unstopped s.runner (enough s c) (in_range_lem s.lengths s.runner r) h.limits h.grants
     (enough_all c s (le-leb (byte_need s.runner.limits) (length s.bytes) h.sound.roomy)
     (le-leb (length_need s.runner.limits) (length s.lengths) (slots_by s.runner.limits.input.unit s.runner.limits s.lengths s.runner.input r.2.0)))
 
@@ -70,6 +72,7 @@ pub fine_next : (c : Call) (s : State) → Fine s → Fine (next s c)
 fine_next c s h = record {
   sound = sound_next c s h.sound;
   limits = rw (ap (λ (x : Conf). x.limits) (framed_conf (framed c s))) h.limits;
+  grants = subst⁻¹ (λ (x : Conf). grant_fits x.smallest x.limits.input.size ≡ true) (framed_conf (framed c s)) h.grants;
 }
 
 fine_list : (cs : List Call) (s : State) → Fine s → Fine (after_all s cs)
@@ -92,18 +95,21 @@ after_same (c ∷ cs) s h = rw (next_same s c h) (after_same cs (next s c) (fine
 
 -- ---- open
 
-pub fine_open : (conf : Conf) (now : ℕ) (bytes lengths : List ℕ) → Lent conf.limits bytes lengths → Fine (begun conf now bytes lengths)
+pub fine_open : (conf : Conf) (now : ℕ) (bytes lengths : List ℕ) → Lent conf bytes lengths → Fine (begun conf now bytes lengths)
 unfolding fresh
-fine_open conf now bytes lengths o = record { sound = sound_open conf now bytes lengths o; limits = o.limits }
+fine_open conf now bytes lengths o = record { sound = sound_open conf now bytes lengths o; limits = o.limits; grants = o.grants }
 
 pub opens_by : (conf : Conf) (now : ℕ) (bytes lengths : List ℕ) → Opens conf now bytes lengths
-    → open_stop conf.limits (bytes_do conf.limits bytes && lengths_do conf.limits lengths) ≡ Ok tt
+    → open_stop conf.limits conf.smallest (bytes_do conf.limits bytes && lengths_do conf.limits lengths) ≡ Ok tt
 unfolding Calls.«open»
-opens_by conf now bytes lengths op = by (open_stop conf.limits (bytes_do conf.limits bytes && lengths_do conf.limits lengths)) op
+opens_by conf now bytes lengths op = by (open_stop conf.limits conf.smallest (bytes_do conf.limits bytes && lengths_do conf.limits lengths)) op
   where
-    by : (x : Result (Unit {0}) Refusal) → (Calls.open_by x conf.key conf.limits conf.timers now).answer ≡ Ok tt → x ≡ Ok tt
+    by : (x : Result (Unit {0}) Refusal) → (Calls.open_by x conf.key conf.limits conf.timers conf.smallest now).answer ≡ Ok tt → x ≡ Ok tt
     by (Ok tt) e = refl
     by (Err y) e = e
+
+pub lent_open : (conf : Conf) (now : ℕ) (bytes lengths : List ℕ) → Opens conf now bytes lengths → Lent conf bytes lengths
+lent_open conf now bytes lengths op = lent conf bytes lengths (opens_by conf now bytes lengths op)
 
 pub open_same : (conf : Conf) (now : ℕ) (bytes lengths : List ℕ) → Opens conf now bytes lengths → Step.opened conf now bytes lengths ≡ begun conf now bytes lengths
 unfolding Calls.«open»
@@ -112,8 +118,8 @@ open_same conf now bytes lengths op = rw (opens_by conf now bytes lengths op) re
 -- ---- the demand
 
 module _ (conf : Conf) (now : ℕ) (bytes lengths : List ℕ) (op : Opens conf now bytes lengths) where
-  lt : Lent conf.limits bytes lengths
-  lt = lent conf.limits bytes lengths (opens_by conf now bytes lengths op)
+  lt : Lent conf bytes lengths
+  lt = lent_open conf now bytes lengths op
 
   f0 : Fine (begun conf now bytes lengths)
   f0 = fine_open conf now bytes lengths lt

@@ -25,7 +25,8 @@ use Rattle.account.specs.Step.{State, received_as, asks}
 use Rattle.account.proofs.Plain.{said, next, answer, run, after_all}
 use Rattle.account.specs.Claim.{is_message, is_terminal, Silent, any_terminal}
 use Rattle.account.proofs.Timers.{detach_keeps, exited_keeps, launched_keeps}
-use Rattle.account.proofs.Lives.{conf_of, Frame, frame, timed, ticked_frame, cancel_frame}
+use Rattle.runner.specs.SmallestLaws.{input_smallest, end_smallest, written_smallest, close_smallest}
+use Rattle.account.proofs.Lives.{conf_of, Frame, frame, frame_by, timed, ticked_frame, cancel_frame}
 
 handed_frame : (w : Request) (s : Runner) → frame (handed w s) ≡ frame s
 handed_frame (Request.Terminate c) s = refl
@@ -54,6 +55,10 @@ effect_framed _ s b = kept refl
 pub framed : (c : Call) (s : State) → Framed s.runner (next s c).runner (answer s c)
 unfolding next answer credit_next input_next end_next launched_next output_next discarded_next closed_next failed_next hung_up_next written_next close_runner_input settled_next
 framed (Call.cancel now k c) s = kept (cancel_frame (admits s.runner.key k) now c s.runner)
+framed (Call.input k b) s = kept (frame_by s.runner _ (input_smallest (admits s.runner.key k) s.runner (length b)))
+framed (Call.end_input k) s = kept (frame_by s.runner _ (end_smallest (admits s.runner.key k) s.runner))
+framed (Call.input_written n) s = kept (frame_by s.runner _ (written_smallest s.runner n s.lengths))
+framed Call.input_closed s = kept (frame_by s.runner _ (close_smallest s.runner))
 framed (Call.launched x) s = kept (launched_keeps _ (timed s.runner) x s.runner refl)
 framed (Call.exited now x) s = kept (exited_keeps _ (timed s.runner) now x s.runner refl)
 framed (Call.dropped now) s = kept (detach_keeps _ (timed s.runner) now Cause.Dropped s.runner refl)

@@ -48,10 +48,10 @@ use Rattle.account.proofs.Plain.{next, answer, begun}
 use Rattle.account.proofs.Rings.{ring_split}
 use Rattle.account.proofs.Streams.{keeps_less}
 use Rattle.account.proofs.Sides.{base_behind}
-use Rattle.account.proofs.Range.{lent, in_range_lem}
+use Rattle.account.proofs.Range.{in_range_lem}
 use Rattle.account.proofs.Finish.{framed, framed_conf}
 use Rattle.account.proofs.EachCall.{kept_room}
-use Rattle.account.proofs.Demand.{Fine, fine_next, next_same, answer_same, fine_open, opens_by, open_same, same_after, same_answer}
+use Rattle.account.proofs.Demand.{Fine, fine_next, next_same, answer_same, fine_open, open_same, same_after, same_answer, lent_open}
 use Rattle.account.proofs.Records.{same_dones, good_open, to_calls}
 use Rattle.account.proofs.InputMoves.{Moves, same, shut, close, ticks, launches, exits, detaches, cancels}
 use Rattle.ring.specs.Flags.{and_l, and_r}
@@ -272,7 +272,7 @@ module _ (conf : Conf) (now : ℕ) (bytes lengths : List ℕ) (op : Opens conf n
   unfolding fresh
   all_seen cs =
       let s : State = begun conf now bytes lengths in
-      let p = fifo_list cs s (fine_open conf now bytes lengths (lent conf.limits bytes lengths (opens_by conf now bytes lengths op))) in
+      let p = fifo_list cs s (fine_open conf now bytes lengths (lent_open conf now bytes lengths op)) in
       subst⁻¹ (λ (x : State). IsPrefix (seen x cs) (brought (Step.run x cs))) (open_same conf now bytes lengths op)
       (subst (λ (x : List ℕ). IsPrefix (seen s cs) (x ++ brought (Step.run s cs))) (read_none (inbox_base conf.limits) (inbox_size conf.limits) 0 bytes) p)
 

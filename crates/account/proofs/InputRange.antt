@@ -193,6 +193,7 @@ received_if pays keeps l n i = record {
   window = record {
     «open» = cond pays (i.window.open - cost l.input.unit n) i.window.open;
     returnable = i.window.returnable;
+    smallest = i.window.smallest;
   };
   peer_ended = i.peer_ended;
   closed = i.closed;

@@ -127,7 +127,7 @@ module _ (P : Stream → Bool → Tally → Type 0) (c : Call) (r : Answer) (h :
 
   adds_keeps : (d : Call) (a : Account) → c ≡ d → All P a → All P (adds a d r)
   unfolding adds
-  adds_keeps (Call.cancel now k y) a e p = cancel_keeps (admits a.rep.conf.key k) now a p
+  adds_keeps (Call.cancel now k y) a e p = cancel_keeps (admits a.rep.key k) now a p
   adds_keeps (Call.output x b) a e p =
       on_each (λ (y : Stream) (t : Tally). P y (one y a.rep.closed) t) x (taken_by (take (count r) b)) a.tallies (h.takes x b _ _ e (p x)) (λ y d. p y)
   adds_keeps (Call.discarded x n) a e p =

@@ -95,11 +95,11 @@ fresh st b n l area = (
 abbrev pub plain_of : Conf → ℕ → List ℕ → List ℕ → List Call → Account.Account
 plain_of c now bytes lengths cs = account (start c now) (run (begun c now bytes lengths) cs)
 
-pub sound_open : (c : Conf) (now : ℕ) (bytes lengths : List ℕ) → Lent c.limits bytes lengths → Sound (begun c now bytes lengths)
+pub sound_open : (c : Conf) (now : ℕ) (bytes lengths : List ℕ) → Lent c bytes lengths → Sound (begun c now bytes lengths)
 unfolding Range.fresh
 sound_open c now bytes lengths o = record { ranged = opened_range c now bytes lengths o; roomy = o.room }
 
-pub open_course : (c : Conf) (now : ℕ) (bytes lengths : List ℕ) → Lent c.limits bytes lengths → (cs : List Call) → Course (after_all (begun c now bytes lengths) cs) (plain_of c now bytes lengths cs)
+pub open_course : (c : Conf) (now : ℕ) (bytes lengths : List ℕ) → Lent c bytes lengths → (cs : List Call) → Course (after_all (begun c now bytes lengths) cs) (plain_of c now bytes lengths cs)
 unfolding Range.fresh start
 open_course c now bytes lengths o cs = list_course cs (begun c now bytes lengths) (start c now)
     (running refl (sound_open c now bytes lengths o) (refl, at_open))
@@ -107,12 +107,12 @@ open_course c now bytes lengths o cs = list_course cs (begun c now bytes lengths
     n : ℕ
     n = c.limits.chunk
 
-    at_open : (x : Stream) → Good bytes (base x n) n (out_of x (Range.fresh c.key c.limits c.timers now)) (tally_of x (start c now))
+    at_open : (x : Stream) → Good bytes (base x n) n (out_of x (Range.fresh c.key c.limits c.timers c.smallest now)) (tally_of x (start c now))
     at_open x = rw (out_alike new_output x, one_per (λ (y : Stream). Account.none) x) (fresh bytes (base x n) n o.chunk (let z = o.room in let b = base_behind x n in omega arith))
 
 -- ---- parts one to three
 
-module _ (conf : Conf) (now : ℕ) (bytes lengths : List ℕ) (op : Lent conf.limits bytes lengths) where
+module _ (conf : Conf) (now : ℕ) (bytes lengths : List ℕ) (op : Lent conf bytes lengths) where
   pub joined : (cs : List Call) (x : Stream) → IsPrefix (tally_of x (plain_of conf now bytes lengths cs)).sent (tally_of x (plain_of conf now bytes lengths cs)).taken
   joined cs x = course_prefixes (after_all (begun conf now bytes lengths) cs) (plain_of conf now bytes lengths cs) (open_course conf now bytes lengths op cs) x
 

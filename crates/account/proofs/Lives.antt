@@ -21,6 +21,7 @@ use Rattle.lifecycle.specs.Setters.{set_timeout_at}
 use Rattle.output.specs.Output.{grace_ended, given_up, abandoned}
 use Rattle.runner.specs.Life as Life
 use Rattle.runner.specs.Life.{awaits_launch, is_cleaned_up, close_runner_input, end_grace, give_up, abandon_launch, abandon_open_streams, begin_termination, pass_grace, terminate, drop_launch, ticked, note_exit, note_exit_once, exited_next, silenced, give_up_soon, cut_off, cut_off_once, detach_next}
+use Rattle.runner.specs.SmallestLaws.{close_smallest}
 use Rattle.runner.specs.State.{with_clocks, out_of, base}
 use Rattle.calls.specs.Call.{Conf}
 use Rattle.account.specs.Account
@@ -64,12 +65,13 @@ given_exit (Exit.Ended x) = refl
 
 -- what open was given
 abbrev pub conf_of : Runner → Conf
-conf_of s = record { key = s.key; limits = s.limits; timers = s.timers }
+conf_of s = record { key = s.key; limits = s.limits; timers = s.timers; smallest = s.input.window.smallest }
 
 -- what the replay should say of a state
 abbrev pub rep : Runner → Replay
 rep s = record {
-  conf = conf_of s;
+  key = s.key;
+  timers = s.timers;
   timeout = s.clocks.timeout_at;
   begun = s.clocks.terminated;
   give_up = s.clocks.give_up_at;
@@ -113,11 +115,22 @@ pub record Frame : Type 0 where
 abbrev pub frame : Runner → Frame
 frame s = record { conf = conf_of s; finished = s.flags.finished }
 
-pub timed : (s : Runner) → Kept (λ r. frame r ≡ frame s)
+-- the frame, by the smallest grant and whether Terminal came
+abbrev framed_by : Runner → (smallest : ℕ) (finished : Bool) → Frame
+framed_by r smallest finished = record { conf = record { key = r.key; limits = r.limits; timers = r.timers; smallest = smallest }; finished = finished }
+
+-- so it is kept where the smallest grant is
+pub frame_by : (r : Runner) (n : ℕ) → n ≡ r.input.window.smallest → framed_by r n r.flags.finished ≡ frame r
+frame_by r n e = ap (λ (n : ℕ). framed_by r n r.flags.finished) e
+
+frame_closes : (r : Runner) → frame (close_runner_input r) ≡ frame r
 unfolding close_runner_input
+frame_closes r = frame_by r _ (close_smallest r)
+
+pub timed : (s : Runner) → Kept (λ r. frame r ≡ frame s)
 timed s = record {
   moves = λ r c l f e p. rw e p;
-  closes = λ r p. p;
+  closes = λ r p. frame_closes r ∙ p;
   tells = λ r p. p;
   grace = λ r p. p;
   gives = λ r p. p;

@@ -111,7 +111,7 @@ enough s _ = true
 -- ---- open, and a list of calls
 
 abbrev pub begun : Conf → ℕ → (bytes lengths : List ℕ) → State
-begun c now bytes lengths = record { runner = fresh c.key c.limits c.timers now; bytes = bytes; lengths = lengths }
+begun c now bytes lengths = record { runner = fresh c.key c.limits c.timers c.smallest now; bytes = bytes; lengths = lengths }
 
 abbrev pub after_all : State → List Call → State
 after_all s [] = s

@@ -37,6 +37,7 @@ use Rattle.output.specs.Output.{new_output, grace_ended, given_up, abandoned, se
 use Rattle.choice.specs.declared.Choice.{Choice}
 use Rattle.runner.specs.declared.runner.Runner.{Runner}
 use Rattle.runner.specs.Life.{close_runner_input, settled_next}
+use Rattle.inbox.specs.Receiver.{grant_fits}
 use Rattle.runner.specs.MessageLaws.{chosen}
 use Rattle.runner.specs.TerminalLaws.{sendable_count}
 use Rattle.runner.specs.Message.{choose, output_paid, output_sent, effect, wish, wish_effect}
@@ -204,23 +205,26 @@ range_next _ s h = h
 -- ---- from open, over a list
 
 -- open is answered ok
-pub record Lent (l : Limits) (bytes lengths : List ℕ) : Type 0 where
-  pub chunk : 0 < l.chunk
-  pub size : 0 < l.input.size
-  pub limits : is_valid l ≡ true
-  pub room : byte_need l ≤ length bytes
-  pub slots : length_need l ≤ length lengths
+pub record Lent (c : Conf) (bytes lengths : List ℕ) : Type 0 where
+  pub chunk : 0 < c.limits.chunk
+  pub size : 0 < c.limits.input.size
+  pub limits : is_valid c.limits ≡ true
+  pub grants : grant_fits c.smallest c.limits.input.size ≡ true
+  pub room : byte_need c.limits ≤ length bytes
+  pub slots : length_need c.limits ≤ length lengths
 
-pub lent : (l : Limits) (bytes lengths : List ℕ) → open_stop l (bytes_do l bytes && lengths_do l lengths) ≡ Ok tt → Lent l bytes lengths
-lent l bytes lengths e =
-    let p = is_opened l (bytes_do l bytes && lengths_do l lengths) e in
+pub lent : (c : Conf) (bytes lengths : List ℕ) → open_stop c.limits c.smallest (bytes_do c.limits bytes && lengths_do c.limits lengths) ≡ Ok tt → Lent c bytes lengths
+lent c bytes lengths e =
+    let l = c.limits in
+    let p = is_opened l c.smallest (bytes_do l bytes && lengths_do l lengths) e in
     let q = both (ltb 0 l.chunk && ltb 0 l.input.size) (ltb 0 l.output.size) p.0 in
-    let c = both (ltb 0 l.chunk) (ltb 0 l.input.size) q.0 in
-    let d = both (bytes_do l bytes) (lengths_do l lengths) p.1 in
+    let b = both (ltb 0 l.chunk) (ltb 0 l.input.size) q.0 in
+    let d = both (bytes_do l bytes) (lengths_do l lengths) p.2 in
     record {
-      chunk = ltb-true 0 l.chunk c.0;
-      size = ltb-true 0 l.input.size c.1;
+      chunk = ltb-true 0 l.chunk b.0;
+      size = ltb-true 0 l.input.size b.1;
       limits = p.0;
+      grants = p.1;
       room = leb-true (byte_need l) (length bytes) d.0;
       slots = leb-true (length_need l) (length lengths) d.1;
     }
@@ -234,7 +238,7 @@ open_by_lem : (u : units.Unit) (l : Limits) (lengths : List ℕ) → 0 < l.input
 open_by_lem Bytes l lengths a b = (omega arith, refl, refl)
 open_by_lem Frames l lengths a b = (omega arith, rw (read_none 0 l.input.size 0 lengths) refl, rw (read_none 0 l.input.size 0 lengths) none, a, b)
 
-pub opened_range : (c : Conf) (now : ℕ) (bytes lengths : List ℕ) → Lent c.limits bytes lengths → RangedS (begun c now bytes lengths)
+pub opened_range : (c : Conf) (now : ℕ) (bytes lengths : List ℕ) → Lent c bytes lengths → RangedS (begun c now bytes lengths)
 unfolding fresh
 opened_range c now bytes lengths o =
     let l : Limits = c.limits in (

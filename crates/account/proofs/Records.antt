@@ -48,8 +48,7 @@ use Rattle.account.proofs.Plain as Plain
 use Rattle.runner.specs.TerminalLaws.{still}
 use Rattle.account.proofs.Finish.{framed, framed_conf, quiet_terminal, ends, ends_answer}
 use Rattle.account.proofs.Lives.{conf_of}
-use Rattle.account.proofs.Demand.{Fine, goes, fine_next, next_same, answer_same, fine_open, open_same, opens_by, late_call, demand3}
-use Rattle.account.proofs.Range.{lent}
+use Rattle.account.proofs.Demand.{Fine, goes, fine_next, next_same, answer_same, fine_open, open_same, late_call, demand3, lent_open}
 use Rattle.account.proofs.EachRecord.{Unmade, Does, read_by}
 use Rattle.account.proofs.EachFrame.{frame_by}
 use Rattle.account.proofs.EachWrite.{written_does, untaken_left}
@@ -316,7 +315,7 @@ module _ (conf : Conf) (now : ℕ) (bytes lengths : List ℕ) (op : Opens conf n
   unfolding fresh
   good_open =
       subst⁻¹ (Good conf) (open_same conf now bytes lengths op)
-      (record { fine = fine_open conf now bytes lengths (lent conf.limits bytes lengths (opens_by conf now bytes lengths op)); same = refl })
+      (record { fine = fine_open conf now bytes lengths (lent_open conf now bytes lengths op); same = refl })
 
   pub good_at : (es : List Entry) → Good conf (after_entries (Step.opened conf now bytes lengths) es)
   good_at es = good_list conf es (Step.opened conf now bytes lengths) good_open

@@ -1,4 +1,4 @@
--- Refusals change nothing: by 12, 10 and 11 the guard gives back what it was given; of what is refused behind it `Safe` tells, and of
+-- Refusals change nothing: by 12, 10, 46 and 11 the guard gives back what it was given; of what is refused behind it `Safe` tells, and of
 -- the records' own refusals `Records`. Then those of open, and of what writes and reads the bytes of a record.
 use Rattle.std.specs.Prelude.{Option, Result, Some, None, Ok, Err}
 use Rattle.exec.specs.declared.Status.{Status}
@@ -15,9 +15,11 @@ use Rattle.exec.specs.declared.Timers.{Timers}
 use Rattle.exec.specs.Limits.{bytes_with, is_valid, no_limits}
 use Rattle.exec.specs.Refusal.{number}
 use Rattle.runner.specs.declared.runner.Runner.{Runner}
+use Rattle.inbox.specs.Receiver.{grant_fits}
 use Rattle.runner.specs.Calls as Calls
 use Rattle.runner.specs.Calls.{asked_for, stores_do, open_by}
 use Rattle.runner.specs.Message.{choose, wish}
+use Rattle.runner.specs.RangeLaws.{stop_ends}
 use Rattle.runner.specs.Range.{in_range, bytes_do, lengths_do, stop, open_stop, fresh}
 use Rattle.output.specs.Output.{output_fits}
 use Rattle.codec.specs.declared.Record.{Record}
@@ -56,7 +58,7 @@ use Rattle.account.proofs.EachWrite.{told_as}
 use Rattle.account.proofs.Records.{read_does, frame_does, write_does, framed_does}
 use Rattle.account.proofs.Safe.{IfRefused, Safe, safe_among, Kept, of_plain, credit_safe, input_safe, end_safe, cancel_safe, wish_safe, said_safe}
 
--- ---- refused by 12, 10 or 11
+-- ---- refused by 12, 10, 46 or 11
 
 -- what is known of a refusal that is met: its number
 abbrev Known : Result (Unit {0}) Refusal → Type 0
@@ -64,11 +66,7 @@ Known (Ok tt) = Unit
 Known (Err x) = among (number x) of_calls ≡ true
 
 stop_known : (r : Runner) (stores : Bool) (x : Refusal) → stop r stores ≡ Err x → Known (Err x)
-unfolding stop
-stop_known r stores x e =
-    subst Known e
-    (either Known (not (in_range r)) _ _ refl
-    (either Known (not (is_valid r.limits)) _ _ refl (either Known (not stores) _ _ refl tt)))
+stop_known r stores x e = subst Known e (stop_ends Known refl refl refl r stores refl (λ i v g s. tt))
 
 stopped : (s : State) (c : Call) (x : Refusal) → stop s.runner (Plain.enough s c) ≡ Err x
     → (Step.next s c ≡ s) × (Step.answer s c ≡ Call.Refused (number x))
@@ -207,24 +205,26 @@ module _ (s : State) (e : Entry) (k : Carriage) (buffer : List ℕ) (pays : Pays
 -- ---- open
 
 module _ (conf : Conf) (now : ℕ) where
-  open_by_lem : (valid stores : Bool) → replied (open_by (cond (not valid) (Err Refusal.NoLimits) (cond (not stores) (Err Refusal.StoreShort) (Ok tt))) conf.key conf.limits conf.timers now).answer
-      ≡ cond valid (cond stores Call.Ok (Call.Refused 11)) (Call.Refused 10)
-  open_by_lem true true = refl
-  open_by_lem true false = refl
-  open_by_lem false stores = refl
+  open_by_lem : (valid grants stores : Bool)
+      → replied (open_by (cond (not valid) (Err Refusal.NoLimits) (cond (not grants) (Err Refusal.SmallestGrant) (cond (not stores) (Err Refusal.StoreShort) (Ok tt)))) conf.key conf.limits conf.timers conf.smallest now).answer
+      ≡ cond valid (cond grants (cond stores Call.Ok (Call.Refused 11)) (Call.Refused 46)) (Call.Refused 10)
+  open_by_lem true true true = refl
+  open_by_lem true true false = refl
+  open_by_lem true false stores = refl
+  open_by_lem false grants stores = refl
 
   -- one that is refused gives a runner without limits
-  open_none : (met : Result (Unit {0}) Refusal) (n : ℕ) → replied (open_by met conf.key conf.limits conf.timers now).answer ≡ Call.Refused n
-      → (open_by met conf.key conf.limits conf.timers now).runner ≡ fresh conf.key no_limits conf.timers now
+  open_none : (met : Result (Unit {0}) Refusal) (n : ℕ) → replied (open_by met conf.key conf.limits conf.timers conf.smallest now).answer ≡ Call.Refused n
+      → (open_by met conf.key conf.limits conf.timers conf.smallest now).runner ≡ fresh conf.key no_limits conf.timers conf.smallest now
   open_none (Ok tt) n e = absurd (false≢true (ap is_refused e))
   open_none (Err x) n e = refl
 
 abbrev Unlimited : Runner → Type 0
 Unlimited r = (stores : Bool) → stop r stores ≡ Err Refusal.NoLimits
 
-none_unlimited : (k : Key) (t : Timers) (now : ℕ) → Unlimited (fresh k no_limits t now)
+none_unlimited : (k : Key) (t : Timers) (smallest now : ℕ) → Unlimited (fresh k no_limits t smallest now)
 unfolding stop in_range fresh output_fits bytes_with
-none_unlimited k t now stores = refl
+none_unlimited k t smallest now stores = refl
 
 unlimited_entry : (s : State) → Unlimited s.runner → (e : Entry) → answer_entry s e ≡ Call.Refused 10
 unfolding answer_entry Channel.read_record Channel.write_record Frames.read_frame Frames.write_frame Channel.parsed_read Frames.parsed_read accepted
@@ -312,9 +312,9 @@ refusals = record {
   entry_number = λ s e n a. (kept s e n a).known;
   stale_kept = stale;
   stale_read = stale_entry;
-  open_number = λ conf now bytes lengths. open_by_lem conf now (is_valid conf.limits) (bytes_do conf.limits bytes && lengths_do conf.limits lengths);
+  open_number = λ conf now bytes lengths. open_by_lem conf now (is_valid conf.limits) (grant_fits conf.smallest conf.limits.input.size) (bytes_do conf.limits bytes && lengths_do conf.limits lengths);
   unopened = λ conf now bytes lengths n h store slots es e. unlimited_list es _
-      (rw (open_none conf now (open_stop conf.limits (bytes_do conf.limits bytes && lengths_do conf.limits lengths)) n h) (none_unlimited conf.key conf.timers now)) e;
+      (rw (open_none conf now (open_stop conf.limits conf.smallest (bytes_do conf.limits bytes && lengths_do conf.limits lengths)) n h) (none_unlimited conf.key conf.timers conf.smallest now)) e;
   write_kept = write_kept;
   lay_kept = lay_kept;
   close_kept = close_kept;

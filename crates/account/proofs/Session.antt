@@ -36,6 +36,7 @@ conf = record {
   key = record { id = 7; generation = 2 };
   limits = limits_for 4 (bytes_window 8) (bytes_window 8) false;
   timers = record { timeout = Some 3600000000000; grace = 10; settlement = 5 };
+  smallest = 1;
 }
 
 -- message,16

@@ -31,8 +31,7 @@ use Rattle.account.proofs.Keeps.{All}
 use Rattle.account.proofs.Finish.{Ends, ends, ends_fin, ends_answer, no_more, fin_stays}
 use Rattle.account.proofs.Lists.{Course, running, over, open_course, plain_of}
 use Rattle.runner.specs.TerminalLaws.{chosen_ready, ready_delivered}
-use Rattle.account.proofs.Range.{lent}
-use Rattle.account.proofs.Demand.{opens_by, same_run, same_answer, same_account as plain_account}
+use Rattle.account.proofs.Demand.{same_run, same_answer, same_account as plain_account, lent_open}
 use Rattle.account.proofs.EachRecord.{Outputless, AllOutputless, record_outputless}
 use Rattle.account.proofs.Records.{same_dones, calls_append, good_open, calls, same_account, at_terminal, whole}
 use Rattle.account.proofs.Tells.{take_zero, Same, quiet_same}
@@ -176,7 +175,7 @@ module _ (conf : Conf) (now : ℕ) (bytes lengths : List ℕ) (op : Opens conf n
         sym (sent_told conf now bytes lengths op es x) ∙ uncut_sent (tallied conf now bytes lengths es x) (w.joined es x) (uncut es e o x h u)
         ∙ taken_told conf now bytes lengths op es x;
     own = λ es e o x h u. (let q = terminal_call es e (ap is_terminal h) in
-        let course = open_course conf now bytes lengths (lent conf.limits bytes lengths (opens_by conf now bytes lengths op)) (made_of es) in
+        let course = open_course conf now bytes lengths (lent_open conf now bytes lengths op) (made_of es) in
         own_at es x (replay_shut x (state es) (plain es) q.0 course q.2)
         (subst (λ (a : Account). (tally_of x a).mark ≡ false) (to_plain es) (unmarked (tallied conf now bytes lengths es x) (uncut es e o x h u))));
     undropped = λ es e o x n h u l. spared conf now bytes lengths op es e o x (Call.discarded x n) (dropped_marks x n l) h u;

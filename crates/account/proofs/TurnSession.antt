@@ -157,6 +157,7 @@ channel = record {
   key = record { id = 7; generation = 2 };
   limits = limits_for 4 (bytes_window 8) (bytes_window 8) true;
   timers = record { timeout = None; grace = 10; settlement = 5 };
+  smallest = 1;
 }
 
 abbrev pub zeros : ℕ → List ℕ

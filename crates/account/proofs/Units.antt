@@ -35,9 +35,8 @@ use Rattle.account.specs.Step.{State, received_as}
 use Rattle.account.specs.Records.{run_entries, calls_of}
 use Rattle.account.specs.Units.{units_in, is_late, late_cost, cleared, lost_by, lost, Units}
 use Rattle.account.proofs.Plain.{next, answer, begun}
-use Rattle.account.proofs.Range.{lent}
 use Rattle.account.proofs.Finish.{framed, framed_conf, fin_stays, ends, ends_by, ends_fin}
-use Rattle.account.proofs.Demand.{Fine, fine_next, next_same, answer_same, fine_open, opens_by, open_same}
+use Rattle.account.proofs.Demand.{Fine, fine_next, next_same, answer_same, fine_open, open_same, lent_open}
 use Rattle.account.proofs.Records.{to_calls}
 use Rattle.account.proofs.InputMoves.{Moves, same, shut, Keeps, close, ticks, launches, exits, detaches, cancels}
 use Rattle.account.proofs.InputRange.{HeldIn, paid}
@@ -197,7 +196,7 @@ module _ (conf : Conf) (now : ℕ) (bytes lengths : List ℕ) (op : Opens conf n
   unfolding fresh
   units_calls cs =
       rw (open_same conf now bytes lengths op)
-      (units_list cs (begun conf now bytes lengths) false refl (fine_open conf now bytes lengths (lent conf.limits bytes lengths (opens_by conf now bytes lengths op)))
+      (units_list cs (begun conf now bytes lengths) false refl (fine_open conf now bytes lengths (lent_open conf now bytes lengths op))
       ∙ none_yet conf.limits.input.unit conf.limits.input.size)
 
   pub units : Units conf now bytes lengths

@@ -2,9 +2,11 @@
 -- arguments of open and of the calls, by 01's Time; nothing here reads a runner, and this file knows none.
 use Rattle.std.specs.Prelude.{Bool, true, false, cond, not, ◌&&◌, ◌||◌, List, [], ◌∷◌, ◌++◌, ℕ, ltb, length, take, Option, Result, None, Err}
 use Rattle.exec.specs.declared.Admission.{Admission}
+use Rattle.exec.specs.declared.Key.{Key}
 use Rattle.exec.specs.declared.Refusal.{Refusal}
 use Rattle.exec.specs.declared.Settlement.{Settlement}
 use Rattle.exec.specs.declared.Stream.{Stream}
+use Rattle.exec.specs.declared.Timers.{Timers}
 use Rattle.exec.specs.Each.{Each, one, on_one, alike, both, every}
 use Rattle.exec.specs.Key.{admits}
 use Rattle.exec.specs.Time.{after, then, earliest, due, timeout_at}
@@ -17,9 +19,10 @@ pub data Settling : Type 0 where
   Settled : Settling
   Fenced : Settling
 
--- What is replayed: the arguments of open, the times, and what was reported.
+-- What is replayed: the key and the timers that open was given, the times, and what was reported.
 pub record Replay : Type 0 where
-  pub conf : Conf
+  pub key : Key
+  pub timers : Timers
   pub timeout : Option ℕ
   pub begun : Bool  -- the first of a due timeout, an Applied cancel or a detachment has come
   pub give_up : Option ℕ
@@ -60,7 +63,8 @@ on_tally x f a = mk a.rep (on_one x f a.tallies)
 -- the four times
 abbrev pub with_times : (timeout : Option ℕ) (begun : Bool) (give_up abandon : Option ℕ) → Replay → Replay
 with_times timeout begun give_up abandon r = record {
-  conf = r.conf;
+  key = r.key;
+  timers = r.timers;
   timeout = timeout;
   begun = begun;
   give_up = give_up;
@@ -78,7 +82,8 @@ with_times timeout begun give_up abandon r = record {
 -- what is known of the workload
 abbrev pub with_work : (launch gave_up left exit : Bool) → Settling → (detached : Bool) → Replay → Replay
 with_work launch gave_up left exit settling detached r = record {
-  conf = r.conf;
+  key = r.key;
+  timers = r.timers;
   timeout = r.timeout;
   begun = r.begun;
   give_up = r.give_up;
@@ -96,7 +101,8 @@ with_work launch gave_up left exit settling detached r = record {
 -- the streams
 abbrev pub with_streams : (closed hung : Each Bool) → Replay → Replay
 with_streams closed hung r = record {
-  conf = r.conf;
+  key = r.key;
+  timers = r.timers;
   timeout = r.timeout;
   begun = r.begun;
   give_up = r.give_up;
@@ -123,7 +129,7 @@ give_up_r d r = with_times r.timeout r.begun d r.abandon r
 unfoldable pub begin_if : (begun : Bool) → ℕ → Replay → Replay
 begin_if true now r = r
 begin_if false now r =
-    with_times None true (then (after now r.conf.timers.grace) r.conf.timers.settlement) r.abandon r
+    with_times None true (then (after now r.timers.grace) r.timers.settlement) r.abandon r
 
 abbrev pub begin : ℕ → Replay → Replay
 begin now r = begin_if r.begun now r
@@ -220,7 +226,7 @@ cancel_a (Err x) now a = a
 -- a detachment ticks, begins a termination, and sets give-up to now + settlement if that is earlier or none is set
 abbrev pub detached_r : ℕ → Replay → Replay
 detached_r now b =
-    with_times b.timeout b.begun (earliest b.give_up (after now b.conf.timers.settlement)) b.abandon
+    with_times b.timeout b.begun (earliest b.give_up (after now b.timers.settlement)) b.abandon
     (with_work b.launch b.gave_up b.left b.exit b.settling true b)
 
 unfoldable pub detach_r : (detached : Bool) → ℕ → Replay → Replay
@@ -234,8 +240,8 @@ detach_a now a = let b = tick_a now a in mk (detach_r b.rep.detached now b.rep) 
 unfoldable pub exit_r : (known : Bool) → ℕ → Replay → Replay
 exit_r true now r = r
 exit_r false now r =
-    with_times r.timeout r.begun r.give_up (then (after now r.conf.timers.settlement) r.conf.timers.grace)
-    (with_work r.launch r.gave_up r.left true (Requested (after now r.conf.timers.settlement)) r.detached r)
+    with_times r.timeout r.begun r.give_up (then (after now r.timers.settlement) r.timers.grace)
+    (with_work r.launch r.gave_up r.left true (Requested (after now r.timers.settlement)) r.detached r)
 
 unfoldable pub exit_a : ℕ → Account → Account
 exit_a now a =
@@ -299,7 +305,7 @@ unfoldable pub adds : Account → Call → Answer → Account
 adds a (credit k p u) r = a
 adds a (input k b) r = a
 adds a (end_input k) r = a
-adds a (cancel now k c) r = cancel_a (admits a.rep.conf.key k) now a
+adds a (cancel now k c) r = cancel_a (admits a.rep.key k) now a
 adds a (launched x) r = mk (launch_r a.rep) a.tallies
 adds a (output x b) r = on_tally x (taken_by (take (count r) b)) a
 adds a (discarded x n) r = on_tally x (marked (ltb 0 n)) a
@@ -338,7 +344,8 @@ none = record { taken = []; sent = []; mark = false }
 -- a runner just opened: the timeout runs from open
 unfoldable pub start : Conf → ℕ → Account
 start c now = mk (record {
-  conf = c;
+  key = c.key;
+  timers = c.timers;
   timeout = timeout_at c.timers.timeout now;
   begun = false;
   give_up = None;

@@ -107,13 +107,13 @@ abbrev pub messages : List Call → ℕ
 messages [] = 0
 messages (c ∷ cs) = counts_message c (messages cs)
 
--- refused by 10, 11 or 12
+-- refused by 10, 11, 12 or 46
 abbrev pub is_stop : Answer → Bool
 is_stop Ok = false
 is_stop Applied = false
 is_stop Stale = false
 is_stop Late = false
-is_stop (Refused n) = (eqb n 10 || eqb n 11) || eqb n 12
+is_stop (Refused n) = ((eqb n 10 || eqb n 11) || eqb n 12) || eqb n 46
 is_stop (Taken n) = false
 is_stop (Came n) = false
 is_stop (Pending b) = false
@@ -128,7 +128,7 @@ is_stop Nothing = false
 
 -- open is answered ok
 abbrev pub Opens : Conf → ℕ → (bytes lengths : List ℕ) → Type 0
-Opens conf now bytes lengths = (Calls.«open» conf.key conf.limits conf.timers now bytes lengths).answer ≡ Result.Ok tt
+Opens conf now bytes lengths = (Calls.«open» conf.key conf.limits conf.timers conf.smallest now bytes lengths).answer ≡ Result.Ok tt
 
 -- DEMAND 3, for a runner that open answered ok, stores of any content, and every list of calls
 pub record Demand3 (conf : Conf) (now : ℕ) (bytes lengths : List ℕ) : Type 0 where

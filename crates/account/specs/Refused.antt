@@ -6,6 +6,7 @@ use Rattle.exec.specs.declared.Status.{Status}
 use Rattle.exec.specs.declared.Refusal.{Refusal}
 use Rattle.exec.specs.Limits.{is_valid}
 use Rattle.exec.specs.Refusal.{number}
+use Rattle.inbox.specs.Receiver.{grant_fits}
 use Rattle.runner.specs.Calls as Calls
 use Rattle.runner.specs.Range.{bytes_do, lengths_do}
 use Rattle.codec.specs.declared.Record.{Record}
@@ -23,10 +24,10 @@ use Rattle.account.specs.Records.{Entry, write_record, write_frame, next_entry, 
 
 -- what a call may be refused by
 abbrev pub of_calls : List ℕ
-of_calls = 1 ∷ 2 ∷ 3 ∷ 4 ∷ 5 ∷ 6 ∷ 10 ∷ 11 ∷ 12 ∷ []
+of_calls = 1 ∷ 2 ∷ 3 ∷ 4 ∷ 5 ∷ 6 ∷ 10 ∷ 11 ∷ 12 ∷ 46 ∷ []
 
 abbrev pub open_answer : Conf → ℕ → (bytes lengths : List ℕ) → Answer
-open_answer conf now bytes lengths = replied (Calls.«open» conf.key conf.limits conf.timers now bytes lengths).answer
+open_answer conf now bytes lengths = replied (Calls.«open» conf.key conf.limits conf.timers conf.smallest now bytes lengths).answer
 
 -- a writer that refuses does so by one of the numbers, and leaves the buffer as it was
 abbrev pub Unwritten : List ℕ → WrittenAfter → (buffer : List ℕ) → Type 0
@@ -52,10 +53,13 @@ pub record Refusals : Type 0 where
   -- 'Same id, lower generation: Stale, and nothing else happens, not even the tick of cancel'
   pub stale_kept : (s : State) (c : Call) → answer s c ≡ Call.Stale → next s c ≡ s
   pub stale_read : (s : State) (e : Entry) → answer_entry s e ≡ Call.Stale → next_entry s e ≡ s
-  -- open is refused by 10 exactly where the limits are not valid, by 11 where they are and a lent store is short, and by nothing
-  -- else; it is lent the stores to read only
+  -- open is refused by 10 exactly where the limits are not valid, by 46 where they are and the smallest grant is 0 or above the input's
+  -- size, by 11 where neither is so and a lent store is short, and by nothing else; it is lent the stores to read only
   pub open_number : (conf : Conf) (now : ℕ) (bytes lengths : List ℕ)
-      → open_answer conf now bytes lengths ≡ cond (is_valid conf.limits) (cond (bytes_do conf.limits bytes && lengths_do conf.limits lengths) Call.Ok (Call.Refused 11)) (Call.Refused 10)
+      → open_answer conf now bytes lengths
+      ≡ cond (is_valid conf.limits)
+      (cond (grant_fits conf.smallest conf.limits.input.size)
+      (cond (bytes_do conf.limits bytes && lengths_do conf.limits lengths) Call.Ok (Call.Refused 11)) (Call.Refused 46)) (Call.Refused 10)
   -- and on the runner that it then gives every call and record is refused by 10, with any stores, and after any others
   pub unopened : (conf : Conf) (now : ℕ) (bytes lengths : List ℕ) (n : ℕ) → open_answer conf now bytes lengths ≡ Call.Refused n
       → (store slots : List ℕ) (es : List Entry) (e : Entry)

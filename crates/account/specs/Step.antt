@@ -180,7 +180,7 @@ answer s Call.high_water = counts (Calls.high_water s.runner)
 
 abbrev pub opened : Conf → ℕ → (bytes lengths : List ℕ) → State
 opened c now bytes lengths = record {
-  runner = (Calls.«open» c.key c.limits c.timers now bytes lengths).runner;
+  runner = (Calls.«open» c.key c.limits c.timers c.smallest now bytes lengths).runner;
   bytes = bytes;
   lengths = lengths;
 }

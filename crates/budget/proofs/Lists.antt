@@ -22,7 +22,7 @@ use Rattle.account.proofs.InputRange.{All, more, HeldIn}
 use Rattle.account.proofs.Range.{RangedS, lent, range_next, opened_range, list_range}
 use Rattle.account.proofs.Finish.{framed, framed_conf, conf_list}
 use Rattle.account.proofs.Late.{opened_conf}
-use Rattle.account.proofs.Demand.{opens_by, same_after, same_run}
+use Rattle.account.proofs.Demand.{opens_by, same_after, same_run, lent_open}
 use Rattle.account.proofs.Records.{same_dones, good_open, good_at, to_calls}
 use Rattle.budget.specs.BudgetClaim.{told_of, write_of, came, frames, writes, left_by, left, Budget}
 use Rattle.budget.proofs.Writes.{written, told}
@@ -94,7 +94,7 @@ module _ (conf : Conf) (now : ℕ) (bytes lengths : List ℕ) (op : Opens conf n
   plain = begun conf now bytes lengths
 
   ranged : RangedS plain
-  ranged = opened_range conf now bytes lengths (lent conf.limits bytes lengths (opens_by conf now bytes lengths op))
+  ranged = opened_range conf now bytes lengths (lent_open conf now bytes lengths op)
 
   abbrev calls : List Entry → List Call
   calls es = calls_of conf (run_entries o es)

@@ -31,7 +31,7 @@ own = new_key 7 2
 
 -- chunk 4, and an input window of two frames, or of eight bytes
 abbrev conf_of : Limits → Conf
-conf_of l = record { key = own; limits = l; timers = record { timeout = None; grace = 10; settlement = 5 } }
+conf_of l = record { key = own; limits = l; timers = record { timeout = None; grace = 10; settlement = 5 }; smallest = 1 }
 
 abbrev in_frames : Conf
 in_frames = conf_of (limits_for 4 (frames_window 2) (bytes_window 8) false)

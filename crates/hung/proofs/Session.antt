@@ -32,6 +32,7 @@ with_grace grace = record {
   key = record { id = 7; generation = 2 };
   limits = limits_for 1 (bytes_window 1) (bytes_window 1) false;
   timers = record { timeout = Some 10; grace = grace; settlement = 3 };
+  smallest = 1;
 }
 
 -- grace ends at 15, and give-up comes at 18

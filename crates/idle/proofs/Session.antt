@@ -44,6 +44,7 @@ timed timeout grace settlement = record {
   key = record { id = 7; generation = 2 };
   limits = limits_for 1 (bytes_window 1) (bytes_window 1) false;
   timers = record { timeout = timeout; grace = grace; settlement = settlement };
+  smallest = 1;
 }
 
 -- opened at 0, with the three bytes that such limits need

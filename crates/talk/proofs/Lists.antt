@@ -14,7 +14,7 @@ use Rattle.account.specs.Claim.{Opens}
 use Rattle.account.specs.Step as Step
 use Rattle.account.specs.Step.{State}
 use Rattle.account.specs.Records.{Entry, run_entries, calls_of}
-use Rattle.account.proofs.Demand.{Fine, fine_next, fine_open, opens_by, open_same, same_run}
+use Rattle.account.proofs.Demand.{Fine, fine_next, fine_open, opens_by, open_same, same_run, lent_open}
 use Rattle.account.proofs.Plain.{next, answer, begun, run}
 use Rattle.account.proofs.Range.{Lent, lent}
 use Rattle.account.proofs.Records.{same_dones, good_open}
@@ -78,8 +78,8 @@ module _ (conf : Conf) (now : ℕ) (bytes lengths : List ℕ) (op : Opens conf n
       none Stdout = refl
       none Stderr = refl
 
-  lent_enough : Lent conf.limits bytes lengths
-  lent_enough = lent conf.limits bytes lengths (opens_by conf now bytes lengths op)
+  lent_enough : Lent conf bytes lengths
+  lent_enough = lent_open conf now bytes lengths op
 
   accepts_all : (es : List Entry) → first (new_judge conf.limits) (told conf now bytes lengths es) ≡ Ok tt
   accepts_all es =
