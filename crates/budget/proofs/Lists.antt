@@ -19,10 +19,10 @@ use Rattle.account.specs.Step.{State}
 use Rattle.account.specs.Records.{Entry, after_entries, run_entries, calls_of, dones_of}
 use Rattle.account.proofs.Plain.{next, answer, begun, after_all, run}
 use Rattle.account.proofs.InputRange.{All, more, HeldIn}
-use Rattle.account.proofs.Range.{RangedS, lent, range_next, opened_range, list_range}
+use Rattle.account.proofs.Range.{RangedS, range_next, opened_range, list_range}
 use Rattle.account.proofs.Finish.{framed, framed_conf, conf_list}
 use Rattle.account.proofs.Late.{opened_conf}
-use Rattle.account.proofs.Demand.{opens_by, same_after, same_run, lent_open}
+use Rattle.account.proofs.Demand.{same_after, same_run, lent_open}
 use Rattle.account.proofs.Records.{same_dones, good_open, good_at, to_calls}
 use Rattle.budget.specs.BudgetClaim.{told_of, write_of, came, frames, writes, left_by, left, Budget}
 use Rattle.budget.proofs.Writes.{written, told}

@@ -14,9 +14,9 @@ use Rattle.account.specs.Claim.{Opens}
 use Rattle.account.specs.Step as Step
 use Rattle.account.specs.Step.{State}
 use Rattle.account.specs.Records.{Entry, run_entries, calls_of}
-use Rattle.account.proofs.Demand.{Fine, fine_next, fine_open, opens_by, open_same, same_run, lent_open}
+use Rattle.account.proofs.Demand.{Fine, fine_next, fine_open, open_same, same_run, lent_open}
 use Rattle.account.proofs.Plain.{next, answer, begun, run}
-use Rattle.account.proofs.Range.{Lent, lent}
+use Rattle.account.proofs.Range.{Lent}
 use Rattle.account.proofs.Records.{same_dones, good_open}
 use Rattle.wire.proofs.Ends.{Muted, ends}
 use Rattle.wire.proofs.Order.{fresh_muted}

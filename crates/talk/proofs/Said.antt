@@ -1,5 +1,5 @@
 -- Messages: the judge accepts each that the runner says, and is in step with it behind it.
-use Rattle.std.specs.Prelude.{◌≡◌, refl, Bool, true, false, not, ◌&&◌, ◌||◌, List, [], ◌∷◌, ℕ, ◌+◌, ◌-◌, ◌≤◌, ◌<◌, min, eqb, ltb, length, Ok}
+use Rattle.std.specs.Prelude.{◌≡◌, refl, Bool, true, false, not, ◌||◌, List, [], ◌∷◌, ℕ, ◌+◌, ◌-◌, ◌≤◌, ◌<◌, min, eqb, ltb, length, Ok}
 use Rattle.std.proofs.lemmas.Bool.{true≢false, false≢true, not-true, and_parts, or_from, or_left, or_right, ltb-true, leb-true, le-ltb, ne_eqb, false_from_ne_true}
 use Rattle.std.proofs.Common.{sym, ap, ◌∙◌, arith}
 use mathlib.Core.Path.{subst⁻¹}
@@ -12,15 +12,15 @@ use Rattle.exec.specs.Each.{one}
 use Rattle.exec.specs.Limits.{cost, is_valid, pool_of}
 use Rattle.exec.specs.Stream.{same_stream}
 use Rattle.inbox.specs.Need.{byte_need}
+use Rattle.inbox.specs.Receiver.{is_due}
 use Rattle.credit.specs.Sender.{spent}
 use Rattle.input.specs.declared.Input.{Input}
 use Rattle.input.specs.Input.{input_accepts, can_grant}
 use Rattle.choice.specs.declared.Choice.{Choice}
-use Rattle.choice.specs.Order.{if_else, order}
 use Rattle.runner.specs.declared.runner.Runner.{Runner}
 use Rattle.runner.specs.Life.{awaits_launch}
 use Rattle.runner.specs.Message.{sendable_of, choose, output_paid, output_sent, effect, payload}
-use Rattle.runner.specs.MessageLaws.{least, chosen, is_payable, payload_length}
+use Rattle.runner.specs.MessageLaws.{Shows, shows, least, chosen, is_payable, payload_length}
 use Rattle.runner.specs.Range.{bytes_do, stop}
 use Rattle.runner.specs.RangeLaws.{is_good_lem}
 use Rattle.runner.specs.State.{out_of, credit_at, put_credit}
@@ -45,38 +45,7 @@ use Rattle.talk.proofs.Judged.{accepts, put_both, noted_ends}
 use Rattle.talk.proofs.Rest.{Even, AllEven, Rest}
 use Rattle.talk.proofs.Talk.{Talk, Goes}
 
--- ---- what a choice shows
-
--- Credit can be granted; Started and InputClosed are to be told; End and Output come with the launch known and its Started told
-Shows : Runner → Choice → Type 0
-Shows r Choice.Credit = can_grant r.input ≡ true
-Shows r Choice.Started = r.flags.started_message ≡ true
-Shows r Choice.InputClosed = r.input.closed_message ≡ true
-Shows r (Choice.End x) = (awaits_launch r ≡ false) × (r.flags.started_message ≡ false)
-Shows r (Choice.Output x n) = (awaits_launch r ≡ false) × (r.flags.started_message ≡ false)
-Shows r _ = Unit
-
-pick : (P : Choice → Type 0) (b : Bool) (x y : Choice) → (b ≡ true → P x) → (b ≡ false → P y) → P (if_else b x y)
-unfolding if_else
-pick P true x y p q = p refl
-pick P false x y p q = q refl
-
-shows : (n : ℕ) (r : Runner) → Shows r (choose r n)
-unfolding Shows choose order
-shows n r =
-    let P = Shows r in
-    let first : (b : Bool) → (not (awaits_launch r) && b) ≡ true → awaits_launch r ≡ false = λ b e. not-true (awaits_launch r) (and_parts (not (awaits_launch r)) b e).0 in
-    pick P _ _ _ (λ _. tt) (λ _.
-    pick P _ _ _ (λ _. pick P _ _ _ (λ _. tt) (λ _. tt)) (λ _.
-    pick P _ _ _ (λ c. (and_parts (can_grant r.input) (not r.flags.credited) c).0) (λ _.
-    pick P _ _ _ (λ s. s) (λ s.
-    pick P _ _ _ (λ c. c) (λ _.
-    pick P _ _ _ (λ e. (first _ e, s)) (λ _.
-    pick P _ _ _ (λ e. (first _ e, s)) (λ _.
-    pick P _ _ _ (λ e. (first _ e, s)) (λ _.
-    pick P _ _ _ (λ e. (first _ e, s)) (λ _.
-    pick P _ _ _ (λ c. c) (λ _.
-    pick P _ _ _ (λ _. tt) (λ _. tt)))))))))))
+-- ---- what an Output brings
 
 -- an Output that is chosen has bytes, at most a chunk of them, and they are paid for
 record Brings (r : Runner) (x : Stream) (n : ℕ) (store : List ℕ) : Type 0 where
@@ -136,15 +105,15 @@ module _ (r : Runner) (j : Judge) (valid : is_valid j.limits ≡ true) (h : Talk
     record { rest = p.1; begins = p.2; ended = λ x. noted_ends m j (Ends.ends r) h.ended x ∙ ap (one x) (sym w.told); muted = w.muted },
   )
 
-  says_credit : can_grant r.input ≡ true → r.input.window.open + r.input.window.returnable ≤ r.limits.input.size → Says (Item.Credit r.input.window.returnable) (effect Choice.Credit r)
+  says_credit : 0 < r.input.window.smallest → can_grant r.input ≡ true → r.input.window.open + r.input.window.returnable ≤ r.limits.input.size → Says (Item.Credit r.input.window.returnable) (effect Choice.Credit r)
   unfolding effect
-  says_credit c m =
+  says_credit g c m =
       let i : Input = r.input in
       let n : ℕ = i.window.returnable in
-      let takes = and_parts (input_accepts i) (ltb 0 n) c in
+      let takes = and_parts (input_accepts i) (is_due i.window) c in
       let opens : i.closed ≡ false = not-true i.closed (and_parts (not i.closed) (not i.peer_ended) takes.0).0 in
       let same = h.rest.2.same opens in
-      let some = ltb-true 0 n takes.1 in
+      let some = leb-true i.window.smallest n takes.1 in
       let size : j.limits.input.size ≡ r.limits.input.size = ap (λ (l : Limits). l.input.size) h.rest.0 in (
         accepts j (Item.Credit n) valid
             (or_from j.terminal j.input_closed on (h.rest.2.unheard (rw opens refl))) refl refl
@@ -215,18 +184,18 @@ module _ (r : Runner) (j : Judge) (valid : is_valid j.limits ≡ true) (h : Talk
 
 -- ---- the call
 
-told_by : (m : Choice) (r : Runner) (store : List ℕ) (j : Judge) → Shows r m → Brought r store m → is_valid j.limits ≡ true
+told_by : (m : Choice) (r : Runner) (k : ℕ) (store : List ℕ) (j : Judge) → 0 < r.input.window.smallest → Shows r k m → Brought r store m → is_valid j.limits ≡ true
     → (is_message (said m r store) ≡ true → r.flags.finished ≡ false) → r.input.window.open + r.input.window.returnable ≤ r.limits.input.size
     → Tells r (effect m r) (said_in (said m r store)) → Talk r j → Goes (map item_of (said_in (said m r store))) (effect m r) j
-unfolding said effect Shows Brought
-told_by Choice.None r store j w b v f m t h = h
-told_by Choice.Credit r store j w b v f m t h = goes_on r j v h (f refl) (Call.Credit r.input.window.returnable) _ t (says_credit r j v h (f refl) w m)
-told_by Choice.Started r store j w b v f m t h = goes_on r j v h (f refl) Call.Started _ t (says_started r j v h (f refl) w)
-told_by Choice.InputClosed r store j w b v f m t h = goes_on r j v h (f refl) Call.InputClosed _ t (says_closed r j v h (f refl) w)
-told_by (Choice.End x) r store j w b v f m t h = goes_on r j v h (f refl) (Call.End x) _ t (says_end r j v h (f refl) x w.0 w.1 (h.ended x ∙ t.once.0))
-told_by (Choice.Output x n) r store j w b v f m t h =
+unfolding said effect Brought
+told_by Choice.None r k store j g w b v f m t h = h
+told_by Choice.Credit r k store j g w b v f m t h = goes_on r j v h (f refl) (Call.Credit r.input.window.returnable) _ t (says_credit r j v h (f refl) g w m)
+told_by Choice.Started r k store j g w b v f m t h = goes_on r j v h (f refl) Call.Started _ t (says_started r j v h (f refl) w)
+told_by Choice.InputClosed r k store j g w b v f m t h = goes_on r j v h (f refl) Call.InputClosed _ t (says_closed r j v h (f refl) w)
+told_by (Choice.End x) r k store j g w b v f m t h = goes_on r j v h (f refl) (Call.End x) _ t (says_end r j v h (f refl) x w.0 w.1 (h.ended x ∙ t.once.0))
+told_by (Choice.Output x n) r k store j g w b v f m t h =
     goes_on r j v h (f refl) (Call.Output x (payload r x n store)) _ t (says_output r j v h (f refl) x n store b w.0 w.1 (unended r j v h (f refl) x (t.silent x)))
-told_by Choice.Terminal r store j w b v f m t h = goes_on r j v h (f refl) (Call.Terminal _) _ t (says_terminal r j v h (f refl))
+told_by Choice.Terminal r k store j g w b v f m t h = goes_on r j v h (f refl) (Call.Terminal _) _ t (says_terminal r j v h (f refl))
 
 pub message_goes : (buffer : List ℕ) (s : State) (j : Judge) → Fine s → is_valid j.limits ≡ true → Talk s.runner j
     → Goes (items_by (Call.next_message buffer) (answer s (Call.next_message buffer))) (next s (Call.next_message buffer)).runner j
@@ -234,6 +203,6 @@ unfolding next answer
 message_goes buffer s j f v h =
     let r : Runner = s.runner in
     let c : Call = Call.next_message buffer in
-    told_by (choose r (length buffer)) r s.bytes j (shows (length buffer) r) (brought (choose r (length buffer)) s buffer f refl) v
+    told_by (choose r (length buffer)) r (length buffer) s.bytes j (ltb-true 0 r.input.window.smallest (and_parts (ltb 0 r.input.window.smallest) _ f.grants).0) (shows (length buffer) r) (brought (choose r (length buffer)) s buffer f refl) v
     (λ e. false_from_ne_true r.flags.finished (λ g. true≢false (sym e ∙ no_more c s g)))
     (held r.limits.input.unit r.limits s.lengths r.input f.sound.ranged.2.0) (call_tells c s h.muted) h
