@@ -202,6 +202,10 @@ closed_on : {l : Limits} {i i' : Input} {st st' given got : List ℕ} → Flow l
 closed_on (on q f) e = f e
 closed_on (ends g f) e = (f, g)
 
+-- a closed input stays closed
+pub stays_closed : (c : Call) (s : State) → Fine s → s.runner.input.closed ≡ true → (next s c).runner.input.closed ≡ true
+stays_closed c s h e = (closed_on (flow_step c s h) e).0
+
 -- what was handed over, and then what pending_input shows
 abbrev seen : State → List Call → List ℕ
 seen s cs = handed s cs ++ pending_of (Step.after s cs).runner (Step.after s cs).bytes

@@ -266,13 +266,18 @@ module _ (conf : Conf) where
       ap (λ (cs : List Call). made conf e (answer_entry s e) ++ cs) (calls_append xs ys (next_entry s e))
       ∙ sym (append_assoc (made conf e (answer_entry s e)) (calls_of conf (run_entries (next_entry s e) xs)) _)
 
--- an answer that is Terminal is that of one call
-terminal_made : (x : Entry) (m : List Call) (s after : State) (a : Answer) → Does x m s after a → is_terminal a ≡ true
+-- an answer that is a message is that of one call
+pub message_made : (x : Entry) (m : List Call) (s after : State) (a : Answer) → Does x m s after a → is_message a ≡ true
     → (c : Call) × (after ≡ Step.next s c) × (a ≡ Step.answer s c) × (m ≡ c ∷ [])
 unfolding Does
-terminal_made x [] s after a d h = absurd (false≢true (sym (ap is_terminal d.answered) ∙ h))
-terminal_made x (c ∷ []) s after a d h = (c, d.0, d.1, refl)
-terminal_made x (c ∷ b ∷ m) s after a d h = absurd (false≢true (sym (quiet_terminal a d.1) ∙ h))
+message_made x [] s after a d h = absurd (false≢true (sym (ap is_message d.answered) ∙ h))
+message_made x (c ∷ []) s after a d h = (c, d.0, d.1, refl)
+message_made x (c ∷ b ∷ m) s after a d h = absurd (false≢true (sym d.1 ∙ h))
+
+-- and Terminal is one
+terminal_message : (a : Answer) → is_terminal a ≡ true → is_message a ≡ true
+terminal_message (Call.Says m) h = refl
+terminal_message _ h = absurd (false≢true h)
 
 unmade_as : (x : Entry) (m : List Call) (s after : State) (a : Answer) → m ≡ [] → Does x m s after a
     → (after ≡ s) × ((n : ℕ) × (a ≡ Call.Refused n) × (among n (of_entry x) ≡ true))
@@ -341,7 +346,7 @@ module _ (conf : Conf) (now : ℕ) (bytes lengths : List ℕ) (op : Opens conf n
       × (made conf e (answer_entry (after_entries (Step.opened conf now bytes lengths) es) e) ≡ c ∷ [])
   at_terminal es e h =
       let s : State = after_entries (Step.opened conf now bytes lengths) es in
-      let q = terminal_made e (made conf e (answer_entry s e)) s (next_entry s e) (answer_entry s e) (does conf e s (good_at es)) h in
+      let q = message_made e (made conf e (answer_entry s e)) s (next_entry s e) (answer_entry s e) (does conf e s (good_at es)) (terminal_message (answer_entry s e) h) in
       (q.0, q.1 ∙ ap (λ (t : State). Step.next t q.0) (to_calls es), q.2 ∙ ap (λ (t : State). Step.answer t q.0) (to_calls es), q.3)
 
   cancel_at : (es : List Entry) (t : ℕ) (k : Key) (c : Cause) → answer_entry (after_entries (Step.opened conf now bytes lengths) es) (call (Call.cancel t k c)) ≡ Call.Applied

@@ -161,7 +161,7 @@ add_up : (a b c m u : ℕ) → a + c ≡ m → m + b ≡ u → a + (b + c) ≡ u
 add_up a b c m u e f = omega arith
 
 -- Terminal has come exactly when the runner is finished
-over_next : (c : Call) (s : State) (over : Bool) → s.runner.flags.finished ≡ over → (next s c).runner.flags.finished ≡ (over || is_terminal (answer s c))
+pub over_next : (c : Call) (s : State) (over : Bool) → s.runner.flags.finished ≡ over → (next s c).runner.flags.finished ≡ (over || is_terminal (answer s c))
 over_next c s true f = fin_stays c s f
 over_next c s false f = told (is_terminal (answer s c)) (next s c).runner.flags.finished refl refl
   where

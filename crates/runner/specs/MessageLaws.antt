@@ -69,7 +69,7 @@ Shows r buffer (Choice.End x) = (awaits_launch r ≡ false) × (r.flags.started_
 Shows r buffer (Choice.Output x n) = (awaits_launch r ≡ false) × (r.flags.started_message ≡ false) × Chosen r buffer x n
 Shows r buffer Choice.Terminal = is_ready r ≡ true
 
-pick_if : (P : Choice → Type 0) (b : Bool) (x y : Choice) → (b ≡ true → P x) → (b ≡ false → P y) → P (if_else b x y)
+pub pick_if : (P : Choice → Type 0) (b : Bool) (x y : Choice) → (b ≡ true → P x) → (b ≡ false → P y) → P (if_else b x y)
 unfolding if_else
 pick_if P true x y p q = p refl
 pick_if P false x y p q = q refl

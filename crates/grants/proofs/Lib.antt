@@ -1,0 +1,4 @@
+-- When credit comes under a smallest grant, file by file.
+pub mod Unlost
+pub mod Messages
+pub mod Grants
