@@ -66,20 +66,14 @@ impl Granted {
         self.smallest <= self.returnable
     }
 
-    // Opens all that is to be granted, once it is due.
+    // Opens all that is to be granted, once it is due. (It ends at one place: with two the runner would be copied to each.)
     pub fn take_grant(mut self) -> Taking
         requires { self.open + self.returnable < 2 ^ 32 }
         ensures { result ≡ take_grant self }
     {
-        if self.returnable < self.smallest {
-            return Taking {
-                granted: self,
-                units: 0,
-            };
-        }
-        let units = self.returnable;
+        let units = if self.is_due() { self.returnable } else { 0 };
         self.open += units;
-        self.returnable = 0;
+        self.returnable -= units;
         Taking {
             granted: self,
             units,

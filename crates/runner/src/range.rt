@@ -30,13 +30,16 @@ pub(crate) fn lengths_do(limits: Limits, lengths: usize) -> bool
 pub(crate) fn unopened(limits: Limits, smallest: u32) -> Refusal
     ensures { result ≡ unopened limits smallest }
 {
-    if !limits.is_valid() {
-        return Refusal::NoLimits;
+    let granting = if grant_fits(smallest, limits.input.size) {
+        Refusal::StoreShort
+    } else {
+        Refusal::SmallestGrant
+    };
+    if limits.is_valid() {
+        granting
+    } else {
+        Refusal::NoLimits
     }
-    if grant_fits(smallest, limits.input.size) {
-        return Refusal::StoreShort;
-    }
-    Refusal::SmallestGrant
 }
 
 impl Runner {
@@ -80,8 +83,9 @@ impl Runner {
             & (self.turn <= 1)
     }
 
-    // Which of the four, of a call that meets one.
+    // Which of the four, of a call that meets one. Made a part of each call: where it stood alone the runner would be copied for it.
     #[tactic(auto, unfolding(crate::specs::RangeLaws::stopped))]
+    #[inline(always)]
     pub(crate) fn stopped(self) -> Refusal
         ensures { result ≡ stopped self }
     {
