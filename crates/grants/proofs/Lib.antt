@@ -2,3 +2,5 @@
 pub mod Unlost
 pub mod Messages
 pub mod Grants
+pub mod Session
+pub mod Edges
