@@ -33,15 +33,15 @@ use Rattle.cards.proofs.Lines.{Follow, follow, called, leaves, dones, calls_appe
 
 -- ---- numbers
 
--- 10, 11 and 12 left out
-but_stops : (n : ℕ) → among n of_calls ≡ true → ((eqb n 10 || eqb n 11) || eqb n 12) ≡ false → among n of_lines ≡ true
+-- 10, 11, 12 and 46 left out
+but_stops : (n : ℕ) → among n of_calls ≡ true → (((eqb n 10 || eqb n 11) || eqb n 12) || eqb n 46) ≡ false → among n of_lines ≡ true
 but_stops n h k = grind (arith, h, k)
 
--- 10 and 11 put in
+-- 10, 11 and 46 put in
 with_stops : (n : ℕ) → among n of_lines ≡ true → among n of_cards ≡ true
 with_stops n h = grind (arith, h)
 
-of_first : (n : ℕ) → among n (10 ∷ 11 ∷ 30 ∷ []) ≡ true → among n of_cards ≡ true
+of_first : (n : ℕ) → among n (10 ∷ 11 ∷ 30 ∷ 46 ∷ []) ≡ true → among n of_cards ≡ true
 of_first n h = grind (arith, h)
 
 -- ---- of lines from a runner that open answered ok

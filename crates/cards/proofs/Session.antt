@@ -1,7 +1,6 @@
 -- Two cards, computed. Of one the times fall: opened at 1000 by one counter, it is cancelled at 20 and ticked at 19 and at 35 by another.
 -- On the other the turn is taken.
-use Rattle.std.specs.Prelude.{Option, Some, None, Ok}
-use mathlib.Core.Bool.{cond}
+use Rattle.std.specs.Prelude.{Some, None, Ok}
 use mathlib.Core.Path.{◌≡◌, refl, sym, ap, ◌∙◌}
 use mathlib.Core.List.{List, [], ◌∷◌, ◌++◌, map}
 use Prim.Native.Nat.{ℕ, ◌≤◌}
@@ -28,30 +27,16 @@ use Rattle.cards.proofs.Lines.{entry_answer}
 use lib.ListN.{length}
 use Rattle.syntax.specs.Table.{calls}
 use Rattle.syntax.specs.Words.{bytes}
-use Rattle.syntax.specs.Lines.{line_call, zeros}
-use Rattle.opening.specs.Open.{Opening, line_open, timeout, open_of, is_open, opening_of, limits_of, timers_of}
-use Rattle.grammar.specs.Feed.{First, Running, Answered, prints, is_short, answer_of}
+use Rattle.syntax.specs.Lines.{zeros}
+use Rattle.opening.specs.Open.{Opening, line_open, timeout, open_of, is_open, opening_of, limits_of, timers_of, smallest_of}
+use Rattle.grammar.specs.Feed.{First, Running, Answered, prints, answer_of}
 use Rattle.textlines.specs.Lines.{lines_in}
 use Rattle.grammar.specs.ByLine.{answers_from, text_from}
 use Rattle.grammar.proofs.ByLine.{by_line}
-use Rattle.grammar.proofs.Later.{later_line}
+use Rattle.grammar.proofs.Made.{calls_in, as_calls}
 use Rattle.grammar.proofs.LeftOpen.{every_card, timed, opens}
 use Rattle.opening.specs.Only.{line_says}
 use Rattle.cards.specs.Runs.{StartsOk, just_opened}
-
--- ---- lines that are all calls
-
-abbrev calls_in : List (List ℕ) → List (Option Call)
-calls_in [] = []
-calls_in (l ∷ ls) = cond (is_short l) (line_call l) None ∷ calls_in ls
-
-as_calls : (ls : List (List ℕ)) (cs : List Call) (s : State) → calls_in ls ≡ map Some cs → answers_from (Running s) ls ≡ Session.answers_of (Step.run s cs)
-as_calls [] [] s e = refl
-as_calls [] (c ∷ cs) s e = cc
-as_calls (l ∷ ls) [] s e = cc
-as_calls (l ∷ ls) (c ∷ cs) s e =
-    let h : cond (is_short l) (line_call l) None ≡ Some c = cc in
-    let t : calls_in ls ≡ map Some cs = cc in rw (later_line s l, h) (ap (λ (rest : List Answer). Step.answer s c ∷ rest) (as_calls ls cs (Step.next s c) t))
 
 -- ---- a card whose times fall
 
@@ -109,7 +94,7 @@ abbrev opening : Opening
 opening = record { conf = timed None; now = 1000 }
 
 first : answer_of First (bytes "open,1000,7,2,4,B,8,B,8,0,never,10,5") ≡ record { stage = Running (just_opened opening); answer = Call.Ok }
-unfolding calls timeout open_of is_open opening_of limits_of timers_of
+unfolding calls timeout open_of is_open opening_of limits_of timers_of smallest_of
 first =
     let line = bytes "open,1000,7,2,4,B,8,B,8,0,never,10,5" in
     let e : line_open line ≡ Some opening = refl in

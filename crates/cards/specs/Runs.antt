@@ -53,7 +53,7 @@ abbrev pub of_lines : List ℕ
 of_lines = 1 ∷ 2 ∷ 3 ∷ 4 ∷ 5 ∷ 6 ∷ 30 ∷ []
 
 abbrev pub of_cards : List ℕ
-of_cards = 1 ∷ 2 ∷ 3 ∷ 4 ∷ 5 ∷ 6 ∷ 10 ∷ 11 ∷ 30 ∷ []
+of_cards = 1 ∷ 2 ∷ 3 ∷ 4 ∷ 5 ∷ 6 ∷ 10 ∷ 11 ∷ 30 ∷ 46 ∷ []
 
 -- ---- what holds of the lines behind the first one, as many as there are so far
 
@@ -74,7 +74,7 @@ pub record Demand (o : Opening) (lines : List Line) : Type 0 where
       → l.call ≡ Some (Call.cancel t k c) → l.answer ≡ Call.Applied → m.call ≡ Some (Call.tick n)
       → t + o.conf.timers.grace + o.conf.timers.settlement < 2 ^ 64 → t + o.conf.timers.grace + o.conf.timers.settlement ≤ n → 5 ≤ messages (calls_of zs)
       → any_terminal (dones_of lines) ≡ true
-  -- no line is refused by 10, 11 or 12, nor by any number but these
+  -- no line is refused by 10, 11, 12 or 46, nor by any number but these
   pub numbers : (xs ys : List Line) (l : Line) (n : ℕ) → lines ≡ xs ++ (l ∷ ys) → l.answer ≡ Call.Refused n → among n of_lines ≡ true
 
 -- behind the lines `before` stands one that is answered by a Terminal which reports the stream x untruncated
@@ -131,7 +131,7 @@ pub record CardRuns (card printed : List ℕ) : Type 0 where
   pub demand : (ls ms : List Line) → rest ≡ ls ++ ms → Demand opening ls
   pub turn : (ls ms : List Line) → rest ≡ ls ++ ms → Turn ls
 
--- WHAT THE LINES OF ANY CARD ARE REFUSED BY: 1 to 6, 10, 11 or 30
+-- WHAT THE LINES OF ANY CARD ARE REFUSED BY: 1 to 6, 10, 11, 30 or 46
 abbrev pub Numbers : (card : List ℕ) → Type 0
 Numbers card = (xs ys : List Line) (l : Line) (n : ℕ) → lines_from First (lines_in card) ≡ xs ++ (l ∷ ys) → l.answer ≡ Call.Refused n
     → among n of_cards ≡ true

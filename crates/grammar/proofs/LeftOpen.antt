@@ -30,7 +30,7 @@ use Rattle.syntax.specs.Table.{calls}
 use Rattle.syntax.specs.Words.{bytes}
 use Rattle.syntax.specs.Lines.{fields, u64, zeros}
 use Rattle.syntax.specs.Zeros.{zeros_length}
-use Rattle.opening.specs.Open.{Opening, line_open, timeout, open_of, is_open, opening_of, limits_of, timers_of}
+use Rattle.opening.specs.Open.{Opening, line_open, timeout, open_of, is_open, opening_of, limits_of, timers_of, smallest_of}
 use Rattle.opening.specs.Timeout.{number_else, number_itself, line_bad, line_opens}
 use Rattle.opening.specs.Only.{line_says}
 use Rattle.grammar.specs.Feed.{First, Running, Over, Answered, bad, prints, is_short, answer_of, answered, first, later, too_long}
@@ -38,7 +38,7 @@ use Rattle.grammar.specs.LeftOpen.{asked, Starts, EveryCard}
 use Rattle.textlines.specs.Lines.{lines_in}
 use Rattle.grammar.specs.ByLine.{answers_from, text_from}
 use Rattle.grammar.proofs.ByLine.{by_line}
-use Rattle.grammar.proofs.Opened.{Opened, opened_so, first_line}
+use Rattle.grammar.proofs.Opened.{Opened, opened_so, first_line, card_opened}
 
 -- ---- its deadline
 
@@ -98,9 +98,7 @@ opened_card : (card line : List ℕ) (conf : Conf) (now : ℕ) (ls : List (List 
     → line_open line ≡ Some (record { conf = conf; now = now }) → Opens conf now (zeros 65536) (zeros 1024)
     → ((bs lengths : List ℕ) → answers_from (Running (begun conf now bs lengths)) ls ≡ answers) → prints card ≡ text_from 0 (Call.Ok ∷ answers)
 opened_card card line conf now ls answers l h e o f =
-    (by_line card).printed
-    ∙ ap (λ (x : List (List ℕ)). text_from 0 (answers_from First x)) l
-    ∙ ap (λ (x : Answered). text_from 0 (x.answer ∷ answers_from x.stage ls)) (first_line line (record { given = record { conf = conf; now = now }; short = h; reads = e; opens = o }))
+    card_opened card line conf now ls l h e o
     ∙ ap (λ (s : State). text_from 0 (Call.Ok ∷ answers_from (Running s) ls)) (open_same conf now (zeros 65536) (zeros 1024) o)
     ∙ ap (λ (x : List Answer). text_from 0 (Call.Ok ∷ x)) (f (zeros 65536) (zeros 1024))
 
@@ -109,7 +107,7 @@ hour = Some 3600000000000
 
 -- 01's limits, with a timeout
 abbrev pub timed : Option ℕ → Conf
-timed x = record { key = new_key 7 2; limits = limits_for 4 (bytes_window 8) (bytes_window 8) false; timers = record { timeout = x; grace = 10; settlement = 5 } }
+timed x = record { key = new_key 7 2; limits = limits_for 4 (bytes_window 8) (bytes_window 8) false; timers = record { timeout = x; grace = 10; settlement = 5 }; smallest = 1 }
 
 pub opens : (x : Option ℕ) (now : ℕ) → Opens (timed x) now (zeros 65536) (zeros 1024)
 unfolding Calls.«open» bytes_with
@@ -137,7 +135,7 @@ cards_met : (asked (bytes "open,5,7,2,4,B,8,B,8,0,-,10,5") ≡ Call.Ok ∷ Call.
     × (asked (bytes "open,0,7,2,4,B,8,B,8,0,18446744073709551615,10,5") ≡ Call.Ok ∷ Call.Time (Some 18446744073709551615) ∷ [])
     × (asked (bytes "open,1,7,2,4,B,8,B,8,0,18446744073709551615,10,5") ≡ Call.Ok ∷ Call.Time None ∷ [])
     × (answer_of First (bytes "open,5,7,2,4,B,8,B,8,0,18446744073709551616,10,5") ≡ bad Over)
-unfolding calls timeout open_of is_open opening_of limits_of timers_of answer_of answered first
+unfolding calls timeout open_of is_open opening_of limits_of timers_of smallest_of answer_of answered first
 cards_met = (
   every_card.missing (bytes "open,5,7,2,4,B,8,B,8,0,-,10,5") 5 (met (bytes "open,5,7,2,4,B,8,B,8,0,-,10,5") hour 5 refl refl, refl) refl,
   every_card.never (bytes "open,5,7,2,4,B,8,B,8,0,never,10,5") 5 (met (bytes "open,5,7,2,4,B,8,B,8,0,never,10,5") None 5 refl refl, refl) refl,
@@ -178,7 +176,7 @@ hung_answers bs lengths = refl
 
 left_open : prints (bytes "open,5,7,2,4,B,8,B,8,0,-,10,5\nlaunched,0,-,-\ndeadline\ntick,3600000000004\nrequest\ntick,3600000000005\nrequest\ndeadline\n")
     ≡ text_from 0 (Call.Ok ∷ times_out)
-unfolding hung calls timeout open_of is_open opening_of limits_of timers_of lines_in bytes
+unfolding hung calls timeout open_of is_open opening_of limits_of timers_of smallest_of lines_in bytes
 left_open = opened_card _ (bytes "open,5,7,2,4,B,8,B,8,0,-,10,5") (timed hour) 5 hung times_out refl refl refl (opens hour 5) hung_answers
 
 -- ---- never: no limit, not the largest number either
@@ -201,7 +199,7 @@ overnight_answers bs lengths = refl
 
 no_limit : prints (bytes "open,0,7,2,4,B,8,B,8,0,never,10,5\nlaunched,0,-,-\ndeadline\ntick,18446744073709551615\nrequest\ndeadline\n")
     ≡ text_from 0 (Call.Ok ∷ goes_on)
-unfolding overnight calls timeout open_of is_open opening_of limits_of timers_of lines_in bytes
+unfolding overnight calls timeout open_of is_open opening_of limits_of timers_of smallest_of lines_in bytes
 no_limit = opened_card _ (bytes "open,0,7,2,4,B,8,B,8,0,never,10,5") (timed None) 0 overnight goes_on refl refl refl (opens None 0) overnight_answers
 
 -- ---- opened at the last instant from which the hour ends, and one later
@@ -224,7 +222,7 @@ latest_answers bs lengths = (refl, refl)
 
 last_hour : (prints (bytes "open,18446740473709551615,7,2,4,B,8,B,8,0,-,10,5\nlaunched,0,-,-\ndeadline\ntick,18446744073709551615\nrequest\n") ≡ text_from 0 (Call.Ok ∷ just_ends))
     × (prints (bytes "open,18446740473709551616,7,2,4,B,8,B,8,0,-,10,5\nlaunched,0,-,-\ndeadline\ntick,18446744073709551615\nrequest\n") ≡ text_from 0 (Call.Ok ∷ never_ends))
-unfolding latest calls timeout open_of is_open opening_of limits_of timers_of lines_in bytes
+unfolding latest calls timeout open_of is_open opening_of limits_of timers_of smallest_of lines_in bytes
 last_hour = (
   opened_card _ (bytes "open,18446740473709551615,7,2,4,B,8,B,8,0,-,10,5") (timed hour) 18446740473709551615 latest just_ends refl refl refl (opens hour 18446740473709551615) (λ bs lengths. (latest_answers bs lengths).0),
   opened_card _ (bytes "open,18446740473709551616,7,2,4,B,8,B,8,0,-,10,5") (timed hour) 18446740473709551616 latest never_ends refl refl refl (opens hour 18446740473709551616) (λ bs lengths. (latest_answers bs lengths).1),
@@ -233,5 +231,5 @@ last_hour = (
 -- ---- any other text opens nothing
 
 misspelt : prints (bytes "open,5,7,2,4,B,8,B,8,0,Never,10,5\ndeadline\n") ≡ text_from 0 (Call.Refused 30 ∷ Call.Refused 30 ∷ [])
-unfolding calls timeout open_of is_open opening_of limits_of timers_of lines_in bytes answer_of answered first
+unfolding calls timeout open_of is_open opening_of limits_of timers_of smallest_of lines_in bytes answer_of answered first
 misspelt = (by_line (bytes "open,5,7,2,4,B,8,B,8,0,Never,10,5\ndeadline\n")).printed

@@ -4,5 +4,7 @@ pub mod Refused
 pub mod Calls
 pub mod ByLine
 pub mod Later
+pub mod Made
 pub mod Opened
 pub mod LeftOpen
+pub mod Grants

@@ -1,9 +1,9 @@
--- A first line that is answered ok leaves the runner that open gives.
+-- A first line that is answered ok leaves the runner that open gives, and its card prints from there.
 use Rattle.std.specs.Prelude.{Option, Result, Some, None, Ok, Err}
 use Rattle.exec.specs.declared.Refusal.{Refusal}
 use mathlib.Core.Bool.{Bool, true, false, cond}
-use mathlib.Core.Path.{◌≡◌, refl, ap}
-use mathlib.Core.List.{List}
+use mathlib.Core.Path.{◌≡◌, refl, ap, ◌∙◌}
+use mathlib.Core.List.{List, ◌∷◌}
 use mathlib.Core.Logic.{◌⊎◌, inl, inr}
 use Prim.Native.Nat.{ℕ}
 use Rattle.exec.specs.Refusal.{number}
@@ -14,7 +14,10 @@ use Rattle.account.specs.Step as Step
 use Rattle.account.specs.Step.{State}
 use Rattle.syntax.specs.Lines.{zeros}
 use Rattle.opening.specs.Open.{Opening, line_open}
-use Rattle.grammar.specs.Feed.{First, Running, Answered, is_short, answer_of, answered, opened_by, first, too_long}
+use Rattle.textlines.specs.Lines.{lines_in}
+use Rattle.grammar.specs.Feed.{First, Running, Answered, prints, is_short, answer_of, answered, opened_by, first, too_long}
+use Rattle.grammar.specs.ByLine.{answers_from, text_from}
+use Rattle.grammar.proofs.ByLine.{by_line}
 
 -- a first line that is answered ok
 pub record Opened (line : List ℕ) : Type 0 where
@@ -41,6 +44,15 @@ pub first_line : (line : List ℕ) (x : Opened line)
     → answer_of First line ≡ record { stage = Running (Step.opened x.given.conf x.given.now (zeros 65536) (zeros 1024)); answer = Call.Ok }
 unfolding answer_of answered first
 first_line line x = rw (x.short, x.reads) (ap (λ (r : (Result (Unit {0}) Refusal)). opened_by r x.given) x.opens)
+
+-- so its card prints ok and, from that runner on, the answers of its further lines
+pub card_opened : (card line : List ℕ) (conf : Conf) (now : ℕ) (ls : List (List ℕ)) → lines_in card ≡ line ∷ ls → is_short line ≡ true
+    → line_open line ≡ Some (record { conf = conf; now = now }) → Opens conf now (zeros 65536) (zeros 1024)
+    → prints card ≡ text_from 0 (Call.Ok ∷ answers_from (Running (Step.opened conf now (zeros 65536) (zeros 1024))) ls)
+card_opened card line conf now ls l h e o =
+    (by_line card).printed
+    ∙ ap (λ (x : List (List ℕ)). text_from 0 (answers_from First x)) l
+    ∙ ap (λ (x : Answered). text_from 0 (x.answer ∷ answers_from x.stage ls)) (first_line line (record { given = record { conf = conf; now = now }; short = h; reads = e; opens = o }))
 
 -- and one that is not is refused
 pub first_either : (line : List ℕ) → ((answer_of First line).answer ≡ Call.Ok) ⊎ ((n : ℕ) × ((answer_of First line).answer ≡ Call.Refused n))

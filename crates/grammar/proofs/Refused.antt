@@ -6,6 +6,7 @@ use mathlib.Core.Path.{◌≡◌, refl, subst, subst⁻¹}
 use mathlib.Core.List.{List, [], ◌∷◌}
 use Prim.Native.Nat.{ℕ}
 use Rattle.exec.specs.Limits.{is_valid}
+use Rattle.inbox.specs.Receiver.{grant_fits}
 use Rattle.runner.specs.Calls as Calls
 use Rattle.runner.specs.Range.{bytes_do, lengths_do}
 use Rattle.calls.specs.Call as Call
@@ -35,7 +36,7 @@ line_safe s line = either (Safe s) (is_short line) _ _ (later_safe (line_call li
 -- ---- the first line
 
 abbrev IsFirst : ℕ → Type 0
-IsFirst n = among n (10 ∷ 11 ∷ 30 ∷ []) ≡ true
+IsFirst n = among n (10 ∷ 11 ∷ 30 ∷ 46 ∷ []) ≡ true
 
 -- an answer that is no refusal, or one by such a number
 abbrev First : Answer → Type 0
@@ -48,7 +49,9 @@ open_first : (o : Opening) → First (open_answer o.conf o.now (zeros 65536) (ze
 open_first o =
     let l = o.conf.limits in
     subst⁻¹ First (refusals.open_number o.conf o.now (zeros 65536) (zeros 1024))
-    (either First (is_valid l) _ _ (either First (bytes_do l (zeros 65536) && lengths_do l (zeros 1024)) _ _ (λ n e. cc) (refused_first 11 refl)) (refused_first 10 refl))
+    (either First (is_valid l) _ _
+    (either First (grant_fits o.conf.smallest l.input.size) _ _
+    (either First (bytes_do l (zeros 65536) && lengths_do l (zeros 1024)) _ _ (λ n e. cc) (refused_first 11 refl)) (refused_first 46 refl)) (refused_first 10 refl))
 
 abbrev Unopened : Answered → Type 0
 Unopened x = (n : ℕ) → x.answer ≡ Call.Refused n → (x.stage ≡ Over) × IsFirst n
@@ -64,7 +67,7 @@ first_safe : (o : Option Opening) → Unopened (first o)
 unfolding first
 first_safe None = bad_first
 first_safe (Some o) =
-    opened_by_lem (Calls.«open» o.conf.key o.conf.limits o.conf.timers o.now (zeros 65536) (zeros 1024)).answer o (open_first o)
+    opened_by_lem (Calls.«open» o.conf.key o.conf.limits o.conf.timers o.conf.smallest o.now (zeros 65536) (zeros 1024)).answer o (open_first o)
 
 -- DEMAND 1, OF A CARD'S LINES
 pub refused_lines : RefusedLines

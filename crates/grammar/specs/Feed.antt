@@ -48,7 +48,7 @@ opened_by (Err x) o = record { stage = Over; answer = replied (Err x) }
 unfoldable pub first : Option Opening → Answered
 first None = bad Over
 first (Some o) =
-    opened_by (Calls.«open» o.conf.key o.conf.limits o.conf.timers o.now (zeros 65536) (zeros 1024)).answer o
+    opened_by (Calls.«open» o.conf.key o.conf.limits o.conf.timers o.conf.smallest o.now (zeros 65536) (zeros 1024)).answer o
 
 -- 30 before the runner's own; a call's time may be any
 unfoldable pub later : Option Call → State → Answered

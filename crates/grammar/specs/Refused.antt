@@ -14,6 +14,6 @@ pub record RefusedLines : Type 0 where
   pub numbered : (s : State) (line : List ℕ) (n : ℕ) → (answer_of (Running s) line).answer ≡ Call.Refused n → (among n of_calls || eqb n 30) ≡ true
   -- a first line that is refused leaves no runner
   pub unopened : (line : List ℕ) (n : ℕ) → (answer_of First line).answer ≡ Call.Refused n
-      → ((answer_of First line).stage ≡ Over) × (among n (10 ∷ 11 ∷ 30 ∷ []) ≡ true)
+      → ((answer_of First line).stage ≡ Over) × (among n (10 ∷ 11 ∷ 30 ∷ 46 ∷ []) ≡ true)
   -- and then every line is 30
   pub over : (line : List ℕ) → answer_of Over line ≡ bad Over

@@ -5,4 +5,4 @@ use Rattle.opening.specs.declared.Opening as Read
 
 abbrev pub opening_is : Option Read.Opening → Option Opening
 opening_is None = None
-opening_is (Some x) = Some (record { conf = record { key = x.key; limits = x.limits; timers = x.timers }; now = x.now })
+opening_is (Some x) = Some (record { conf = record { key = x.key; limits = x.limits; timers = x.timers; smallest = x.smallest }; now = x.now })

@@ -1,6 +1,7 @@
 -- And no other line opens: what a line opens with, it says. So a field that is not read is 30.
-use Rattle.std.specs.Prelude.{Bool, true, false, cond, ◌&&◌, ◌≡◌, refl, List, [], ℕ, eqb, length, get_or, Option, Some, None}
-use Rattle.std.proofs.Common.{sym, ap, eqb-true, true≢false}
+use Rattle.std.specs.Prelude.{Bool, true, false, cond, ◌&&◌, ◌≡◌, refl, List, [], ℕ, ◌≤◌, leb, length, get_or, Option, Some, None}
+use Rattle.std.proofs.Common.{sym, ap, true≢false}
+use Rattle.std.proofs.lemmas.Bool.{leb-true}
 use Rattle.std.proofs.lemmas.Option.{none-some, same_Some}
 use Rattle.exec.specs.declared.Limits.{Limits}
 use Rattle.exec.specs.declared.Timers.{Timers}
@@ -10,25 +11,27 @@ use Rattle.exec.specs.Limits.{limits_for}
 use Rattle.octets.specs.Text.{same_is}
 use Rattle.syntax.specs.Lines.{on, fields, u64, u32, digit}
 use Rattle.syntax.specs.Words.{bytes, same, unit}
-use Rattle.opening.specs.Open.{Opening, at, timeout, is_open, open_of, opening_of, limits_of, timers_of, line_open}
+use Rattle.opening.specs.Open.{Opening, at, timeout, is_open, open_of, opening_of, limits_of, timers_of, smallest_of, line_open}
 use Rattle.opening.specs.Says.{Says}
 
-record Parts (now id generation : Option ℕ) (l : Option Limits) (t : Option Timers) (o : Opening) : Type 0 where
+record Parts (now id generation : Option ℕ) (l : Option Limits) (t : Option Timers) (smallest : Option ℕ) (o : Opening) : Type 0 where
   now_is : now ≡ Some o.now
   id_is : id ≡ Some o.conf.key.id
   generation_is : generation ≡ Some o.conf.key.generation
   limits_are : l ≡ Some o.conf.limits
   timers_are : t ≡ Some o.conf.timers
+  smallest_is : smallest ≡ Some o.conf.smallest
 
-parts : (now id generation : Option ℕ) (l : Option Limits) (t : Option Timers) (o : Opening)
-    → (on now λ n. on id λ i. on generation λ g. on l λ k. on t λ x. Some (record { conf = record { key = new_key i g; limits = k; timers = x }; now = n })) ≡ Some o
-    → Parts now id generation l t o
-parts None id generation l t o e = absurd (none-some o e)
-parts (Some n) None generation l t o e = absurd (none-some o e)
-parts (Some n) (Some i) None l t o e = absurd (none-some o e)
-parts (Some n) (Some i) (Some g) None t o e = absurd (none-some o e)
-parts (Some n) (Some i) (Some g) (Some k) None o e = absurd (none-some o e)
-parts (Some n) (Some i) (Some g) (Some k) (Some x) o e =
+parts : (now id generation : Option ℕ) (l : Option Limits) (t : Option Timers) (smallest : Option ℕ) (o : Opening)
+    → (on now λ n. on id λ i. on generation λ g. on l λ k. on t λ x. on smallest λ s. Some (record { conf = record { key = new_key i g; limits = k; timers = x; smallest = s }; now = n })) ≡ Some o
+    → Parts now id generation l t smallest o
+parts None id generation l t smallest o e = absurd (none-some o e)
+parts (Some n) None generation l t smallest o e = absurd (none-some o e)
+parts (Some n) (Some i) None l t smallest o e = absurd (none-some o e)
+parts (Some n) (Some i) (Some g) None t smallest o e = absurd (none-some o e)
+parts (Some n) (Some i) (Some g) (Some k) None smallest o e = absurd (none-some o e)
+parts (Some n) (Some i) (Some g) (Some k) (Some x) None o e = absurd (none-some o e)
+parts (Some n) (Some i) (Some g) (Some k) (Some x) (Some s) o e =
     let h = same_Some _ o e in
     record {
       now_is = ap (λ (o : Opening). Some o.now) h;
@@ -36,6 +39,7 @@ parts (Some n) (Some i) (Some g) (Some k) (Some x) o e =
       generation_is = ap (λ (o : Opening). Some o.conf.key.generation) h;
       limits_are = ap (λ (o : Opening). Some o.conf.limits) h;
       timers_are = ap (λ (o : Opening). Some o.conf.timers) h;
+      smallest_is = ap (λ (o : Opening). Some o.conf.smallest) h;
     }
 
 record Bounds (chunk : Option ℕ) (iu : Option Units.Unit) (is : Option ℕ) (ou : Option Units.Unit) (os : Option ℕ) (s : Option Bool) (l : Limits) : Type 0 where
@@ -89,8 +93,8 @@ pub line_says : (line : List ℕ) (o : Opening) → line_open line ≡ Some o �
 unfolding is_open open_of opening_of limits_of timers_of
 line_says line o e =
     let b = by (is_open fs) refl e in
-    let n = named (eqb (length fs) 13) refl b.0 in
-    let p = parts (u64 (at fs 1)) (u64 (at fs 2)) (u64 (at fs 3)) (limits_of fs) (timers_of fs) o b.1 in
+    let n = named (leb 13 (length fs)) (leb (length fs) 14) refl refl b.0 in
+    let p = parts (u64 (at fs 1)) (u64 (at fs 2)) (u64 (at fs 3)) (limits_of fs) (timers_of fs) (smallest_of fs) o b.1 in
     let l = bounds (u32 (at fs 4)) (unit (at fs 5)) (u32 (at fs 6)) (unit (at fs 7)) (u32 (at fs 8)) (digit (at fs 9)) o.conf.limits p.limits_are in
     let t = clocks (timeout (at fs 10)) (u64 (at fs 11)) (u64 (at fs 12)) o.conf.timers p.timers_are in
     record {
@@ -108,6 +112,7 @@ line_says line o e =
       limit = t.limit_is;
       grace = t.grace_is;
       settlement = t.settlement_is;
+      smallest = p.smallest_is;
     }
   where
     fs : List (List ℕ)
@@ -117,6 +122,8 @@ line_says line o e =
     by true h e = (h, e)
     by false h e = absurd (none-some o e)
 
-    named : (b : Bool) → eqb (length fs) 13 ≡ b → (b && same (get_or fs 0 []) (bytes "open")) ≡ true → (length fs ≡ 13) × (get_or fs 0 [] ≡ bytes "open")
-    named true h e = (eqb-true (length fs) 13 h, same_is (get_or fs 0 []) (bytes "open") e)
-    named false h e = absurd (true≢false (sym e))
+    named : (a b : Bool) → leb 13 (length fs) ≡ a → leb (length fs) 14 ≡ b → ((a && b) && same (get_or fs 0 []) (bytes "open")) ≡ true
+        → ((13 ≤ length fs) × (length fs ≤ 14)) × (get_or fs 0 [] ≡ bytes "open")
+    named true true h k e = ((leb-true 13 (length fs) h, leb-true (length fs) 14 k), same_is (get_or fs 0 []) (bytes "open") e)
+    named true false h k e = absurd (true≢false (sym e))
+    named false b h k e = absurd (true≢false (sym e))

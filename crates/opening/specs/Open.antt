@@ -1,5 +1,5 @@
--- The first line, which opens a runner: open,NOW,ID,GENERATION,CHUNK,UNIT,SIZE,UNIT,SIZE,SHARED,TIMEOUT,GRACE,SETTLEMENT.
-use Rattle.std.specs.Prelude.{Bool, cond, ◌&&◌, List, [], ℕ, eqb, length, get_or, Option, Some, None, option_map}
+-- The first line, which opens a runner: open,NOW,ID,GENERATION,CHUNK,UNIT,SIZE,UNIT,SIZE,SHARED,TIMEOUT,GRACE,SETTLEMENT[,SMALLEST].
+use Rattle.std.specs.Prelude.{Bool, cond, ◌&&◌, List, [], ℕ, eqb, leb, length, get_or, Option, Some, None, option_map}
 use Rattle.exec.specs.declared.Limits.{Limits}
 use Rattle.exec.specs.declared.Timers.{Timers}
 use Rattle.exec.specs.declared.Window.{Window}
@@ -20,7 +20,7 @@ timeout field =
     (cond (same field (bytes "never")) (Some None)
     (option_map Some (u64 field)))
 
--- what open is given: key, limits and timers, and the time
+-- what open is given: key, limits, timers and smallest grant, and the time
 pub record Opening : Type 0 where
   pub conf : Conf
   pub now : ℕ
@@ -32,9 +32,9 @@ window u n = on (unit u) λ x. on (u32 n) λ k. Some (record { unit = x; size = 
 abbrev pub at : List (List ℕ) → ℕ → List ℕ
 at fs i = get_or fs i []
 
--- open,NOW,ID,GENERATION,CHUNK,UNIT,SIZE,UNIT,SIZE,SHARED,TIMEOUT,GRACE,SETTLEMENT
+-- open,NOW,ID,GENERATION,CHUNK,UNIT,SIZE,UNIT,SIZE,SHARED,TIMEOUT,GRACE,SETTLEMENT[,SMALLEST]: 13 fields, or 14
 unfoldable pub is_open : List (List ℕ) → Bool
-is_open fs = eqb (length fs) 13 && same (at fs 0) (bytes "open")
+is_open fs = (leb 13 (length fs) && leb (length fs) 14) && same (at fs 0) (bytes "open")
 
 unfoldable pub limits_of : List (List ℕ) → Option Limits
 limits_of fs =
@@ -45,10 +45,15 @@ unfoldable pub timers_of : List (List ℕ) → Option Timers
 timers_of fs =
     on (timeout (at fs 10)) λ x. on (u64 (at fs 11)) λ y. on (u64 (at fs 12)) λ z. Some (record { timeout = x; grace = y; settlement = z })
 
+-- the smallest grant: 1, where it is left out (the fields are counted: one that is written and empty is none)
+unfoldable pub smallest_of : List (List ℕ) → Option ℕ
+smallest_of fs = cond (eqb (length fs) 13) (Some 1) (u32 (at fs 13))
+
 unfoldable pub opening_of : List (List ℕ) → Option Opening
 opening_of fs =
     on (u64 (at fs 1)) λ now. on (u64 (at fs 2)) λ id. on (u64 (at fs 3)) λ generation. on (limits_of fs) λ l. on (timers_of fs) λ t.
-    Some (record { conf = record { key = new_key id generation; limits = l; timers = t }; now = now })
+    on (smallest_of fs) λ smallest.
+    Some (record { conf = record { key = new_key id generation; limits = l; timers = t; smallest = smallest }; now = now })
 
 unfoldable pub open_of : List (List ℕ) → Option Opening
 open_of fs = cond (is_open fs) (opening_of fs) None

@@ -3,7 +3,7 @@
 
 ghost use Rattle.std.specs.Prelude.{◌≡◌, length};
 ghost use Rattle.syntax.specs.Lines.{fields};
-ghost use Rattle.opening.specs.Open.{at, timeout, window, line_open, is_open, limits_of, timers_of, opening_of};
+ghost use Rattle.opening.specs.Open.{at, timeout, window, line_open, is_open, limits_of, timers_of, smallest_of, opening_of};
 ghost use Rattle.opening.specs.Meaning.{opening_is};
 
 use exec::{Key, Limits, Timers, Window};
@@ -15,6 +15,7 @@ pub struct Opening {
     pub key: Key,
     pub limits: Limits,
     pub timers: Timers,
+    pub smallest: u32,
     pub now: u64,
 }
 
@@ -52,11 +53,13 @@ fn field(line: &[u8], k: usize) -> &[u8]
     line.split(|b| *b == b',').nth(k).unwrap_or(&[])
 }
 
+// (How many fields the line has, `n`, is counted once.)
 #[tactic(auto, using(reading::specs::Naming::same_pointwise), unfolding(crate::specs::Open::is_open, syntax::specs::Words::bytes))]
-fn is_open(line: &[u8]) -> bool
+fn is_open(line: &[u8], n: usize) -> bool
+    requires { n ≡ length (fields line.now) }
     ensures { result ≡ is_open (fields line.now) }
 {
-    (count(line) == 13) & (field(line, 0) == b"open".as_slice())
+    (13 <= n) & (n <= 14) & (field(line, 0) == b"open".as_slice())
 }
 
 pub fn window(unit: &[u8], size: &[u8]) -> Option<Window>
@@ -94,8 +97,21 @@ fn timers(line: &[u8]) -> Option<Timers>
     })
 }
 
+// Field 13, the smallest grant: 1, where the line has no such field.
+#[tactic(auto, unfolding(crate::specs::Open::smallest_of))]
+fn smallest(line: &[u8], n: usize) -> Option<u32>
+    requires { n ≡ length (fields line.now) }
+    ensures { result ≡ smallest_of (fields line.now) }
+{
+    if n == 13 {
+        return Some(1);
+    }
+    fields::narrow(field(line, 13))
+}
+
 #[tactic(auto, unfolding(crate::specs::Open::opening_of))]
-fn opening_of(line: &[u8]) -> Option<Opening>
+fn opening_of(line: &[u8], n: usize) -> Option<Opening>
+    requires { n ≡ length (fields line.now) }
     ensures { opening_is result ≡ opening_of (fields line.now) }
 {
     let now = fields::wide(field(line, 1))?;
@@ -103,21 +119,24 @@ fn opening_of(line: &[u8]) -> Option<Opening>
     let generation = fields::wide(field(line, 3))?;
     let agreed = limits(line)?;
     let clocks = timers(line)?;
+    let smallest = smallest(line, n)?;
     Some(Opening {
         key: Key::new(id, generation),
         limits: agreed,
         timers: clocks,
+        smallest,
         now,
     })
 }
 
-// open,NOW,ID,GENERATION,CHUNK,UNIT,SIZE,UNIT,SIZE,SHARED,TIMEOUT,GRACE,SETTLEMENT
+// open,NOW,ID,GENERATION,CHUNK,UNIT,SIZE,UNIT,SIZE,SHARED,TIMEOUT,GRACE,SETTLEMENT[,SMALLEST]
 #[tactic(auto, unfolding(crate::specs::Open::open_of))]
 pub fn open_of(line: &[u8]) -> Option<Opening>
     ensures { opening_is result ≡ line_open line.now }
 {
-    if is_open(line) {
-        return opening_of(line);
+    let n = count(line);
+    if is_open(line, n) {
+        return opening_of(line, n);
     }
     None
 }

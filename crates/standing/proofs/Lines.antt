@@ -39,6 +39,6 @@ unfolding first
 opened_first o s before s' a after n work e hb hl h = by (noted o cleared).answer (rw (e ∙ same_opening o before hb hl) at h)
   where
     by : (x : Result (Unit {0}) Refusal) → Told (opened_as x (noted o cleared).runner) (place_of s before) s' a after work
-        → Told (opened_by x (record { conf = record { key = o.key; limits = o.limits; timers = o.timers }; now = o.now })) (place_of s before) s' a after work
+        → Told (opened_by x (record { conf = record { key = o.key; limits = o.limits; timers = o.timers; smallest = o.smallest }; now = o.now })) (place_of s before) s' a after work
     by (Ok tt) h = h
     by (Err y) h = h

@@ -110,7 +110,7 @@ bad_at x p = Feed.bad (stage_is x p.state)
 
 -- what open makes of the first line's words
 abbrev pub noted : Openings.Opening → Stores → After (Unit {0})
-noted o x = Calls.«open» o.key o.limits o.timers o.now x.bytes x.lengths
+noted o x = Calls.«open» o.key o.limits o.timers o.smallest o.now x.bytes x.lengths
 
 -- what it made, from its reply
 abbrev pub opened_as : Result (Unit {0}) Refusal → Runner → Feed.Answered

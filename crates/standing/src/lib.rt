@@ -41,7 +41,16 @@ fn noted(opening: Opening, areas: &Areas) -> After<()>
     let key = opening.key;
     let limits = opening.limits;
     let timers = opening.timers;
-    Runner::open(key, limits, timers, opening.now, areas.store, areas.lengths)
+    let smallest = opening.smallest;
+    Runner::open(
+        key,
+        limits,
+        timers,
+        smallest,
+        opening.now,
+        areas.store,
+        areas.lengths,
+    )
 }
 
 impl Standing {
