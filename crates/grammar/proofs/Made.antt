@@ -1,6 +1,5 @@
 -- Lines that all say calls are answered as the list of these calls.
-use Rattle.std.specs.Prelude.{Option, Some, None}
-use mathlib.Core.Bool.{cond}
+use Rattle.std.specs.Prelude.{Option, Some}
 use mathlib.Core.Path.{◌≡◌, refl, ap}
 use mathlib.Core.List.{List, [], ◌∷◌, map}
 use Prim.Native.Nat.{ℕ}
@@ -8,7 +7,6 @@ use Rattle.calls.specs.Call.{Call, Answer}
 use Rattle.account.specs.Step as Step
 use Rattle.account.specs.Step.{State}
 use Rattle.account.proofs.Session.{answers_of}
-use Rattle.syntax.specs.Lines.{line_call}
 use Rattle.grammar.specs.Feed.{Running}
 use Rattle.grammar.specs.ByLine.{call_said, answers_from}
 use Rattle.grammar.proofs.Later.{later_line}
