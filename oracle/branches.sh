@@ -22,7 +22,8 @@ for file in runner.rs credit.rs credit/inbox.rs credit/receiver.rs credit/sender
 done
 compile counted counted-oracle
 if [ "$count" = sample ]; then
-    cat ../crates/conformance/stdin
+    part_sample
+    cat target/sample/near.cards target/sample/far.cards
 else
     target/generate "$seed" "$count"
     target/generate "$seed" "$count" --far

@@ -36,15 +36,32 @@ tool() {
     rust -o "target/$1" "src/$1.rs"
 }
 
-# The recorded sample is the standard input and output of the program conformance, near cards first,
-# as many as sample.seeds names. Parts it into target/sample: near.cards, far.cards, their answers.
+# Parts the cards that are made to be read, by their names: answered are those that the Rust answers,
+# defined those that it does not, as their smallest grant, the last of 14 fields, is another than 1.
+part_read() {
+    answered= defined=
+    for card in ../examples/*.card cards/*.card defined/*.card; do
+        if awk -F , 'NR == 1 { exit NF == 14 && $14 != 1 }' "$card"; then
+            answered="$answered $card"
+        else
+            defined="$defined $card"
+        fi
+    done
+}
+
+# The recorded sample is the standard input and output of the program conformance: near cards first,
+# as many as sample.seeds names, then far ones, those of part_read that the Rust answers among them.
+# Parts these into target/sample: near.cards, far.cards, their answers.
 part_sample() {
     mkdir -p target/sample
+    part_read
+    set -- $answered
     near=$(grep -c '^near ' sample.seeds)
+    both=$(($(wc -l <sample.seeds) + $#))
     for kind in cards answers; do
         [ $kind = cards ] && from=stdin || from=stdout
-        LC_ALL=C awk -v near="$near" -v kind=$kind '
-            { print >("target/sample/" (ended < near ? "near." : "far.") kind) }
+        LC_ALL=C awk -v near="$near" -v both="$both" -v kind=$kind '
+            ended < both { print >("target/sample/" (ended < near ? "near." : "far.") kind) }
             $0 == "----" { ended++ }
         ' "../crates/conformance/$from"
     done

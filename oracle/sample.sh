@@ -1,7 +1,8 @@
 #!/bin/sh
 # Chooses the sample anew and records it: the seeds of its cards in sample.seeds, the cards, near
-# ones first and those of examples/ and cards/ last, as the standard input of the program
-# conformance, the oracle's answers as its output.
+# ones first, behind them those of examples/ and cards/, as the standard input of the program
+# conformance, the oracle's answers as its output. Last come the cards with another smallest grant
+# than 1, with the answers that stand beside them.
 # mutants.sh has to run before: the sample is chosen from its cards, so that each mutant is told
 # apart by TIMES of them, or by all.
 #     NVX_SRC=FOLDER oracle/sample.sh [TIMES]
@@ -22,9 +23,15 @@ recorded=../crates/conformance
 while read -r times seed; do
     target/generate "$seed" 1 $([ "$times" = near ] || echo --far)
 done <sample.seeds >$recorded/stdin
-for card in ../examples/*.card cards/*.card; do
+part_read
+for card in $answered; do
     cat "$card"
     echo ----
 done >>$recorded/stdin
 target/oracle64 --ring --many <$recorded/stdin >$recorded/stdout
+for card in $defined; do
+    cat "$card" >>$recorded/stdin
+    cat "${card%.card}.answers" >>$recorded/stdout
+    echo ---- | tee -a $recorded/stdin >>$recorded/stdout
+done
 echo "$(grep -c '^----$' $recorded/stdin) cards, $(wc -l <$recorded/stdin) lines"

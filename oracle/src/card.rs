@@ -24,6 +24,8 @@ pub struct Open {
     pub timeout: Option<u64>,
     pub grace: u64,
     pub settlement: u64,
+    /// The smallest grant, in units of the input's window.
+    pub smallest: u32,
 }
 
 /// A call of the runner, in the order of its methods; a u64 in front is the call's time. Bytes are
@@ -66,16 +68,30 @@ pub fn open(line: &[u8]) -> Option<Open> {
     if fields.next()? != b"open" {
         return None;
     }
+    let now = number(fields.next()?)?;
+    let key = key(fields.next()?, fields.next()?)?;
+    let chunk = number(fields.next()?)?;
+    let input = window(fields.next()?, fields.next()?)?;
+    let output = window(fields.next()?, fields.next()?)?;
+    let shared = truth(fields.next()?)?;
+    let timeout = limit(fields.next()?)?;
+    let grace = number(fields.next()?)?;
+    // The smallest grant may be left out, and then it is 1.
+    let (settlement, smallest) = match fields.next() {
+        Some(settlement) => (number(settlement)?, number(fields.last())?),
+        None => (number(fields.last())?, 1),
+    };
     Some(Open {
-        now: number(fields.next()?)?,
-        key: key(fields.next()?, fields.next()?)?,
-        chunk: number(fields.next()?)?,
-        input: window(fields.next()?, fields.next()?)?,
-        output: window(fields.next()?, fields.next()?)?,
-        shared: truth(fields.next()?)?,
-        timeout: limit(fields.next()?)?,
-        grace: number(fields.next()?)?,
-        settlement: number(fields.last())?,
+        now,
+        key,
+        chunk,
+        input,
+        output,
+        shared,
+        timeout,
+        grace,
+        settlement,
+        smallest,
     })
 }
 

@@ -2,7 +2,8 @@
 //! all: random bytes, cards cut and damaged, lines joined, lines about the longest and far longer,
 //! NULs, empty lines, no last 0a, written in pieces of any length. The cards to damage come from
 //! standard input, each ended by a line `----`. Each run has to end with status 0 and one answer a
-//! line, numbered in order and of a known form; the oracle, run on the same, has to say the same.
+//! line, numbered in order and of a known form; the oracle, run on the same, has to say the same,
+//! unless the smallest grant came to be another than 1, to which it has no answers.
 //!     fuzz LINES SEED ORACLE PROGRAM [ARGUMENT...] <CARDS
 
 #[allow(dead_code)] // shuffle is the generator's
@@ -20,7 +21,10 @@ const SEPARATOR: &[u8] = b"----";
 /// The longest line of a card.
 const LONGEST: u64 = 65_535;
 
-const REFUSALS: [&str; 9] = ["1", "2", "3", "4", "5", "6", "10", "11", "30"];
+/// The status with which the oracle says that it has no answers.
+const NOT_COMPARED: i32 = 3;
+
+const REFUSALS: [&str; 10] = ["1", "2", "3", "4", "5", "6", "10", "11", "30", "46"];
 const CAUSES: [&str; 5] = ["Cancelled", "Dropped", "TimedOut", "Reset", "Disconnected"];
 const STREAMS: [&str; 2] = ["Stdout", "Stderr"];
 
@@ -42,7 +46,7 @@ fn main() -> io::Result<()> {
     while totals.lines < lines {
         let kind = random.weighed(&KINDS.map(|(_, weight, _)| weight));
         let input = KINDS[kind].2(&mut random, &cards);
-        let run = run(program, rest, &input, &mut random)?;
+        let run = run(program, rest, &input, Stdio::inherit(), &mut random)?;
         let fault = match run.ok {
             true => fault(&input, &run.answers),
             false => Some("it ended with another status than 0".into()),
@@ -50,8 +54,14 @@ fn main() -> io::Result<()> {
         let fault = match fault {
             None if !oracle.is_empty() => {
                 let flags = ["--ring".into()];
-                let told = self::run(oracle, &flags, &input, &mut random)?;
-                differs(&told.answers, &run.answers)
+                let told = self::run(oracle, &flags, &input, Stdio::null(), &mut random)?;
+                match told.status {
+                    Some(NOT_COMPARED) => {
+                        totals.not_compared += 1;
+                        None
+                    }
+                    _ => differs(&told.answers, &run.answers),
+                }
             }
             fault => fault,
         };
@@ -78,6 +88,7 @@ fn main() -> io::Result<()> {
     }
     let Totals {
         runs,
+        not_compared,
         lines,
         bytes,
         answered,
@@ -87,6 +98,7 @@ fn main() -> io::Result<()> {
     println!(
         "{runs} runs, {lines} lines, {bytes} bytes: status 0, an answer a line, as the oracle's"
     );
+    println!("{not_compared} runs have another smallest grant than 1: no answers of the oracle's");
     println!("{answered} answers are no refusal; {seconds:.0} s; at most {memory} kB resident");
     Ok(())
 }
@@ -94,6 +106,8 @@ fn main() -> io::Result<()> {
 #[derive(Default)]
 struct Totals {
     runs: u64,
+    /// Runs to which the oracle has no answers.
+    not_compared: u64,
     lines: u64,
     bytes: u64,
     /// Answers that are no refusal.
@@ -137,7 +151,9 @@ fn random_bytes(random: &mut Random, _: &Cards) -> Vec<u8> {
     let mut input = Vec::new();
     if random.once_in(2) {
         // After a line that opens.
-        input.extend(b"open,0,7,2,4,B,8,B,8,0,-,10,5\n");
+        input.extend(b"open,0,7,2,4,B,8,B,8,0,-,10,5");
+        input.extend(smallest(random));
+        input.push(b'\n');
     }
     for _ in 0..length {
         let text = b"0123456789abcdef,,,-\n\n-FBES\0\rcreditoutput";
@@ -149,6 +165,15 @@ fn random_bytes(random: &mut Random, _: &Cards) -> Vec<u8> {
         input.push(byte);
     }
     input
+}
+
+/// The field of the smallest grant, or nothing; one in eight to which the oracle has no answers.
+fn smallest(random: &mut Random) -> &'static [u8] {
+    match random.below(8) {
+        0 => b",4",
+        1..4 => b",1",
+        _ => b"",
+    }
 }
 
 fn a_card<'a>(random: &mut Random, cards: &'a Cards) -> &'a [Vec<u8>] {
@@ -181,7 +206,10 @@ fn damaged_card(random: &mut Random, cards: &Cards) -> Vec<u8> {
 fn long_session(random: &mut Random, cards: &Cards) -> Vec<u8> {
     let mut input = match random.once_in(4) {
         true => a_card(random, cards)[0].clone(),
-        false => b"open,0,7,2,16384,B,16384,B,4294967295,0,-,1000,1000".to_vec(),
+        false => {
+            let open = b"open,0,7,2,16384,B,16384,B,4294967295,0,-,1000,1000";
+            [&open[..], smallest(random)].concat()
+        }
     };
     input.push(b'\n');
     let fields: Vec<Vec<u8>> = input
@@ -328,13 +356,20 @@ fn last_end(random: &mut Random, input: &mut Vec<u8>) {
 struct Run {
     answers: Vec<u8>,
     ok: bool,
+    status: Option<i32>,
     seconds: f64,
     /// The most that was resident, in kB, when all input was written.
     memory: u64,
 }
 
 /// Runs a program on the input, written in pieces.
-fn run(program: &str, arguments: &[String], input: &[u8], random: &mut Random) -> io::Result<Run> {
+fn run(
+    program: &str,
+    arguments: &[String],
+    input: &[u8],
+    stderr: Stdio,
+    random: &mut Random,
+) -> io::Result<Run> {
     let piece = random
         .to_one_of(&[40, 5_000, 65_536, 400_000])
         .max(input.len() as u64 / 2_000) as usize;
@@ -343,6 +378,7 @@ fn run(program: &str, arguments: &[String], input: &[u8], random: &mut Random) -
         .args(arguments)
         .stdin(Stdio::piped())
         .stdout(Stdio::piped())
+        .stderr(stderr)
         .spawn()?;
     let status = format!("/proc/{}/status", child.id());
     let mut stdin = child.stdin.take().expect("it is piped");
@@ -366,6 +402,7 @@ fn run(program: &str, arguments: &[String], input: &[u8], random: &mut Random) -
     Ok(Run {
         answers: ended.stdout,
         ok,
+        status: ended.status.code(),
         seconds,
         memory: written.unwrap_or(0),
     })

@@ -66,6 +66,8 @@ fn main() -> io::Result<()> {
 
 struct Card {
     random: Random,
+    /// For the smallest grant alone, so that the rest of a card is the same whatever is drawn for it.
+    grants: Random,
     far: bool,
     model: Model,
     /// The counters that stamp the lines, which go on alike: the second one stamps one line in
@@ -86,9 +88,9 @@ struct Card {
 
 impl Card {
     fn random(seed: u64, far: bool) -> Vec<u8> {
-        let mut random = Random::new(seed);
+        let mut seeds = Random::new(seed);
         // Near and far cards of one seed have nothing in common.
-        let mut random = Random::new(random.next() ^ u64::from(far));
+        let [mut random, grants] = [(); 2].map(|()| Random::new(seeds.next() ^ u64::from(far)));
         let moods: &[u64] = match random.once_in(5) {
             true => &[0],
             false => &[0, 4, 8, 8, 8, 16],
@@ -105,6 +107,7 @@ impl Card {
             probe: random.pick(&[2, 5, 20, 1000]),
             bytes: [0x10, 0x80, 0xc0].map(|first| first + random.below(48) as u8),
             random,
+            grants,
             far,
             model: Model::default(),
             counters: [0; 2],
@@ -154,7 +157,6 @@ impl Card {
         } {}
         open.id = self.random.pick(&[0, 7, 7, 7, u64::MAX]);
         open.generation = self.random.pick(&[0, 1, 2, 2, 2, u64::MAX]);
-        let text = open_text(&open);
         let area = if open.input.frames {
             open.input.size * open.chunk
         } else {
@@ -167,16 +169,42 @@ impl Card {
         };
         let stores = u128::from(area) + 2 * u128::from(open.chunk) <= BYTES.into();
         let good = open.chunk > 0 && open.input.size > 0 && open.output.size > 0;
+        let opens = good && stores && lengths <= LENGTHS;
+        let text = open_text(&open) + &self.smallest(open.input.size, opens);
         self.model = Model::new(open);
         self.start_counters();
         if self.random.once_in(150) {
-            let bad = self.spoil(text);
+            let mut bad = self.spoil(text);
+            if is_uncompared(&bad) {
+                // A field too many makes it bad.
+                bad.extend(b",1");
+            }
             self.text.extend(bad);
             self.text.push(b'\n');
             return false;
         }
         self.line(text);
-        good && stores && lengths <= LENGTHS
+        opens
+    }
+
+    /// The field of the smallest grant with its comma, or nothing. Where limits and stores open a runner,
+    /// the field is 1 or refuses the line, and the card goes on as if it had not.
+    fn smallest(&mut self, size: u64, opens: bool) -> String {
+        let random = &mut self.grants;
+        let most = u64::from(u32::MAX);
+        let field = if opens && random.once_in(100) {
+            random.pick(&[0, size + 1, most]).to_string()
+        } else if !opens && random.once_in(5) {
+            // Which refusal comes first is told by these.
+            random.pick(&[0, size, size + 1, most]).to_string()
+        } else if random.once_in(150) {
+            random.pick(&["", "-", "4294967296", "1,1"]).into()
+        } else if random.once_in(3) {
+            "1".into()
+        } else {
+            return String::new();
+        };
+        format!(",{field}")
     }
 
     /// Mostly tiny chunks and windows; now and then as much as the stores hold, or one more.
@@ -777,6 +805,14 @@ fn past(open: &Open) -> bool {
             .fold(open.now, |sum, &more| sum.saturating_add(more))
     };
     sum(&[open.grace, open.settlement]) >= FAR || sum(&[open.timeout.limit().unwrap_or(0)]) >= FAR
+}
+
+/// Whether a first line may open a runner with another smallest grant than 1, to which the Rust has no
+/// answers.
+fn is_uncompared(line: &[u8]) -> bool {
+    let line = String::from_utf8_lossy(line);
+    let fields: Vec<&str> = line.split(',').collect();
+    fields.len() == 14 && fields[13].parse().is_ok_and(|smallest: u32| smallest > 1)
 }
 
 fn open_text(open: &Open) -> String {

@@ -1,6 +1,7 @@
 //! Reads a session card from standard input, runs it on the published Rust runner, and prints
 //! one answer a line. With --ring, pending shows what our ring of the input hands back. With
-//! --many, the input holds card after card, each ended by a line `----`, and so do the answers.
+//! --many, the input holds card after card, each ended by a line `----`, and so do the answers. At
+//! the first card that opens with another smallest grant than 1 it stops with status 3.
 
 mod answers;
 mod card;
@@ -15,6 +16,9 @@ use session::Session;
 
 /// The number that refuses what is no line of the card.
 const BAD_LINE: u32 = 30;
+
+/// The status that says that a card is not compared.
+const NOT_COMPARED: i32 = 3;
 
 /// With --many, the line that ends a card and its answers.
 const SEPARATOR: &str = "----";
@@ -71,9 +75,23 @@ fn open(
     answers: &mut Answers,
 ) -> Result<(), u32> {
     let open = card::open(line).ok_or(BAD_LINE)?;
+    let smallest = open.smallest;
     *session = Some(Session::open(open, as_ring)?);
+    if smallest != 1 {
+        not_compared(line, answers);
+    }
     answers.word(session::OK);
     Ok(())
+}
+
+/// Stops at a card that opens with another smallest grant than 1: the Rust grants every unit at once,
+/// so it has no answers to it. What was answered before is written out.
+fn not_compared(line: &[u8], answers: &mut Answers) -> ! {
+    let line = String::from_utf8_lossy(line);
+    eprintln!("not compared, as the Rust grants every unit at once: {line}");
+    // As where a call panics, there is nobody to tell.
+    let _ = answers.write_out();
+    std::process::exit(NOT_COMPARED)
 }
 
 /// Answers a later line, which is bad where the first opened nothing.

@@ -24,7 +24,8 @@ pub struct Session {
 }
 
 impl Session {
-    /// Opens the session, unless there are no such limits or a store is short.
+    /// Opens the session, unless there are no such limits, the smallest grant is none or above the input's
+    /// size in its own unit, or a store is short.
     pub fn open(open: Open, as_ring: bool) -> Result<Self, u32> {
         let limits = Limits::new(open.chunk, open.input, open.output).ok_or(10u32)?;
         let limits = if open.shared {
@@ -32,6 +33,9 @@ impl Session {
         } else {
             limits
         };
+        if open.smallest == 0 || open.smallest > limits.input().size() {
+            return Err(46);
+        }
         let (area, lengths) = input_need(&limits);
         // The sum is at most 2^64 - 1.
         if 2 * u64::from(open.chunk) + area > BYTES || lengths > LENGTHS {
