@@ -1,4 +1,4 @@
--- Demand 3, whole: the theorems of the calls without refusals 10, 11 and 12, carried to the calls as they are.
+-- Demand 3, whole: the theorems of the calls without refusals 10, 11, 12 and 46, carried to the calls as they are.
 use Rattle.std.specs.Prelude.{Result, Some, Ok, Err}
 use Rattle.exec.specs.declared.Refusal.{Refusal}
 use mathlib.Core.Bool.{true, false, ◌&&◌}

@@ -1,4 +1,4 @@
--- A call that is not refused by 12, 10 or 11 leaves and answers what it does without these, and its answer is none of them.
+-- A call that is not refused by 12, 10, 46 or 11 leaves and answers what it does without these, and its answer is none of them.
 use Rattle.std.specs.Prelude.{Option, Result, Some, Ok, Err}
 use Rattle.exec.specs.declared.Admission.TheVariants.{Own, Stale}
 use Rattle.exec.specs.declared.Admission.{Admission}
@@ -62,7 +62,7 @@ answer_is s (Call.next_message buffer) g =
     rw e (says_is (choose s.runner (length buffer)) s.runner s.bytes buffer (λ x n o. payload_length s.runner s.bytes buffer x n e o))
 answer_is s _ g = rw g refl
 
--- ---- which is none of the three (by the answers alone, so that demand 3 does not stand on what a refusal leaves)
+-- ---- which is none of the four (by the answers alone, so that demand 3 does not stand on what a refusal leaves)
 
 abbrev Calm : Result Receipt Refusal → Type 0
 Calm x = is_stop (received_as x) ≡ false

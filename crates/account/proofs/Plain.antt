@@ -1,4 +1,4 @@
--- What a call leaves and answers where it is not refused by 12, 10 or 11, and lists of such calls.
+-- What a call leaves and answers where it is not refused by 12, 10, 46 or 11, and lists of such calls.
 use mathlib.Core.Bool.{Bool, true, ◌&&◌}
 use mathlib.Core.List.{List, [], ◌∷◌}
 use Prim.Native.Nat.{ℕ}

@@ -284,7 +284,7 @@ unmade_as : (x : Entry) (m : List Call) (s after : State) (a : Answer) → m ≡
 unfolding Does
 unmade_as x m s after a e d = let u : Unmade x s after a = rw e at d in (u.kept, (u.refusal, u.answered, u.own))
 
--- the records' own refusals are none of 10, 11 and 12
+-- the records' own refusals are none of 10, 11, 12 and 46
 abbrev IsCalm : ℕ → Type 0
 IsCalm n = is_stop (Call.Refused n) ≡ false
 

@@ -133,7 +133,7 @@ does_safe e [] s t a d = rw d.answered (record { same = d.kept; known = or_right
 does_safe e (c ∷ []) s t a d = rw (d.0, d.1) (call_safe e s (Step.next s c) (Step.answer s c) (safe s c))
 does_safe e (c ∷ b ∷ m) s t a d = then_safe e s (Step.next s c) t a (subst⁻¹ (SafeCall s c) d.0 (safe s c)) (does_safe e (b ∷ m) (Step.next s c) t a d.2)
 
--- refused by 12, 10 or 11
+-- refused by 12, 10, 46 or 11
 stop_safe : (e : Entry) (s : State) (stores : Bool) (x : Refusal) → stop s.runner stores ≡ Err x → EntrySafe e s s (Call.Refused (number x))
 stop_safe e s stores x g = record { same = refl; known = rw (stop_known s.runner stores x g) refl }
 

@@ -1,4 +1,4 @@
--- A call that is not refused by 12, 10 or 11 is refused by one of 1 to 6, and then changes nothing; nor does one that answers Stale. Only
+-- A call that is not refused by 12, 10, 46 or 11 is refused by one of 1 to 6, and then changes nothing; nor does one that answers Stale. Only
 -- credit, input, end_input and cancel refuse, and only these answer Stale.
 use Rattle.std.specs.Prelude.{Result, Ok, Err, Option, Some}
 use Rattle.exec.specs.declared.Admission.TheVariants.{Own, Stale}
