@@ -1,4 +1,4 @@
-// What both calls meet before a frame, of runners that they are lent: 12, 10, 11 and 42, in this order. Read is a list of no bytes,
+// What both calls meet before a frame, of runners that they are lent: 12, 10, 46, 11 and 42, in this order. Read is a list of no bytes,
 // and written into no buffer, so that 43 and 25 say that frames are admitted.
 use crate::carried::bytes;
 use exec::{Key, Limits, Timers, Unit, Window};
@@ -119,18 +119,22 @@ fn streams(to: &mut impl Write, store: &mut [u8]) -> io::Result<()> {
     opened(to, bytes(4, 8, 8), store, 4294967295)
 }
 
-// All are on a stream that is none, 0. A turn of 2 is no state, whatever the limits; without limits no store is looked at; and the
-// last byte that is lent makes 11 a 42.
+// All are on a stream that is none, 0. A turn of 2 is no state, whatever the limits; without limits no smallest grant is looked at,
+// and where that is 0 no store; and the last byte that is lent makes 11 a 42.
 fn order(to: &mut impl Write) -> io::Result<()> {
-    writeln!(to, "# the order: 12, 10, 11, 42")?;
+    writeln!(to, "# the order: 12, 10, 46, 11, 42")?;
     let limits = bytes(4, 8, 8).shared_output();
     let mut none = open(Limits::none(), &[]);
     none.turn = 2;
+    none.input.window.smallest = 0;
     met(to, none, &mut [], 0)?;
     none.turn = 0;
     met(to, none, &mut [], 0)?;
     let mut store = [0u8; 16];
-    let runner = open(limits, &store);
+    let mut runner = open(limits, &store);
+    runner.input.window.smallest = 0;
+    met(to, runner, &mut [0u8; 15], 0)?;
+    runner.input.window.smallest = 1;
     met(to, runner, &mut [0u8; 15], 0)?;
     met(to, runner, &mut store, 0)
 }

@@ -119,7 +119,7 @@ said_for (Choice.End x) r = (Ok (Some (Message.End x)))
 said_for (Choice.Output x n) r = (Ok (Some (Message.Output x n)))
 said_for Choice.Terminal r = (Ok (Some (Message.Terminal (outcome_of r))))
 
--- the choice of a call that may be refused by 12, 10 or 11, and its answer
+-- the choice of a call that may be refused by 12, 10, 46 or 11, and its answer
 abbrev pub choice_of : (good : Bool) → Runner → (buffer : ℕ) → Choice
 choice_of good r buffer = cond good (choose r buffer) Choice.None
 
