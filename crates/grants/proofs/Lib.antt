@@ -4,3 +4,4 @@ pub mod Messages
 pub mod Grants
 pub mod Session
 pub mod Edges
+pub mod Carried

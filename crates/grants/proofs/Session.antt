@@ -24,11 +24,11 @@ use Rattle.account.specs.Step.{State}
 use Rattle.account.specs.Records.{Entry, EntryDone, call, next_entry, answer_entry, run_entries}
 
 -- so much of the input at once, under limits
-abbrev at_once : Limits → ℕ → Conf
+abbrev pub at_once : Limits → ℕ → Conf
 at_once l g = record { key = record { id = 7; generation = 2 }; limits = l; timers = record { timeout = None; grace = 10; settlement = 5 }; smallest = g }
 
 -- chunk 4 and an input window of 8 bytes; of 3 frames; and chunk 2 with a window of 2 bytes
-abbrev in_bytes : Limits
+abbrev pub in_bytes : Limits
 in_bytes = limits_for 4 (bytes_window 8) (bytes_window 8) false
 
 abbrev in_frames : Limits
@@ -38,19 +38,19 @@ abbrev of_two : Limits
 of_two = limits_for 2 (bytes_window 2) (bytes_window 8) false
 
 -- opened at 0, with more than such limits need
-abbrev store : List ℕ
+abbrev pub store : List ℕ
 store = 0 ∷ 0 ∷ 0 ∷ 0 ∷ 0 ∷ 0 ∷ 0 ∷ 0 ∷ 0 ∷ 0 ∷ 0 ∷ 0 ∷ 0 ∷ 0 ∷ 0 ∷ 0 ∷ 0 ∷ 0 ∷ 0 ∷ 0 ∷ []
 
-abbrev slots : List ℕ
+abbrev pub slots : List ℕ
 slots = 0 ∷ 0 ∷ 0 ∷ []
 
-abbrev begins : Conf → State
+abbrev pub begins : Conf → State
 begins conf = Step.opened conf 0 store slots
 
-abbrev answers_of : List EntryDone → List Answer
+abbrev pub answers_of : List EntryDone → List Answer
 answers_of ds = map (λ (d : EntryDone). d.answer) ds
 
-abbrev told : Conf → List Entry → List Answer
+abbrev pub told : Conf → List Entry → List Answer
 told conf es = answers_of (run_entries (begins conf) es)
 
 abbrev message : Entry
@@ -59,10 +59,10 @@ message = call (Call.next_message [])
 abbrev sends : List ℕ → Entry
 sends b = call (Call.input (record { id = 7; generation = 2 }) b)
 
-abbrev takes : ℕ → Entry
+abbrev pub takes : ℕ → Entry
 takes n = call (Call.input_written n)
 
-abbrev credit : ℕ → Answer
+abbrev pub credit : ℕ → Answer
 credit u = Call.Says (Call.Credit u)
 
 -- launched, with its first credit and its start told
