@@ -68,7 +68,7 @@ Known (Err x) = among (number x) of_calls ≡ true
 stop_known : (r : Runner) (stores : Bool) (x : Refusal) → stop r stores ≡ Err x → Known (Err x)
 stop_known r stores x e = subst Known e (stop_ends Known refl refl refl r stores refl (λ i v g s. tt))
 
-stopped : (s : State) (c : Call) (x : Refusal) → stop s.runner (Plain.enough s c) ≡ Err x
+pub stopped : (s : State) (c : Call) (x : Refusal) → stop s.runner (Plain.enough s c) ≡ Err x
     → (Step.next s c ≡ s) × (Step.answer s c ≡ Call.Refused (number x))
 unfolding Plain.enough Step.next Step.answer Calls.key Calls.limits Calls.credit Calls.input Calls.end_input Calls.cancel Calls.launched Calls.read_allowance Calls.output Calls.discarded Calls.output_closed Calls.output_failed Calls.output_hung_up Calls.pending_input Calls.input_written Calls.input_closed Calls.exited Calls.settled Calls.dropped Calls.reset Calls.disconnect Calls.tick Calls.deadline Calls.next_request Calls.next_message Calls.is_finished Calls.is_detached Calls.awaits_settlement Calls.memory_bound Calls.buffered Calls.high_water
 stopped s (Call.credit k p u) x g = rw g (refl, refl)

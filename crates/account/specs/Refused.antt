@@ -1,12 +1,11 @@
 -- Demand 1: a refusal carries its number and leaves state, stores and buffers unchanged. Over EVERY state, whether a list of
 -- calls from open reaches it or not. Stale and Late are answers and no refusals: Stale changes nothing either, a Late input is
 -- charged. Of the lines of a card crate `grammar` tells.
-use Rattle.std.specs.Prelude.{true, cond, ◌&&◌, ◌||◌, ◌≡◌, List, [], ◌∷◌, ℕ, Option, Err}
+use Rattle.std.specs.Prelude.{true, cond, ◌&&◌, ◌||◌, ◌≡◌, List, [], ◌∷◌, ℕ, leb, ltb, Option, Err}
 use Rattle.exec.specs.declared.Status.{Status}
 use Rattle.exec.specs.declared.Refusal.{Refusal}
 use Rattle.exec.specs.Limits.{is_valid}
 use Rattle.exec.specs.Refusal.{number}
-use Rattle.inbox.specs.Receiver.{grant_fits}
 use Rattle.runner.specs.Calls as Calls
 use Rattle.runner.specs.Range.{bytes_do, lengths_do}
 use Rattle.codec.specs.declared.Record.{Record}
@@ -58,7 +57,7 @@ pub record Refusals : Type 0 where
   pub open_number : (conf : Conf) (now : ℕ) (bytes lengths : List ℕ)
       → open_answer conf now bytes lengths
       ≡ cond (is_valid conf.limits)
-      (cond (grant_fits conf.smallest conf.limits.input.size)
+      (cond (ltb 0 conf.smallest && leb conf.smallest conf.limits.input.size)
       (cond (bytes_do conf.limits bytes && lengths_do conf.limits lengths) Call.Ok (Call.Refused 11)) (Call.Refused 46)) (Call.Refused 10)
   -- and on the runner that it then gives every call and record is refused by 10, with any stores, and after any others
   pub unopened : (conf : Conf) (now : ℕ) (bytes lengths : List ℕ) (n : ℕ) → open_answer conf now bytes lengths ≡ Call.Refused n

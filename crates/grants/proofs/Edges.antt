@@ -1,6 +1,6 @@
 -- 46 at its numbers, computed from the definitions: "a g of 0 or above the input size with 46, after 10", in open and in every other
 -- call, and before 11.
-use Rattle.std.specs.Prelude.{◌≡◌, refl, false, List, [], ◌∷◌, ℕ, ◌^◌, ◌-◌, Result, None, Ok, Err}
+use Rattle.std.specs.Prelude.{◌≡◌, refl, false, true, List, [], ◌∷◌, ℕ, ◌^◌, ◌-◌, Result, None, Ok, Err}
 use Rattle.exec.specs.declared.Key.{Key}
 use Rattle.exec.specs.declared.Limits.{Limits}
 use Rattle.exec.specs.declared.Refusal.{Refusal}
@@ -12,6 +12,7 @@ use Rattle.runner.specs.declared.runner.Runner.{Runner}
 use Rattle.runner.specs.Calls as Calls
 use Rattle.runner.specs.Range as Range
 use Rattle.runner.specs.State.{with_flow}
+use Rattle.inbox.specs.Receiver.{grant_fits}
 
 abbrev own : Key
 own = record { id = 7; generation = 2 }
@@ -44,6 +45,9 @@ sizes : (opens in_bytes 0 ≡ Err Refusal.SmallestGrant) × (opens in_bytes 1 �
     × (number Refusal.SmallestGrant ≡ 46)
 unfolding opens
 sizes = (refl, refl, refl, refl, refl, refl, refl, refl, refl)
+
+wide : (grant_fits (2 ^ 32 - 1) (2 ^ 32 - 1) ≡ true) × (grant_fits 65536 65536 ≡ true) × (grant_fits 65535 65536 ≡ true) × (grant_fits 65537 65536 ≡ false)
+wide = (refl, refl, refl, refl)
 
 -- "after 10", and before 11
 order : (opens (chunked 0) 0 ≡ Err Refusal.NoLimits) × (opens (chunked 0) 9 ≡ Err Refusal.NoLimits)

@@ -1,11 +1,12 @@
 -- The claim: nothing until the smallest grant is due, then all of it; grants come, and soon.
-use Rattle.std.specs.Prelude.{true, false, ◌≡◌, refl, List, ℕ, ◌+◌, ◌≤◌, ◌<◌}
-use Rattle.std.proofs.lemmas.Bool.{and_parts, and_from, not-true, leb-true, le-leb}
+use Rattle.std.specs.Prelude.{Bool, true, false, not, ◌&&◌, ◌≡◌, refl, List, ℕ, ◌+◌, ◌≤◌, ◌<◌, leb, ltb}
+use Rattle.std.proofs.lemmas.Bool.{and_parts, not-true, leb-true, le-leb}
+use Rattle.std.proofs.lemmas.Bool.Decides.{nat_tests}
 use Rattle.std.proofs.Common.{sym, ap, ◌∙◌, arith}
 use mathlib.Core.Path.{subst, subst⁻¹}
 use Rattle.inbox.specs.Inbox.{inbox_held}
 use Rattle.inbox.specs.Receiver.{is_due}
-use Rattle.input.specs.Input.{input_accepts, can_grant}
+use Rattle.input.specs.Input.{can_grant}
 use Rattle.runner.specs.Range.{fresh}
 use Rattle.calls.specs.Call as Call
 use Rattle.calls.specs.Call.{Conf, Call, Answer}
@@ -21,6 +22,10 @@ use Rattle.account.proofs.Units.{units}
 use Rattle.grants.specs.GrantsClaim.{SmallestGrant}
 use Rattle.grants.proofs.Messages.{Brought, brings, Waits, soon}
 use Rattle.grants.proofs.Unlost.{unlost}
+
+-- at least one is some
+one_some : (n : ℕ) → leb 1 n ≡ ltb 0 n
+one_some n = grind (arith, nat_tests)
 
 module _ (conf : Conf) (now : ℕ) (bytes lengths : List ℕ) (op : Opens conf now bytes lengths) where
   abbrev o : State
@@ -56,15 +61,28 @@ module _ (conf : Conf) (now : ℕ) (bytes lengths : List ℕ) (op : Opens conf n
       (good_open conf now bytes lengths op).fine (subst (λ (t : State). t.runner.input.closed ≡ false) (to_calls conf now bytes lengths op es) e) in
       omega (arith, units conf now bytes lengths op es, none)
 
-  come : (es : List Entry) (n : ℕ) → let i = (after_entries o es).runner.input in
-      input_accepts i ≡ true → inbox_held conf.limits.input.unit i.inbox ≡ 0 → i.window.open < n → n + conf.smallest ≤ conf.limits.input.size + 1
-      → (can_grant i ≡ true) × (i.window.open + i.window.returnable ≡ conf.limits.input.size)
-  come es n a h l m =
+  due : (es : List Entry) → let i = (after_entries o es).runner.input in
+      i.closed ≡ false → i.peer_ended ≡ false → conf.smallest ≤ i.window.returnable → can_grant i ≡ true
+  due es a b h = let w = (after_entries o es).runner.input.window in rw (a, b) (le-leb w.smallest w.returnable (omega (arith, smallest_at es)))
+
+  only : (es : List Entry) → let i = (after_entries o es).runner.input in
+      can_grant i ≡ true → (i.closed ≡ false) × (i.peer_ended ≡ false) × (conf.smallest ≤ i.window.returnable)
+  only es h =
       let i = (after_entries o es).runner.input in
-      let all = whole es (not-true i.closed (and_parts _ _ a).0) in (
-        and_from (input_accepts i) (is_due i.window) a (le-leb i.window.smallest i.window.returnable (omega (arith, all, smallest_at es))),
-        omega (arith, all),
-      )
+      let p = and_parts (not i.closed && not i.peer_ended) (is_due i.window) h in
+      let q = and_parts (not i.closed) (not i.peer_ended) p.0 in
+      (not-true i.closed q.0, not-true i.peer_ended q.1, omega (arith, leb-true i.window.smallest i.window.returnable p.1, smallest_at es))
+
+  as_before : (es : List Entry) → let i = (after_entries o es).runner.input in
+      conf.smallest ≡ 1 → can_grant i ≡ ((not i.closed && not i.peer_ended) && ltb 0 i.window.returnable)
+  as_before es h =
+      let i = (after_entries o es).runner.input in
+      ap (λ (b : Bool). (not i.closed && not i.peer_ended) && b) (ap (λ (n : ℕ). leb n i.window.returnable) (smallest_at es ∙ h) ∙ one_some i.window.returnable)
+
+  come : (es : List Entry) (n : ℕ) → let i = (after_entries o es).runner.input in
+      i.closed ≡ false → i.peer_ended ≡ false → inbox_held conf.limits.input.unit i.inbox ≡ 0 → i.window.open < n → n + conf.smallest ≤ conf.limits.input.size + 1
+      → (can_grant i ≡ true) × (i.window.open + i.window.returnable ≡ conf.limits.input.size)
+  come es n a b h l m = let all = whole es a in (due es a b (omega (arith, all)), omega (arith, all))
 
   -- what is_finished and is_detached tell
   tells : (es : List Entry) → let s = after_entries o es in can_grant s.runner.input ≡ true → Step.answer s Call.is_finished ≡ Call.Truth false → Step.answer s Call.is_detached ≡ Call.Truth false
@@ -80,8 +98,12 @@ pub smallest_grant : SmallestGrant
 smallest_grant conf now bytes lengths op = record {
   nothing = λ es e u l h. (let b = credit_at conf now bytes lengths op es e u h in
       omega (arith, least conf now bytes lengths op es e u h, b.all));
-  all = λ es e u h. (let b = credit_at conf now bytes lengths op es e u h in (b.all, b.none, b.opens ∙ ap (λ (n : ℕ). (after_entries (Step.opened conf now bytes lengths) es).runner.input.window.open + n) (sym b.all)));
+  all = λ es e u h. (let b = credit_at conf now bytes lengths op es e u h in
+      (b.all, b.none, b.opens ∙ ap (λ (n : ℕ). (after_entries (Step.opened conf now bytes lengths) es).runner.input.window.open + n) (sym b.all)));
   least = least conf now bytes lengths op;
-  come = come conf now bytes lengths op;
+  due = due conf now bytes lengths op;
+  only = only conf now bytes lengths op;
+  as_before = as_before conf now bytes lengths op;
   soon = λ es b c k f d. soon b c (after_entries (Step.opened conf now bytes lengths) es) (good conf now bytes lengths op es).fine (tells conf now bytes lengths op es k f d);
+  come = come conf now bytes lengths op;
 }

@@ -2,6 +2,7 @@
 pub mod Unlost
 pub mod Messages
 pub mod Grants
+pub mod Refuses
 pub mod Session
 pub mod Edges
 pub mod Carried

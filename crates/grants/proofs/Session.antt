@@ -4,9 +4,11 @@ use Rattle.std.specs.Prelude.{false, ◌≡◌, refl, List, [], ◌∷◌, ◌++
 use mathlib.Core.List.{map}
 use Rattle.exec.specs.declared.Limits.{Limits}
 use Rattle.exec.specs.Key.{admits}
+use Rattle.exec.specs.declared.Pool.TheVariants as Pool
+use Rattle.exec.specs.declared.Stream.TheVariants.{Stdout}
 use Rattle.exec.specs.Limits.{bytes_window, frames_window, bytes_with, limits_for, cost}
 use Rattle.ring.specs.Runs.{copied}
-use Rattle.ring.specs.Ring.{ring_write, ring_from, wrap}
+use Rattle.ring.specs.Ring.{ring_read, ring_write, ring_from, wrap}
 use Rattle.ring.specs.Frames.{pop_from}
 use Rattle.inbox.specs.Inbox.{front}
 use Rattle.input.specs.Input as Input
@@ -117,9 +119,23 @@ pub record Computed : Type 0 where
       ≡ Call.Ok ∷ credit 2 ∷ Call.Says Call.Started ∷ Call.Applied ∷ Call.Came 0 ∷ Call.Nothing ∷ Call.Came 0 ∷ credit 2 ∷ Call.Nothing ∷ []
   pub closed : told (at_once in_bytes 4) closes
       ≡ Call.Ok ∷ credit 8 ∷ Call.Says Call.Started ∷ Call.Applied ∷ Call.Came 0 ∷ Call.Ok ∷ Call.Says Call.InputClosed ∷ Call.Nothing ∷ []
+  pub held : told (at_once in_bytes 2) (runs ++ (sends (97 ∷ 98 ∷ 99 ∷ 100 ∷ []) ∷ takes 1 ∷ message ∷ takes 1 ∷ message ∷ message ∷ takes 1 ∷ message ∷ takes 1 ∷ message ∷ []))
+      ≡ Call.Ok ∷ credit 8 ∷ Call.Says Call.Started ∷ Call.Applied ∷ Call.Came 0 ∷ Call.Nothing ∷ Call.Came 0 ∷ credit 2 ∷ Call.Nothing ∷ Call.Came 0 ∷ Call.Nothing ∷ Call.Came 0 ∷ credit 2 ∷ []
+  pub held_over : told (at_once in_bytes 2) (runs ++ (sends (97 ∷ 98 ∷ 99 ∷ 100 ∷ []) ∷ takes 3 ∷ message ∷ []))
+      ≡ Call.Ok ∷ credit 8 ∷ Call.Says Call.Started ∷ Call.Applied ∷ Call.Came 0 ∷ credit 3 ∷ []
+  pub held_frames : told (at_once in_frames 2) (runs ++ (sends (1 ∷ []) ∷ sends (2 ∷ []) ∷ sends (3 ∷ []) ∷ takes 1 ∷ message ∷ takes 1 ∷ message ∷ []))
+      ≡ Call.Ok ∷ credit 3 ∷ Call.Says Call.Started ∷ Call.Applied ∷ Call.Applied ∷ Call.Applied ∷ Call.Came 1 ∷ Call.Nothing ∷ Call.Came 1 ∷ credit 2 ∷ []
+  pub held_frame : told (at_once in_frames 1) (runs ++ (sends (1 ∷ []) ∷ sends (2 ∷ []) ∷ takes 1 ∷ message ∷ []))
+      ≡ Call.Ok ∷ credit 3 ∷ Call.Says Call.Started ∷ Call.Applied ∷ Call.Applied ∷ Call.Came 1 ∷ credit 1 ∷ []
+  pub ended : told (at_once in_bytes 2) (runs ++ (sends (97 ∷ 98 ∷ 99 ∷ []) ∷ takes 2 ∷ call (Call.end_input (record { id = 7; generation = 2 })) ∷ message ∷ []))
+      ≡ Call.Ok ∷ credit 8 ∷ Call.Says Call.Started ∷ Call.Applied ∷ Call.Came 0 ∷ Call.Applied ∷ Call.Nothing ∷ []
+  pub second : told (at_once of_two 2) (message ∷ sends (97 ∷ 98 ∷ []) ∷ takes 2 ∷ call (Call.launched (Ok tt)) ∷ message ∷ message ∷ message ∷ [])
+      ≡ credit 2 ∷ Call.Applied ∷ Call.Came 0 ∷ Call.Ok ∷ Call.Says Call.Started ∷ credit 2 ∷ Call.Nothing ∷ []
+  pub outputs : told (at_once in_bytes 8) (runs ++ (call (Call.credit (record { id = 7; generation = 2 }) Pool.Stdout 8) ∷ call (Call.output Stdout (97 ∷ 98 ∷ 99 ∷ 100 ∷ 101 ∷ [])) ∷ call (Call.next_message (0 ∷ 0 ∷ 0 ∷ 0 ∷ [])) ∷ []))
+      ≡ Call.Ok ∷ credit 8 ∷ Call.Says Call.Started ∷ Call.Applied ∷ Call.Taken 4 ∷ Call.Says (Call.Output Stdout (97 ∷ 98 ∷ 99 ∷ 100 ∷ [])) ∷ []
 
 pub computed : Computed
-unfolding Step.next Step.answer next_entry answer_entry Calls.«open» Calls.launched Calls.input Calls.input_written Calls.input_closed Calls.pending_input Calls.tick Calls.deadline Calls.next_message Range.fresh Range.stop Range.in_range output_fits bytes_with admits cost wrap ring_write ring_from copied pop_from if_else order Life.close_runner_input Life.note_started Life.note_launch Life.launched_next Life.pass_grace Life.pass_timeout Life.pass_settlement Life.pass_give_up Life.pass_abandonment Life.fire Life.ticked Life.deadline_of Life.is_ready Message.sendable_of Message.choose Message.effect Message.said_for Message.buffer_after Streams.received Streams.input_answer Streams.input_next Streams.input_store Streams.input_lengths Streams.written_next Streams.written_came Streams.written_lengths Streams.pending_of Input.receive_answer Input.receive_input Input.receive_bytes Input.receive_lengths Input.written_input Input.written_came Input.written_lengths Input.pending_input front
+unfolding ring_read Streams.credit_in Calls.credit Calls.output Streams.credit_answer Streams.credit_next Streams.output_took Streams.output_next Streams.output_taken Streams.output_store Message.output_sent Message.output_paid Message.payload Calls.end_input Streams.end_answer Streams.end_next Input.end_answer Input.end_input Step.next Step.answer next_entry answer_entry Calls.«open» Calls.launched Calls.input Calls.input_written Calls.input_closed Calls.pending_input Calls.tick Calls.deadline Calls.next_message Range.fresh Range.stop Range.in_range output_fits bytes_with admits cost wrap ring_write ring_from copied pop_from if_else order Life.close_runner_input Life.note_started Life.note_launch Life.launched_next Life.pass_grace Life.pass_timeout Life.pass_settlement Life.pass_give_up Life.pass_abandonment Life.fire Life.ticked Life.deadline_of Life.is_ready Message.sendable_of Message.choose Message.effect Message.said_for Message.buffer_after Streams.received Streams.input_answer Streams.input_next Streams.input_store Streams.input_lengths Streams.written_next Streams.written_came Streams.written_lengths Streams.pending_of Input.receive_answer Input.receive_input Input.receive_bytes Input.receive_lengths Input.written_input Input.written_came Input.written_lengths Input.pending_input front
 computed = record {
   four = refl;
   one = refl;
@@ -128,4 +144,11 @@ computed = record {
   goes_on = refl;
   whole = refl;
   closed = refl;
+  held = refl;
+  held_over = refl;
+  held_frames = refl;
+  held_frame = refl;
+  ended = refl;
+  second = refl;
+  outputs = refl;
 }
