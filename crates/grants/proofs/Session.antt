@@ -117,8 +117,13 @@ pub record Computed : Type 0 where
   -- 1 + 2 ≤ 2 + 1: so does one that sends each byte as it may
   pub whole : told (at_once of_two 2) all_used
       ≡ Call.Ok ∷ credit 2 ∷ Call.Says Call.Started ∷ Call.Applied ∷ Call.Came 0 ∷ Call.Nothing ∷ Call.Came 0 ∷ credit 2 ∷ Call.Nothing ∷ []
+  -- three are returnable as the input closes: they are granted no more; nor are two as the peer ends it
   pub closed : told (at_once in_bytes 4) closes
       ≡ Call.Ok ∷ credit 8 ∷ Call.Says Call.Started ∷ Call.Applied ∷ Call.Came 0 ∷ Call.Ok ∷ Call.Says Call.InputClosed ∷ Call.Nothing ∷ []
+  pub ended : told (at_once in_bytes 2) (runs ++ (sends (97 ∷ 98 ∷ 99 ∷ []) ∷ takes 2 ∷ call (Call.end_input (record { id = 7; generation = 2 })) ∷ message ∷ []))
+      ≡ Call.Ok ∷ credit 8 ∷ Call.Says Call.Started ∷ Call.Applied ∷ Call.Came 0 ∷ Call.Applied ∷ Call.Nothing ∷ []
+  -- what the workload has still to take holds no credit back: two of four bytes, and the other two; three at once; two of three frames; and
+  -- with 1 a frame
   pub held : told (at_once in_bytes 2) (runs ++ (sends (97 ∷ 98 ∷ 99 ∷ 100 ∷ []) ∷ takes 1 ∷ message ∷ takes 1 ∷ message ∷ message ∷ takes 1 ∷ message ∷ takes 1 ∷ message ∷ []))
       ≡ Call.Ok ∷ credit 8 ∷ Call.Says Call.Started ∷ Call.Applied ∷ Call.Came 0 ∷ Call.Nothing ∷ Call.Came 0 ∷ credit 2 ∷ Call.Nothing ∷ Call.Came 0 ∷ Call.Nothing ∷ Call.Came 0 ∷ credit 2 ∷ []
   pub held_over : told (at_once in_bytes 2) (runs ++ (sends (97 ∷ 98 ∷ 99 ∷ 100 ∷ []) ∷ takes 3 ∷ message ∷ []))
@@ -127,10 +132,10 @@ pub record Computed : Type 0 where
       ≡ Call.Ok ∷ credit 3 ∷ Call.Says Call.Started ∷ Call.Applied ∷ Call.Applied ∷ Call.Applied ∷ Call.Came 1 ∷ Call.Nothing ∷ Call.Came 1 ∷ credit 2 ∷ []
   pub held_frame : told (at_once in_frames 1) (runs ++ (sends (1 ∷ []) ∷ sends (2 ∷ []) ∷ takes 1 ∷ message ∷ []))
       ≡ Call.Ok ∷ credit 3 ∷ Call.Says Call.Started ∷ Call.Applied ∷ Call.Applied ∷ Call.Came 1 ∷ credit 1 ∷ []
-  pub ended : told (at_once in_bytes 2) (runs ++ (sends (97 ∷ 98 ∷ 99 ∷ []) ∷ takes 2 ∷ call (Call.end_input (record { id = 7; generation = 2 })) ∷ message ∷ []))
-      ≡ Call.Ok ∷ credit 8 ∷ Call.Says Call.Started ∷ Call.Applied ∷ Call.Came 0 ∷ Call.Applied ∷ Call.Nothing ∷ []
+  -- a Credit behind a Credit lets Started go first: it is the second message asked for
   pub second : told (at_once of_two 2) (message ∷ sends (97 ∷ 98 ∷ []) ∷ takes 2 ∷ call (Call.launched (Ok tt)) ∷ message ∷ message ∷ message ∷ [])
       ≡ credit 2 ∷ Call.Applied ∷ Call.Came 0 ∷ Call.Ok ∷ Call.Says Call.Started ∷ credit 2 ∷ Call.Nothing ∷ []
+  -- nothing else asks the smallest grant: output goes as ever, under the largest
   pub outputs : told (at_once in_bytes 8) (runs ++ (call (Call.credit (record { id = 7; generation = 2 }) Pool.Stdout 8) ∷ call (Call.output Stdout (97 ∷ 98 ∷ 99 ∷ 100 ∷ 101 ∷ [])) ∷ call (Call.next_message (0 ∷ 0 ∷ 0 ∷ 0 ∷ [])) ∷ []))
       ≡ Call.Ok ∷ credit 8 ∷ Call.Says Call.Started ∷ Call.Applied ∷ Call.Taken 4 ∷ Call.Says (Call.Output Stdout (97 ∷ 98 ∷ 99 ∷ 100 ∷ [])) ∷ []
 
