@@ -71,6 +71,7 @@ conf_of s = record { key = s.key; limits = s.limits; timers = s.timers; smallest
 abbrev pub rep : Runner → Replay
 rep s = record {
   key = s.key;
+  limits = s.limits;
   timers = s.timers;
   timeout = s.clocks.timeout_at;
   begun = s.clocks.terminated;

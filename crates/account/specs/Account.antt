@@ -3,6 +3,7 @@
 use Rattle.std.specs.Prelude.{Bool, true, false, cond, not, ◌&&◌, ◌||◌, List, [], ◌∷◌, ◌++◌, ℕ, ltb, length, take, Option, Result, None, Err}
 use Rattle.exec.specs.declared.Admission.{Admission}
 use Rattle.exec.specs.declared.Key.{Key}
+use Rattle.exec.specs.declared.Limits.{Limits}
 use Rattle.exec.specs.declared.Refusal.{Refusal}
 use Rattle.exec.specs.declared.Settlement.{Settlement}
 use Rattle.exec.specs.declared.Stream.{Stream}
@@ -19,9 +20,10 @@ pub data Settling : Type 0 where
   Settled : Settling
   Fenced : Settling
 
--- What is replayed: the key and the timers that open was given, the times, and what was reported.
+-- What is replayed: the key, the limits and the timers that open was given, the times, and what was reported.
 pub record Replay : Type 0 where
   pub key : Key
+  pub limits : Limits
   pub timers : Timers
   pub timeout : Option ℕ
   pub begun : Bool  -- the first of a due timeout, an Applied cancel or a detachment has come
@@ -64,6 +66,7 @@ on_tally x f a = mk a.rep (on_one x f a.tallies)
 abbrev pub with_times : (timeout : Option ℕ) (begun : Bool) (give_up abandon : Option ℕ) → Replay → Replay
 with_times timeout begun give_up abandon r = record {
   key = r.key;
+  limits = r.limits;
   timers = r.timers;
   timeout = timeout;
   begun = begun;
@@ -83,6 +86,7 @@ with_times timeout begun give_up abandon r = record {
 abbrev pub with_work : (launch gave_up left exit : Bool) → Settling → (detached : Bool) → Replay → Replay
 with_work launch gave_up left exit settling detached r = record {
   key = r.key;
+  limits = r.limits;
   timers = r.timers;
   timeout = r.timeout;
   begun = r.begun;
@@ -102,6 +106,7 @@ with_work launch gave_up left exit settling detached r = record {
 abbrev pub with_streams : (closed hung : Each Bool) → Replay → Replay
 with_streams closed hung r = record {
   key = r.key;
+  limits = r.limits;
   timers = r.timers;
   timeout = r.timeout;
   begun = r.begun;
@@ -345,6 +350,7 @@ none = record { taken = []; sent = []; mark = false }
 unfoldable pub start : Conf → ℕ → Account
 start c now = mk (record {
   key = c.key;
+  limits = c.limits;
   timers = c.timers;
   timeout = timeout_at c.timers.timeout now;
   begun = false;
