@@ -100,10 +100,10 @@ smallest_grant conf now bytes lengths op = record {
       omega (arith, least conf now bytes lengths op es e u h, b.all));
   all = λ es e u h. (let b = credit_at conf now bytes lengths op es e u h in
       (b.all, b.none, b.opens ∙ ap (λ (n : ℕ). (after_entries (Step.opened conf now bytes lengths) es).runner.input.window.open + n) (sym b.all)));
-  least = least conf now bytes lengths op;
+  least = λ es e u h. omega (arith, least conf now bytes lengths op es e u h);
   due = due conf now bytes lengths op;
   only = only conf now bytes lengths op;
   as_before = as_before conf now bytes lengths op;
   soon = λ es b c k f d. soon b c (after_entries (Step.opened conf now bytes lengths) es) (good conf now bytes lengths op es).fine (tells conf now bytes lengths op es k f d);
-  come = come conf now bytes lengths op;
+  come = λ es n a b h l m. come conf now bytes lengths op es n a b (omega (arith, h)) l (omega (arith, m));
 }
