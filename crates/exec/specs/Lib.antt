@@ -3,7 +3,7 @@ pub mod Refusal
 pub mod Key
 pub mod Stream
 pub mod Each
-pub mod Pair
+pub mod Row
 pub mod Limits
 pub mod Time
 pub mod Outcome

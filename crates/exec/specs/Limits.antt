@@ -1,14 +1,14 @@
 -- Windows, limits and pools.
-use Rattle.std.specs.Prelude.{ℕ, ◌*◌, Bool, true, false, cond, ◌&&◌, ◌||◌, ltb, eqb, Result, Ok, Err}
+use Rattle.std.specs.Prelude.{ℕ, ◌*◌, Bool, true, false, cond, not, ◌&&◌, ◌||◌, ltb, eqb, Result, Ok, Err}
 use Rattle.exec.specs.declared.Refusal.{Refusal}
 use Rattle.exec.specs.declared.Stream.{Stream}
 use Rattle.exec.specs.declared.Pool.{Pool}
-use Rattle.exec.specs.declared.Pool.TheVariants.{Input, Stdout, Stderr, Output}
+use Rattle.exec.specs.declared.Pool.TheVariants.{Input, Stdout, Stderr, Output, Notes}
 use Rattle.exec.specs.declared.Unit as Units
 use Rattle.exec.specs.declared.Unit.TheVariants.{Bytes, Frames}
 use Rattle.exec.specs.declared.Window.{Window}
 use Rattle.exec.specs.declared.Limits.{Limits}
-use Rattle.exec.specs.Stream.{index}
+use Rattle.exec.specs.Stream.{index, is_notes}
 
 abbrev pub bytes_window : ℕ → Window
 bytes_window size = record { unit = Bytes; size = size }
@@ -50,16 +50,27 @@ new_limits chunk input output =
 abbrev pub shared_output : Limits → Limits
 shared_output l = limits_for l.chunk l.input l.output true
 
--- with shared, pool Output alone is good; without it, Stdout and Stderr are; Input never is
-abbrev pub output_pool : Bool → Pool → Result ℕ Refusal
-output_pool true Input = Err Refusal.Pool
-output_pool true Stdout = Err Refusal.Pool
-output_pool true Stderr = Err Refusal.Pool
-output_pool true Output = Ok 0
-output_pool false Input = Err Refusal.Pool
-output_pool false Stdout = Ok 0
-output_pool false Stderr = Ok 1
-output_pool false Output = Err Refusal.Pool
+-- whether Notes is open: no limits have it
+unfoldable pub has_notes : Limits → Bool
+has_notes l = false
+
+-- whether a stream is
+abbrev pub has : Limits → Stream → Bool
+has l x = not (is_notes x) || has_notes l
+
+-- with shared, pool Output alone is good; without it, those of the streams that are open are; Input never is
+abbrev pub output_pool : (shared notes : Bool) → Pool → Result ℕ Refusal
+output_pool true n Input = Err Refusal.Pool
+output_pool true n Stdout = Err Refusal.Pool
+output_pool true n Stderr = Err Refusal.Pool
+output_pool true n Output = Ok 0
+output_pool true n Notes = Err Refusal.Pool
+output_pool false n Input = Err Refusal.Pool
+output_pool false n Stdout = Ok 0
+output_pool false n Stderr = Ok 1
+output_pool false n Output = Err Refusal.Pool
+output_pool false true Notes = Ok 2
+output_pool false false Notes = Err Refusal.Pool
 
 -- the position of a stream's pool
 abbrev pub pool_of : Limits → Stream → ℕ

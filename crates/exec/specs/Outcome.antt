@@ -5,7 +5,7 @@ use Rattle.exec.specs.declared.Cause.{Cause}
 use Rattle.exec.specs.declared.LaunchFailure.{LaunchFailure}
 use Rattle.exec.specs.declared.Outcome.{Outcome}
 use Rattle.exec.specs.declared.Stream.{Stream}
-use Rattle.exec.specs.declared.Stream.TheVariants.{Stdout, Stderr}
+use Rattle.exec.specs.declared.Stream.TheVariants.{Stdout, Stderr, Notes}
 
 -- no cause, no launch failure, no truncation, and fenced
 abbrev pub new_outcome : Option Status → Outcome
@@ -15,6 +15,7 @@ new_outcome status = record {
   launch_failure = None;
   stdout_truncated = false;
   stderr_truncated = false;
+  notes_truncated = false;
   reusable = false;
 }
 
@@ -25,6 +26,7 @@ with_cause o cause = record {
   launch_failure = o.launch_failure;
   stdout_truncated = o.stdout_truncated;
   stderr_truncated = o.stderr_truncated;
+  notes_truncated = o.notes_truncated;
   reusable = o.reusable;
 }
 
@@ -35,6 +37,7 @@ with_launch_failure o failure = record {
   launch_failure = Some failure;
   stdout_truncated = o.stdout_truncated;
   stderr_truncated = o.stderr_truncated;
+  notes_truncated = o.notes_truncated;
   reusable = o.reusable;
 }
 
@@ -45,6 +48,7 @@ with_truncated o Stdout = record {
   launch_failure = o.launch_failure;
   stdout_truncated = true;
   stderr_truncated = o.stderr_truncated;
+  notes_truncated = o.notes_truncated;
   reusable = o.reusable;
 }
 with_truncated o Stderr = record {
@@ -53,6 +57,16 @@ with_truncated o Stderr = record {
   launch_failure = o.launch_failure;
   stdout_truncated = o.stdout_truncated;
   stderr_truncated = true;
+  notes_truncated = o.notes_truncated;
+  reusable = o.reusable;
+}
+with_truncated o Notes = record {
+  status = o.status;
+  cause = o.cause;
+  launch_failure = o.launch_failure;
+  stdout_truncated = o.stdout_truncated;
+  stderr_truncated = o.stderr_truncated;
+  notes_truncated = true;
   reusable = o.reusable;
 }
 
@@ -63,9 +77,11 @@ with_reusable o = record {
   launch_failure = o.launch_failure;
   stdout_truncated = o.stdout_truncated;
   stderr_truncated = o.stderr_truncated;
+  notes_truncated = o.notes_truncated;
   reusable = true;
 }
 
 abbrev pub is_truncated : Outcome → Stream → Bool
 is_truncated o Stdout = o.stdout_truncated
 is_truncated o Stderr = o.stderr_truncated
+is_truncated o Notes = o.notes_truncated

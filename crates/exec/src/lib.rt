@@ -1,11 +1,11 @@
 // What the two sides of an execution agree on (mod.rs of the Rust), in the Rust's order: keys, streams, pools, limits, timers,
-// outcomes, receipts and refusals; deadlines in `deadline`, what each stream has side by side in `pair`. A call that is refused
+// outcomes, receipts and refusals; deadlines in `deadline`, what each stream has side by side in `row`. A call that is refused
 // answers an Err with its Refusal.
 #![tactic(auto)]
 
 ghost use Rattle.std.specs.Prelude.{◌≡◌};
 ghost use Rattle.exec.specs.Key.{new_key, admits};
-ghost use Rattle.exec.specs.Stream.{index, is_stdout, is_stderr, pick, following};
+ghost use Rattle.exec.specs.Stream.{index, is_stdout, is_stderr, is_notes, pick, following, turn_after};
 ghost use Rattle.exec.specs.Limits.{
   bytes_window,
   frames_window,
@@ -15,6 +15,8 @@ ghost use Rattle.exec.specs.Limits.{
   limits_for,
   no_limits,
   new_limits,
+  has_notes,
+  has,
   shared_output,
   check_chunk,
   output_pool,
@@ -36,7 +38,7 @@ use std::error::Error;
 use std::fmt;
 
 pub mod deadline;
-pub mod pair;
+pub mod row;
 
 // The identity of one execution: an identifier, and the generation of its use.
 #[derive(Clone, Copy, Debug, PartialEq, Eq)]
@@ -82,11 +84,12 @@ impl Key {
 pub enum Stream {
     Stdout,
     Stderr,
+    Notes,
 }
 
 impl Stream {
-    // Both streams, in the order in which they are served.
-    pub const ALL: [Stream; 2] = [Stream::Stdout, Stream::Stderr];
+    // The streams, in the order in which they are served. Notes is open where the limits have it.
+    pub const ALL: [Stream; 3] = [Stream::Stdout, Stream::Stderr, Stream::Notes];
 
     pub fn is_stdout(self) -> bool
         ensures { result ≡ is_stdout self }
@@ -100,21 +103,36 @@ impl Stream {
         self == Stream::Stderr
     }
 
-    // The stream that has its turn after this one.
+    pub fn is_notes(self) -> bool
+        ensures { result ≡ is_notes self }
+    {
+        self == Stream::Notes
+    }
+
+    // The stream that is looked at after this one.
     pub fn following(self) -> Stream
         ensures { result ≡ following self }
     {
         match self {
             Stream::Stdout => Stream::Stderr,
-            Stream::Stderr => Stream::Stdout,
+            Stream::Stderr => Stream::Notes,
+            Stream::Notes => Stream::Stdout,
         }
     }
 
-    // What this stream has, of what each has. (A choice of two values stays in registers; a match that gives a struct does not.)
-    pub fn pick<T: Copy>(self, stdout: T, stderr: T) -> T
-        ensures { result ≡ pick self stdout stderr }
+    // The position of the stream that has its turn once this one has sent, given whether Notes is open.
+    pub fn turn_after(self, notes: bool) -> u8
+        ensures { result ≡ turn_after notes self }
     {
-        if self.is_stdout() { stdout } else { stderr }
+        self.pick(1, if notes { 2 } else { 0 }, 0)
+    }
+
+    // What this stream has, of what each has. (Choices of two values stay in registers; a match that gives a struct does not.)
+    pub fn pick<T: Copy>(self, stdout: T, stderr: T, notes: T) -> T
+        ensures { result ≡ pick self stdout stderr notes }
+    {
+        let later = if self.is_stderr() { stderr } else { notes };
+        if self.is_stdout() { stdout } else { later }
     }
 
     // The stream's position in ALL.
@@ -132,6 +150,7 @@ pub enum Pool {
     Stdout,
     Stderr,
     Output,
+    Notes,
 }
 
 // What a pool's credit counts.
@@ -242,7 +261,22 @@ impl Limits {
         (0 < self.chunk) & (0 < self.input.size) & (0 < self.output.size)
     }
 
-    // The same limits, with one pool that both output streams share.
+    // Whether Notes is open: no limits have it.
+    #[tactic(auto, unfolding(crate::specs::Limits::has_notes))]
+    pub fn has_notes(self) -> bool
+        ensures { result ≡ has_notes self }
+    {
+        false
+    }
+
+    // Whether a stream is open.
+    pub fn has(self, stream: Stream) -> bool
+        ensures { result ≡ has self stream }
+    {
+        !stream.is_notes() | self.has_notes()
+    }
+
+    // The same limits, with one pool that the output streams share.
     pub fn shared_output(mut self) -> Limits
         ensures { result ≡ shared_output self }
     {
@@ -262,12 +296,13 @@ impl Limits {
 
     // The position of the output pool `pool`.
     pub fn output_pool(self, pool: Pool) -> Result<usize, Refusal>
-        ensures { result ≡ output_pool self.shared pool }
+        ensures { result ≡ output_pool self.shared (has_notes self) pool }
     {
         match (self.shared, pool) {
             (true, Pool::Output) => Ok(0),
             (false, Pool::Stdout) => Ok(0),
             (false, Pool::Stderr) => Ok(1),
+            (false, Pool::Notes) if self.has_notes() => Ok(2),
             _ => Err(Refusal::Pool),
         }
     }
@@ -359,7 +394,7 @@ pub enum Settlement {
     Failed,
 }
 
-// How an execution ended. (The truncation of the two streams is two flags, as the scope has it.)
+// How an execution ended. (The truncation of the streams is a flag each, as the scope has it.)
 #[derive(Clone, Copy, Debug, PartialEq, Eq)]
 pub struct Outcome {
     pub status: Option<Status>,
@@ -367,6 +402,7 @@ pub struct Outcome {
     pub launch_failure: Option<LaunchFailure>,
     pub stdout_truncated: bool,
     pub stderr_truncated: bool,
+    pub notes_truncated: bool,
     pub reusable: bool,
 }
 
@@ -381,6 +417,7 @@ impl Outcome {
             launch_failure: None,
             stdout_truncated: false,
             stderr_truncated: false,
+            notes_truncated: false,
             reusable: false,
         }
     }
@@ -405,6 +442,7 @@ impl Outcome {
         match stream {
             Stream::Stdout => self.stdout_truncated = true,
             Stream::Stderr => self.stderr_truncated = true,
+            Stream::Notes => self.notes_truncated = true,
         }
         self
     }
@@ -422,6 +460,7 @@ impl Outcome {
         match stream {
             Stream::Stdout => self.stdout_truncated,
             Stream::Stderr => self.stderr_truncated,
+            Stream::Notes => self.notes_truncated,
         }
     }
 }
