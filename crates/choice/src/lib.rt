@@ -37,12 +37,12 @@ pub struct Shown {
     // The launch result is still waited for.
     pub awaits: bool,
     // The ends of the streams, in the order of Stream::ALL, that are not told.
-    pub ends: (bool, bool),
+    pub ends: (bool, bool, bool),
     // Everything that the outcome reports is known.
     pub ready: bool,
-    // The stream whose turn it is, and how many bytes it and the one that follows can send.
+    // The stream whose turn it is, and how many bytes it and the two that follow can send.
     pub turn: Stream,
-    pub sendable: (u32, u32),
+    pub sendable: (u32, u32, u32),
 }
 
 // The order of messages.
@@ -50,7 +50,7 @@ pub struct Shown {
 pub fn order(shown: Shown) -> Choice
     ensures { result
         ≡ order shown.finished shown.detached shown.can_grant shown.credited shown.started shown.closed shown.awaits
-        shown.ends.0 shown.ends.1 shown.ready shown.turn shown.sendable.0 shown.sendable.1 }
+        shown.ends.0 shown.ends.1 shown.ends.2 shown.ready shown.turn shown.sendable.0 shown.sendable.1 shown.sendable.2 }
 {
     if shown.finished {
         return Choice::None;
@@ -76,11 +76,17 @@ pub fn order(shown: Shown) -> Choice
     if !shown.awaits & shown.ends.1 {
         return Choice::End(Stream::Stderr);
     }
+    if !shown.awaits & shown.ends.2 {
+        return Choice::End(Stream::Notes);
+    }
     if !shown.awaits & (0 < shown.sendable.0) {
         return Choice::Output(shown.turn, shown.sendable.0);
     }
     if !shown.awaits & (0 < shown.sendable.1) {
         return Choice::Output(shown.turn.following(), shown.sendable.1);
+    }
+    if !shown.awaits & (0 < shown.sendable.2) {
+        return Choice::Output(shown.turn.following().following(), shown.sendable.2);
     }
     if shown.can_grant {
         return Choice::Credit;

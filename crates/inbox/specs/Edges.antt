@@ -2,7 +2,7 @@
 -- together in the crate channel.
 use Rattle.std.specs.Prelude.{ℕ, ◌≡◌, refl, true, false, ◌-◌, ◌^◌, Ok, Err}
 use Rattle.exec.specs.declared.Limits.{Limits}
-use Rattle.exec.specs.Limits.{bytes_window, frames_window, bytes_with, limits_for}
+use Rattle.exec.specs.Limits.{bytes_window, frames_window, bytes_with, has_notes, limits_for}
 use Rattle.exec.specs.declared.Refusal.{Refusal}
 use Rattle.inbox.specs.declared.receiver.Granted.{Granted}
 use Rattle.inbox.specs.Need.{byte_need}
@@ -13,7 +13,7 @@ frames_of = limits_for (2 ^ 32 - 1) (frames_window (2 ^ 32 - 1)) (bytes_window 8
 
 -- the largest need is the largest number of 64 bits
 largest : byte_need frames_of ≡ 2 ^ 64 - 1
-unfolding bytes_with
+unfolding bytes_with has_notes
 largest = refl
 
 -- ---- 02, A9: "take_grant gives nothing until returnable is at least g, then all of it"

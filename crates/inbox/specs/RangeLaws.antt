@@ -14,7 +14,8 @@ use Rattle.inbox.specs.declared.Inbox.{Inbox}
 use Rattle.inbox.specs.declared.receiver.Granted.{Granted}
 use Rattle.inbox.specs.Inbox.{inbox_held, freed_by, pop_freed}
 use Rattle.inbox.specs.Receiver.{units_fit}
-use Rattle.inbox.specs.Need.{byte_need, length_need, need_fits}
+use Rattle.inbox.specs.Need.{byte_need, length_need}
+use Rattle.inbox.specs.Need as Need
 use Rattle.inbox.specs.Range.{ring_fits, frames_fit, inbox_fits, inbox_within, Waiting, Pushable, Poppable}
 -- two flags that hold together hold each
 pub use Rattle.std.proofs.lemmas.Bool.{and_parts as both}
@@ -153,7 +154,7 @@ module _ (l : Limits) (g : Granted) (b : Inbox) (r : InRange l g b) where
         waiting = is_waiting store bytes;
         room = room;
         frame = record {
-          counts = omega (arith, room, need_fits l hc hs);
+          counts = omega (arith, room, Need.inbox_fits l hc hs);
           small = omega arith;
           slots = slots_do lengths need;
           first = r.frames.first;

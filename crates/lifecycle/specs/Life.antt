@@ -142,13 +142,14 @@ life_expired l now = set_settling (expired l.settling now) l
 abbrev pub life_settled : Life → Settlement → Life
 life_settled l result = set_settling (settle_with l.settling result) l
 
--- what the outcome says of the workload, with the truncation of the two streams
-abbrev pub life_outcome : Life → (out err : Bool) → Outcome
-life_outcome l out err = record {
+-- what the outcome says of the workload, with the truncation of the streams
+abbrev pub life_outcome : Life → (out err notes : Bool) → Outcome
+life_outcome l out err notes = record {
   status = status_of l.exit;
   cause = l.cause;
   launch_failure = failure_of l.launch;
   stdout_truncated = out;
   stderr_truncated = err;
+  notes_truncated = notes;
   reusable = is_settled l.settling;
 }

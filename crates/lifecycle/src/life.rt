@@ -248,8 +248,13 @@ impl Life {
     }
 
     // The outcome, given which streams lost bytes.
-    pub fn outcome(self, stdout_truncated: bool, stderr_truncated: bool) -> Outcome
-        ensures { result ≡ life_outcome self stdout_truncated stderr_truncated }
+    pub fn outcome(
+        self,
+        stdout_truncated: bool,
+        stderr_truncated: bool,
+        notes_truncated: bool,
+    ) -> Outcome
+        ensures { result ≡ life_outcome self stdout_truncated stderr_truncated notes_truncated }
     {
         Outcome {
             status: self.exit.status(),
@@ -257,6 +262,7 @@ impl Life {
             launch_failure: self.launch.failure(),
             stdout_truncated,
             stderr_truncated,
+            notes_truncated,
             reusable: self.settling.is_settled(),
         }
     }

@@ -20,6 +20,19 @@ new_output = record {
   truncated = false;
 }
 
+-- a stream that is not open: it closed and its end was told, and nothing of it is to be sent, asked for or reported
+abbrev pub over : Output
+over = record {
+  start = 0;
+  queued = 0;
+  closed = true;
+  hung_up = false;
+  ended = true;
+  discarding = false;
+  discard_requested = false;
+  truncated = false;
+}
+
 abbrev pub is_done : Output → Bool
 is_done o = o.closed && not (ltb 0 o.queued)
 

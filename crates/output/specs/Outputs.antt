@@ -1,10 +1,10 @@
 -- The outputs side by side, in the order of Stream::ALL: that of one stream, and what is asked of every one.
 use Rattle.std.specs.Prelude.{ℕ, ◌≡◌, Bool, cond, ◌&&◌, List, [], ◌∷◌, get_or}
 use Rattle.exec.specs.declared.Stream.{Stream}
-use Rattle.exec.specs.declared.Stream.TheVariants.{Stdout, Stderr}
-use Rattle.exec.specs.Stream.{is_stdout, is_stderr, pick, every_stream, any_stream, sum_of_streams}
+use Rattle.exec.specs.declared.Stream.TheVariants.{Stdout, Stderr, Notes}
+use Rattle.exec.specs.Stream.{is_stdout, is_stderr, is_notes, pick, every_stream, any_stream, sum_of_streams}
 use Rattle.output.specs.declared.Output.{Output}
-use Rattle.output.specs.Output.{new_output, is_held, is_delivered, output_fits, output_within}
+use Rattle.output.specs.Output.{new_output, over, is_held, is_delivered, output_fits, output_within}
 
 abbrev pub stdout : List Output → Output
 stdout os = get_or os 0 new_output
@@ -12,25 +12,34 @@ stdout os = get_or os 0 new_output
 abbrev pub stderr : List Output → Output
 stderr os = get_or os 1 new_output
 
+abbrev pub notes : List Output → Output
+notes os = get_or os 2 new_output
+
 -- a stream's output
 abbrev pub output_in : Stream → List Output → Output
-output_in x os = pick x (stdout os) (stderr os)
+output_in x os = pick x (stdout os) (stderr os) (notes os)
 
 -- and put back
 abbrev pub put_output : Stream → Output → List Output → List Output
-put_output x o os = cond (is_stdout x) o (stdout os) ∷ cond (is_stderr x) o (stderr os) ∷ []
+put_output x o os = cond (is_stdout x) o (stdout os) ∷ cond (is_stderr x) o (stderr os) ∷ cond (is_notes x) o (notes os) ∷ []
+
+-- as they are read: one of a stream that is not open is over
+abbrev pub seen : (third : Bool) → List Output → List Output
+seen third os = stdout os ∷ stderr os ∷ cond third (notes os) over ∷ []
 
 -- each changed alike
 abbrev pub each_output : (Output → Output) → List Output → List Output
-each_output f os = f (output_in Stdout os) ∷ f (output_in Stderr os) ∷ []
+each_output f os = f (output_in Stdout os) ∷ f (output_in Stderr os) ∷ f (output_in Notes os) ∷ []
 
 -- the same, where After says what each may become
 abbrev pub Changes : (After : Output → Output → Type 0) → (os changed : List Output) → Type 0
-Changes After os changed = (a b : Output) × After (output_in Stdout os) a × After (output_in Stderr os) b × (changed ≡ a ∷ b ∷ [])
+Changes After os changed =
+    (a b c : Output) × After (output_in Stdout os) a × After (output_in Stderr os) b × After (output_in Notes os) c × (changed ≡ a ∷ b ∷ c ∷ [])
 
 -- whether every one passes a test, where After says what the test may answer of each
 abbrev pub Passes : (After : Output → Bool → Type 0) → List Output → Bool → Type 0
-Passes After os passes = (a b : Bool) × After (output_in Stdout os) a × After (output_in Stderr os) b × (passes ≡ (a && b))
+Passes After os passes =
+    (a b c : Bool) × After (output_in Stdout os) a × After (output_in Stderr os) b × After (output_in Notes os) c × (passes ≡ ((a && b) && c))
 
 abbrev pub all_closed : List Output → Bool
 all_closed os = every_stream (λ (x : Stream). (output_in x os).closed)

@@ -4,6 +4,7 @@
 ghost use Rattle.std.specs.Prelude.{◌≡◌, cond, ◌+◌, ◌≤◌, ◌<◌, ◌^◌, length, ltb};
 ghost use Rattle.output.specs.Output.{
   new_output,
+  over,
   is_done,
   is_held,
   is_delivered,
@@ -74,6 +75,22 @@ impl Output {
             closed: false,
             hung_up: false,
             ended: false,
+            discarding: false,
+            discard_requested: false,
+            truncated: false,
+        }
+    }
+
+    // That of a stream that is not open: it closed, its end was told, and nothing of it is left to say.
+    pub fn over() -> Self
+        ensures { result ≡ over }
+    {
+        Output {
+            start: 0,
+            queued: 0,
+            closed: true,
+            hung_up: false,
+            ended: true,
             discarding: false,
             discard_requested: false,
             truncated: false,
