@@ -18,7 +18,7 @@ use Rattle.exec.specs.declared.Settlement.{Settlement}
 use Rattle.exec.specs.declared.Stream.{Stream}
 use Rattle.exec.specs.declared.Timers.{Timers}
 use Rattle.exec.specs.Key.{admits}
-use Rattle.exec.specs.Limits.{output_pool, no_limits}
+use Rattle.exec.specs.Limits.{output_pool, has_notes, no_limits}
 use Rattle.inbox.specs.Need.{byte_need}
 use Rattle.lifecycle.specs.Life.{is_requested}
 use Rattle.runner.specs.declared.answer.After.{After}
@@ -26,7 +26,7 @@ use Rattle.choice.specs.declared.Choice.{Choice}
 use Rattle.runner.specs.declared.runner.Runner.{Runner}
 use Rattle.runner.specs.Life.{close_runner_input, cancel_answer, cancel_next, launched_next, exited_next, settled_next, detach_next, ticked, deadline_of}
 use Rattle.runner.specs.Message.{choose, effect, buffer_after, said_for, MessageAfter, message_after, wish, wish_effect}
-use Rattle.runner.specs.Range.{bytes_do, lengths_do, stop, open_stop, fresh}
+use Rattle.runner.specs.Range.{bytes_do, lengths_do, stop, stop_at, open_stop, fresh}
 use Rattle.runner.specs.State as State
 use Rattle.runner.specs.Streams.{OutputAfter, output_after, output_took, InputAfter, input_after, received, read_allowance_of, discarded_next, closed_next, failed_next, hung_up_next, credit_answer, credit_next, end_answer, end_next, pending_of, written_next, written_came, written_lengths}
 
@@ -80,8 +80,8 @@ limits r = unless (stop r true) r.limits
 unfoldable pub credit : Runner → Key → Pool → ℕ → After Receipt
 credit r k p units =
     calling (stop r true)
-    (credit_answer (admits r.key k) (output_pool r.limits.shared p) r units)
-    (credit_next (admits r.key k) (output_pool r.limits.shared p) r units) r
+    (credit_answer (admits r.key k) (output_pool r.limits.shared (has_notes r.limits) p) r units)
+    (credit_next (admits r.key k) (output_pool r.limits.shared (has_notes r.limits) p) r units) r
 
 -- the stores that input is lent do
 abbrev pub stores_do : Runner → (store lengths : List ℕ) → Bool
@@ -106,26 +106,26 @@ unfoldable pub launched : Runner → Result (Unit {0}) LaunchFailure → After (
 launched r x = noting (stop r true) (launched_next r x) r
 
 unfoldable pub read_allowance : Runner → Stream → Result ℕ Refusal
-read_allowance r x = unless (stop r true) (read_allowance_of r x)
+read_allowance r x = unless (stop_at r x true) (read_allowance_of r x)
 
 abbrev pub output_by : Result (Unit {0}) Refusal → Runner → Stream → (bytes store : List ℕ) → OutputAfter
 output_by (Ok tt) r x bytes store = output_took r x bytes store
 output_by (Err z) r x bytes store = output_after (record { runner = r; answer = Err z }) store
 
 unfoldable pub output : Runner → Stream → (bytes store : List ℕ) → OutputAfter
-output r x bytes store = output_by (stop r (bytes_do r.limits store)) r x bytes store
+output r x bytes store = output_by (stop_at r x (bytes_do r.limits store)) r x bytes store
 
 unfoldable pub discarded : Runner → Stream → ℕ → After (Unit {0})
-discarded r x n = noting (stop r true) (discarded_next r x n) r
+discarded r x n = noting (stop_at r x true) (discarded_next r x n) r
 
 unfoldable pub output_closed : Runner → Stream → After (Unit {0})
-output_closed r x = noting (stop r true) (closed_next r x) r
+output_closed r x = noting (stop_at r x true) (closed_next r x) r
 
 unfoldable pub output_failed : Runner → Stream → After (Unit {0})
-output_failed r x = noting (stop r true) (failed_next r x) r
+output_failed r x = noting (stop_at r x true) (failed_next r x) r
 
 unfoldable pub output_hung_up : Runner → Stream → After (Unit {0})
-output_hung_up r x = noting (stop r true) (hung_up_next r x) r
+output_hung_up r x = noting (stop_at r x true) (hung_up_next r x) r
 
 -- a part of the byte store that is lent on, as its bytes
 abbrev pub lent : Result (Bor (List ℕ)) Refusal → Result (List ℕ) Refusal

@@ -12,7 +12,7 @@ use Rattle.exec.specs.declared.Cause.TheVariants.{TimedOut}
 use Rattle.exec.specs.declared.Outcome.{Outcome}
 use Rattle.exec.specs.declared.Receipt.TheVariants.{Applied, Stale, Late}
 use Rattle.exec.specs.declared.Settlement.{Settlement}
-use Rattle.exec.specs.declared.Stream.TheVariants.{Stdout, Stderr}
+use Rattle.exec.specs.declared.Stream.TheVariants.{Stdout, Stderr, Notes}
 use Rattle.exec.specs.Time.{after, then, due}
 use Rattle.lifecycle.specs.declared.life.Launch.TheVariants as Launch
 use Rattle.lifecycle.specs.declared.life.Settling.TheVariants.{Fenced}
@@ -24,7 +24,7 @@ use Rattle.output.specs.Output.{grace_ended, given_up, abandoned}
 use Rattle.output.specs.Outputs.{each_output, all_closed, any_held, all_delivered}
 use Rattle.runner.specs.declared.answer.After.{After}
 use Rattle.runner.specs.declared.runner.Runner.{Runner}
-use Rattle.runner.specs.State.{with, with_clocks, with_life, flags_of, out_of}
+use Rattle.runner.specs.State.{with, with_clocks, with_life, flags_of, outputs_of, out_of}
 
 -- the launch result is still waited for: it has not arrived, and the runner has not given up on it
 abbrev pub awaits_launch : Runner → Bool
@@ -34,7 +34,7 @@ awaits_launch r =
 -- launch and exit are reported, every stream is closed and settling is Settled
 abbrev pub is_cleaned_up : Runner → Bool
 is_cleaned_up r =
-    ((launch_known r.life.launch && exit_known r.life.exit) && all_closed r.outputs)
+    ((launch_known r.life.launch && exit_known r.life.exit) && all_closed (outputs_of r))
     && is_settled r.life.settling
 
 unfoldable pub close_runner_input : Runner → Runner
@@ -122,7 +122,7 @@ unfoldable pub deadline_of : Runner → Option ℕ
 deadline_of r =
     cond r.flags.finished None
     (first_of r.clocks (expected_by r.life.settling) (not (is_cleaned_up r))
-    (awaits_launch r || (is_fenced r.life.settling && any_held r.outputs)))
+    (awaits_launch r || (is_fenced r.life.settling && any_held (outputs_of r))))
 
 -- ---- the peer's cancellation: not even a tick for a stale key; Late once a termination began or the execution ended
 
@@ -215,8 +215,8 @@ detach_next r now cause = cut_off_once (ticked r now) now cause
 
 unfoldable pub is_ready : Runner → Bool
 is_ready r =
-    ((not (awaits_launch r) && exit_known r.life.exit) && all_delivered r.outputs r.flags.detached)
+    ((not (awaits_launch r) && exit_known r.life.exit) && all_delivered (outputs_of r) r.flags.detached)
     && (is_settled r.life.settling || is_fenced r.life.settling)
 
 unfoldable pub outcome_of : Runner → Outcome
-outcome_of r = life_outcome r.life (out_of Stdout r).truncated (out_of Stderr r).truncated
+outcome_of r = life_outcome r.life (out_of Stdout r).truncated (out_of Stderr r).truncated (out_of Notes r).truncated

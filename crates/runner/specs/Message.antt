@@ -4,9 +4,9 @@ use Rattle.runner.specs.declared.answer.Message.{Message}
 use Rattle.exec.specs.declared.Cause.{Cause}
 use Rattle.exec.specs.declared.Refusal.{Refusal}
 use Rattle.exec.specs.declared.Stream.{Stream}
-use Rattle.exec.specs.declared.Stream.TheVariants.{Stdout, Stderr}
-use Rattle.exec.specs.Limits.{cost, pool_of}
-use Rattle.exec.specs.Stream.{index, stream_at, following}
+use Rattle.exec.specs.declared.Stream.TheVariants.{Stdout, Stderr, Notes}
+use Rattle.exec.specs.Limits.{cost, has_notes, pool_of}
+use Rattle.exec.specs.Stream.{stream_at, following, turn_after}
 use Rattle.ring.specs.Ring.{ring_read}
 use Rattle.credit.specs.Sender.{sendable, spent}
 use Rattle.lifecycle.specs.declared.flags.Flags.{Flags}
@@ -43,8 +43,9 @@ untold r x = is_done (out_of x r) && not (out_of x r).ended
 unfoldable pub choose : Runner → (buffer : ℕ) → Choice
 choose r buffer =
     order r.flags.finished r.flags.detached (can_grant r.input) r.flags.credited
-    r.flags.started_message r.input.closed_message (awaits_launch r) (untold r Stdout) (untold r Stderr) (is_ready r)
+    r.flags.started_message r.input.closed_message (awaits_launch r) (untold r Stdout) (untold r Stderr) (untold r Notes) (is_ready r)
     (stream_at r.turn) (sendable_of r buffer (stream_at r.turn)) (sendable_of r buffer (following (stream_at r.turn)))
+    (sendable_of r buffer (following (following (stream_at r.turn))))
 
 -- ---- its effect
 
@@ -52,12 +53,12 @@ choose r buffer =
 abbrev pub plain : Runner → Runner
 plain r = with_flags (message_flags r.flags.started_message false r.flags.finished r.flags) r
 
--- the cost of n bytes of a stream leaves the account of its pool; the stream that follows has its turn next
+-- the cost of n bytes of a stream leaves the account of its pool; the next stream that is open has its turn next
 unfoldable pub output_paid : Stream → ℕ → Runner → Runner
 output_paid x n r =
     with_flow
     (put_credit (pool_of r.limits x) (spent (credit_at (pool_of r.limits x) r.credits) (cost r.limits.output.unit n)) r.credits)
-    (index (following x)) (message_flags r.flags.started_message false r.flags.finished r.flags) r.high_water r
+    (turn_after (has_notes r.limits) x) (message_flags r.flags.started_message false r.flags.finished r.flags) r.high_water r
 
 -- and the bytes leave its queue
 unfoldable pub output_sent : Stream → ℕ → Runner → Runner
@@ -136,16 +137,17 @@ message_after s buffer = record { saying = s; buffer = buffer }
 
 -- ---- requests: ending first, then discarding, closing the input, settling
 
-unfoldable pub wish_for : Option Cause → (discard0 discard1 close settle : Bool) → Option Request
-wish_for (Some cause) discard0 discard1 close settle = Some (Request.Terminate cause)
-wish_for None discard0 discard1 close settle =
+unfoldable pub wish_for : Option Cause → (discard0 discard1 discard2 close settle : Bool) → Option Request
+wish_for (Some cause) discard0 discard1 discard2 close settle = Some (Request.Terminate cause)
+wish_for None discard0 discard1 discard2 close settle =
     cond discard0 (Some (Request.Discard Stdout))
     (cond discard1 (Some (Request.Discard Stderr))
-    (cond close (Some Request.CloseInput) (cond settle (Some Request.Settle) None)))
+    (cond discard2 (Some (Request.Discard Notes))
+    (cond close (Some Request.CloseInput) (cond settle (Some Request.Settle) None))))
 
 unfoldable pub wish : Runner → Option Request
 wish r =
-    wish_for r.life.terminate_request (out_of Stdout r).discard_requested (out_of Stderr r).discard_requested
+    wish_for r.life.terminate_request (out_of Stdout r).discard_requested (out_of Stderr r).discard_requested (out_of Notes r).discard_requested
     r.input.close_requested r.flags.settle_request
 
 abbrev pub handed : Request → Runner → Runner

@@ -6,10 +6,10 @@ use Rattle.std.proofs.Common.{arith, ltb-true, leb-true}
 use Rattle.std.proofs.lemmas.Bool.{not-true}
 use Rattle.std.proofs.Math.Dec.{ltb}
 use Rattle.exec.specs.declared.Stream.{Stream}
-use Rattle.exec.specs.declared.Stream.TheVariants.{Stdout, Stderr}
+use Rattle.exec.specs.declared.Stream.TheVariants.{Stdout, Stderr, Notes}
 use Rattle.exec.specs.declared.Unit as Units
 use Rattle.exec.specs.declared.Unit.TheVariants.{Bytes, Frames}
-use Rattle.exec.specs.Limits.{cost, pool_of}
+use Rattle.exec.specs.Limits.{cost, pool_of, has, has_notes, input_bytes}
 use Rattle.exec.specs.Stream.{pick, picked}
 use Rattle.ring.specs.RingLaws.{read_length}
 use Rattle.inbox.specs.Need.{byte_need}
@@ -87,10 +87,12 @@ shows buffer r =
     pick_if P _ _ _ (λ c. c) (λ _.
     pick_if P _ _ _ (λ e. (known _ e, s)) (λ _.
     pick_if P _ _ _ (λ e. (known _ e, s)) (λ _.
+    pick_if P _ _ _ (λ e. (known _ e, s)) (λ _.
+    pick_if P _ _ _ (λ e. (known _ e, s, record { bytes = refl; some_bytes = some _ e })) (λ _.
     pick_if P _ _ _ (λ e. (known _ e, s, record { bytes = refl; some_bytes = some _ e })) (λ _.
     pick_if P _ _ _ (λ e. (known _ e, s, record { bytes = refl; some_bytes = some _ e })) (λ _.
     pick_if P _ _ _ (λ c. c) (λ _.
-    pick_if P _ _ _ (λ e. e) (λ _. tt)))))))))))
+    pick_if P _ _ _ (λ e. e) (λ _. tt)))))))))))))
 
 pub shown : (r : Runner) (buffer : ℕ) (c : Choice) → c ≡ choose r buffer → Shows r buffer c
 shown r buffer c e = rw e (shows buffer r)
@@ -111,9 +113,9 @@ credit_takes r buffer e = rw (credit_due r buffer e) refl
 -- ---- what a stream can send
 
 -- picked from what each can send
-pub picked_by : (r : Runner) (buffer : ℕ) (x : Stream) (stdout stderr n : ℕ) → stdout ≡ sendable_of r buffer Stdout → stderr ≡ sendable_of r buffer Stderr
-    → n ≡ pick x stdout stderr → n ≡ sendable_of r buffer x
-picked_by r buffer x stdout stderr n h0 h1 hn = rw (hn, h0, h1) (picked (sendable_of r buffer) x)
+pub picked_by : (r : Runner) (buffer : ℕ) (x : Stream) (stdout stderr notes n : ℕ) → stdout ≡ sendable_of r buffer Stdout → stderr ≡ sendable_of r buffer Stderr
+    → notes ≡ sendable_of r buffer Notes → n ≡ pick x stdout stderr notes → n ≡ sendable_of r buffer x
+picked_by r buffer x stdout stderr notes n h0 h1 h2 hn = rw (hn, h0, h1, h2) (picked (sendable_of r buffer) x)
 
 -- no more than is asked of it
 pub least : (u : Units.Unit) (available m : ℕ) → sendable u available m ≤ m
@@ -133,9 +135,32 @@ affordable Frames available m h = at (ltb 0 available) refl h
     at true e p = ltb-true 0 available e
     at false e p = absurd (omega arith)
 
-pub area_of : (r : Runner) (x : Stream) (store : List ℕ) → byte_need r.limits ≤ length store → base x r.limits.chunk + r.limits.chunk ≤ length store
-area_of r Stdout store h = omega arith
-area_of r Stderr store h = omega arith
+-- the ring of a stream that is open stands in the store
+pub area_of : (r : Runner) (x : Stream) (store : List ℕ) → has r.limits x ≡ true → byte_need r.limits ≤ length store → base x r.limits.chunk + r.limits.chunk ≤ length store
+area_of r Stdout store o h = omega arith
+area_of r Stderr store o h = omega arith
+area_of r Notes store o h = let need : r.limits.chunk + r.limits.chunk + r.limits.chunk + input_bytes r.limits ≤ length store = rw o at h in omega arith
+
+-- and one that is not open sends nothing
+silent : (u : Units.Unit) (available chunk buffer : ℕ) → sendable u available (min (min 0 chunk) buffer) ≡ 0
+silent Bytes available chunk buffer = omega arith
+silent Frames available chunk buffer = at (ltb 0 available)
+  where
+    at : (b : Bool) → cond b (min (min 0 chunk) buffer) 0 ≡ 0
+    at true = omega arith
+    at false = refl
+
+pub open_sends : (r : Runner) (buffer : ℕ) (x : Stream) → 0 < sendable_of r buffer x → has r.limits x ≡ true
+unfolding sendable_of
+open_sends r buffer Stdout h = refl
+open_sends r buffer Stderr h = refl
+open_sends r buffer Notes h = by (has_notes r.limits) refl
+  where
+    by : (b : Bool) → has_notes r.limits ≡ b → b ≡ true
+    by true e = refl
+    by false e =
+        let z : sendable_of r buffer Notes ≡ 0 = rw e (silent r.limits.output.unit (credit_at (pool_of r.limits Notes) r.credits).available r.limits.chunk buffer) in
+        absurd (omega (arith, h, z))
 
 module _ (r : Runner) (x : Stream) (n : ℕ) (store buffer : List ℕ) (h : InRange r) (need : byte_need r.limits ≤ length store)
     (e : Choice.Output x n ≡ choose r (length buffer)) where
@@ -152,7 +177,7 @@ module _ (r : Runner) (x : Stream) (n : ℕ) (store buffer : List ℕ) (h : InRa
       let m = min (min (out_of x r).queued r.limits.chunk) (length buffer) in
       let l = least r.limits.output.unit (credit_at (pool_of r.limits x) r.credits).available m in
       record {
-        area = area_of r x store need;
+        area = area_of r x store (open_sends r (length buffer) x (omega (arith, c.bytes, c.some_bytes))) need;
         queue = h.queue x;
         queued = omega (arith, c.bytes, l);
         fits = omega (arith, c.bytes, l);

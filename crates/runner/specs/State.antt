@@ -1,6 +1,9 @@
 -- The runner's state with some of its parts set, and its parts by stream and by pool.
-use Rattle.std.specs.Prelude.{ℕ, ◌+◌, Bool, cond, List, [], ◌∷◌, eqb, get_or}
+use Rattle.std.specs.Prelude.{ℕ, ◌+◌, ◌*◌, Bool, not, ◌||◌, List}
 use Rattle.exec.specs.declared.Stream.{Stream}
+use Rattle.exec.specs.declared.Limits.{Limits}
+use Rattle.exec.specs.Limits.{has, has_notes}
+use Rattle.exec.specs.Row as Row
 use Rattle.exec.specs.Stream.{index, pick, every_stream}
 use Rattle.credit.specs.declared.sender.Credit.{Credit}
 use Rattle.credit.specs.Sender.{new_credit, credit_fits}
@@ -9,7 +12,7 @@ use Rattle.lifecycle.specs.declared.flags.Flags.{Flags}
 use Rattle.lifecycle.specs.declared.life.Life.{Life}
 use Rattle.input.specs.declared.Input.{Input}
 use Rattle.output.specs.declared.Output.{Output}
-use Rattle.output.specs.Outputs.{output_in, put_output, queued_of}
+use Rattle.output.specs.Outputs.{output_in, put_output, seen, queued_of}
 use Rattle.runner.specs.declared.runner.Runner.{Runner}
 
 -- ---- parts set
@@ -75,38 +78,35 @@ flags_of started settle gave_up left detached credited finished = record {
 
 -- ---- the outputs
 
+-- as every call reads them: one that is not open is over
+abbrev pub outputs_of : Runner → List Output
+outputs_of r = seen (has_notes r.limits) r.outputs
+
 abbrev pub out_of : Stream → Runner → Output
-out_of x r = output_in x r.outputs
+out_of x r = output_in x (outputs_of r)
 
 -- one stream's output changed, every other kept
 abbrev pub at : Stream → (Output → Output) → Runner → Runner
 at x f r = with_outputs (put_output x (f (out_of x r)) r.outputs) r
 
--- where a stream's ring begins in the byte store: stdout's comes first
+-- where a stream's ring begins in the byte store: they stand in the order of the streams
 abbrev pub base : Stream → (chunk : ℕ) → ℕ
-base x chunk = pick x 0 chunk
+base x chunk = pick x 0 chunk (2 * chunk)
 
 -- ---- the credit accounts
 
--- (an empty one where the list is too short)
-abbrev pub credit0 : List Credit → Credit
-credit0 cs = get_or cs 0 (new_credit 0)
-
-abbrev pub credit1 : List Credit → Credit
-credit1 cs = get_or cs 1 (new_credit 0)
-
--- the account at a position, 0 or 1
+-- the account at a position (an empty one where the list is too short)
 abbrev pub credit_at : ℕ → List Credit → Credit
-credit_at i cs = cond (eqb i 0) (credit0 cs) (credit1 cs)
+credit_at i cs = Row.at i (new_credit 0) cs
 
 abbrev pub put_credit : ℕ → Credit → List Credit → List Credit
-put_credit i c cs = cond (eqb i 0) c (credit0 cs) ∷ cond (eqb i 0) (credit1 cs) c ∷ []
+put_credit i c cs = Row.put i c (new_credit 0) cs
 
--- no account has more than its window
-abbrev pub credits_fit : List Credit → Bool
-credits_fit cs = every_stream (λ (x : Stream). credit_fits (credit_at (index x) cs))
+-- no account has more than its window: the last is asked where Notes is open
+abbrev pub credits_fit : Limits → List Credit → Bool
+credits_fit l cs = every_stream (λ (x : Stream). not (has l x) || credit_fits (credit_at (index x) cs))
 
 -- ---- the bytes held
 
 abbrev pub buffered : Runner → ℕ
-buffered r = queued_of r.outputs + r.input.inbox.length
+buffered r = queued_of (outputs_of r) + r.input.inbox.length

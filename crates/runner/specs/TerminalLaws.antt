@@ -14,7 +14,7 @@ use Rattle.runner.specs.declared.runner.Runner.{Runner}
 use Rattle.runner.specs.Life.{awaits_launch, is_ready}
 use Rattle.runner.specs.Message.{sendable_of, choose}
 use Rattle.runner.specs.MessageLaws.{shown, least}
-use Rattle.runner.specs.State.{out_of, credit_at}
+use Rattle.runner.specs.State.{outputs_of, out_of, credit_at}
 
 -- ---- Terminal is chosen only when ready
 
@@ -27,7 +27,7 @@ pub ready_delivered : (r : Runner) → is_ready r ≡ true → (x : Stream) → 
 unfolding is_ready
 ready_delivered r e =
     let known : Bool = not (awaits_launch r) && exit_known r.life.exit in
-    let all : Bool = all_delivered r.outputs r.flags.detached in
+    let all : Bool = all_delivered (outputs_of r) r.flags.detached in
     every_stream_lem (λ (x : Stream). is_delivered r.flags.detached (out_of x r))
     (and_r known all (and_l (known && all) (is_settled r.life.settling || is_fenced r.life.settling) e))
 
@@ -50,7 +50,9 @@ same : (r : Runner) (n m : ℕ) → is_ready r ≡ true → choose r m ≡ choos
 unfolding choose
 same r n m e =
     let x = stream_at r.turn in
-    rw (none_sendable r m x e, none_sendable r m (following x) e, none_sendable r n x e, none_sendable r n (following x) e) refl
+    let y = following x in
+    let z = following y in
+    rw (none_sendable r m x e, none_sendable r m y e, none_sendable r m z e, none_sendable r n x e, none_sendable r n y e, none_sendable r n z e) refl
 
 pub still : (r : Runner) (n m : ℕ) → choose r n ≡ Choice.Terminal → choose r m ≡ Choice.Terminal
 still r n m e = same r n m (chosen_ready n r e) ∙ e

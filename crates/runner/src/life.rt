@@ -62,7 +62,7 @@ impl Runner {
     fn is_cleaned_up(self) -> bool
         ensures { result ≡ is_cleaned_up self }
     {
-        ((self.life.launch.is_known() & self.life.exit.is_known()) & all_closed(self.outputs))
+        ((self.life.launch.is_known() & self.life.exit.is_known()) & all_closed(self.outputs_of()))
             & self.life.settling.is_settled()
     }
 
@@ -268,7 +268,7 @@ impl Runner {
         }
         let clean = self.is_cleaned_up();
         let waits = self.awaits_launch();
-        let held = any_held(self.outputs);
+        let held = any_held(self.outputs_of());
         self.clocks.first(
             self.life.settling.by(),
             !clean,
@@ -434,7 +434,7 @@ impl Runner {
     pub(crate) fn is_ready(self) -> bool
         ensures { result ≡ is_ready self }
     {
-        let delivered = all_delivered(self.outputs, self.flags.detached);
+        let delivered = all_delivered(self.outputs_of(), self.flags.detached);
         let over = self.life.settling.is_settled() | self.life.settling.is_fenced();
         ((!self.awaits_launch() & self.life.exit.is_known()) & delivered) & over
     }
@@ -443,8 +443,8 @@ impl Runner {
     pub(crate) fn outcome(self) -> Outcome
         ensures { result ≡ outcome_of self }
     {
-        let stdout = self.outputs[0];
-        let stderr = self.outputs[1];
-        self.life.outcome(stdout.truncated, stderr.truncated)
+        let [stdout, stderr, notes] = self.outputs_of();
+        self.life
+            .outcome(stdout.truncated, stderr.truncated, notes.truncated)
     }
 }

@@ -1,7 +1,7 @@
 // What the runner says next, and what it asks of the adapter: a choice by what the state shows, and then its effect.
 ghost use Rattle.std.specs.Prelude.{◌≡◌, true, ◌≤◌, length};
 ghost use Rattle.inbox.specs.Need.{byte_need};
-ghost use Rattle.exec.specs.Stream.{index, following};
+ghost use Rattle.exec.specs.Stream.{following, turn_after};
 ghost use Rattle.runner.specs.Message.{
   sendable_of,
   untold,
@@ -27,7 +27,7 @@ use choice::{Choice, Shown, order};
 use credit::sender::Credit;
 use exec::{Cause, Refusal, Stream};
 use output::Output;
-use output::outputs::{output_in, put_output};
+use output::outputs::put_output;
 
 impl Runner {
     // How many bytes of a stream one message may carry now.
@@ -35,7 +35,7 @@ impl Runner {
     fn sendable_of(self, buffer: usize, stream: Stream) -> u32
         ensures { result ≡ sendable_of self buffer stream }
     {
-        let output = output_in(stream, self.outputs);
+        let output = self.out_of(stream);
         let credit = credit_at(self.limits.pool_of(stream), self.credits);
         let queued = (output.queued as usize).min(self.limits.chunk as usize);
         let wanted = queued.min(buffer);
@@ -46,7 +46,7 @@ impl Runner {
     fn is_untold(self, stream: Stream) -> bool
         ensures { result ≡ untold self stream }
     {
-        let output = output_in(stream, self.outputs);
+        let output = self.out_of(stream);
         output.is_done() & !output.ended
     }
 
@@ -58,6 +58,7 @@ impl Runner {
         let turn = Stream::ALL[self.turn as usize];
         let stdout = self.sendable_of(buffer, Stream::Stdout);
         let stderr = self.sendable_of(buffer, Stream::Stderr);
+        let notes = self.sendable_of(buffer, Stream::Notes);
         order(Shown {
             finished: self.flags.finished,
             detached: self.flags.detached,
@@ -69,12 +70,14 @@ impl Runner {
             ends: (
                 self.is_untold(Stream::Stdout),
                 self.is_untold(Stream::Stderr),
+                self.is_untold(Stream::Notes),
             ),
             ready: self.is_ready(),
             turn,
             sendable: (
-                turn.pick(stdout, stderr),
-                turn.following().pick(stdout, stderr),
+                turn.pick(stdout, stderr, notes),
+                turn.following().pick(stdout, stderr, notes),
+                turn.following().following().pick(stdout, stderr, notes),
             ),
         })
     }
@@ -141,7 +144,7 @@ impl Runner {
                 self.flags.credited = false;
             }
             Choice::End(stream) => {
-                let output = output_in(stream, self.outputs);
+                let output = self.out_of(stream);
                 let outputs = put_output(stream, output.end(), self.outputs);
                 self.outputs = outputs;
                 self.flags.credited = false;
@@ -151,7 +154,7 @@ impl Runner {
                 let sent = self.sent(stream, n, store, buffer);
                 self.credits = paid;
                 self.outputs = sent;
-                self.turn = stream.following().index() as u8;
+                self.turn = stream.turn_after(self.limits.has_notes());
                 self.flags.credited = false;
             }
             Choice::Terminal => {
@@ -163,7 +166,7 @@ impl Runner {
 
     // The accounts once the cost of n bytes of a stream is spent.
     #[tactic(auto, unfolding(crate::specs::Message::output_paid))]
-    fn paid(self, stream: Stream, n: u32) -> [Credit; 2]
+    fn paid(self, stream: Stream, n: u32) -> [Credit; 3]
         requires { Payable self stream n }
         ensures { result ≡ (output_paid stream n self).credits }
     {
@@ -175,11 +178,11 @@ impl Runner {
 
     // The outputs once n bytes of a stream's queue are moved to the start of the buffer.
     #[tactic(auto, unfolding(crate::specs::Message::sent_output, crate::specs::Message::payload, output::specs::Output::sent))]
-    fn sent(self, stream: Stream, n: u32, store: &[u8], buffer: &mut [u8]) -> [Output; 2]
+    fn sent(self, stream: Stream, n: u32, store: &[u8], buffer: &mut [u8]) -> [Output; 3]
         requires { Sendable self stream n store.now buffer.old }
         ensures { sent_after result buffer.new ≡ sent_output stream n self store.now buffer.old }
     {
-        let output = output_in(stream, self.outputs);
+        let output = self.out_of(stream);
         let base = ring_base(stream, self.limits.chunk);
         let sent = output.send(store, base, self.limits.chunk, n, buffer);
         put_output(stream, sent, self.outputs)
@@ -193,12 +196,13 @@ impl Runner {
         if let Some(cause) = self.life.terminate_request {
             return Some(Request::Terminate(cause));
         }
-        let stdout = self.outputs[0];
-        let stderr = self.outputs[1];
+        let [stdout, stderr, notes] = self.outputs_of();
         if stdout.discard_requested {
             Some(Request::Discard(Stream::Stdout))
         } else if stderr.discard_requested {
             Some(Request::Discard(Stream::Stderr))
+        } else if notes.discard_requested {
+            Some(Request::Discard(Stream::Notes))
         } else if self.input.close_requested {
             Some(Request::CloseInput)
         } else if self.flags.settle_request {
@@ -218,7 +222,7 @@ impl Runner {
                 self
             }
             Request::Discard(stream) => {
-                let output = output_in(stream, self.outputs);
+                let output = self.out_of(stream);
                 let outputs = put_output(stream, output.discard_asked(), self.outputs);
                 self.outputs = outputs;
                 self

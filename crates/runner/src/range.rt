@@ -1,22 +1,23 @@
-// What is met before a call: refusals 12, 10, 46 and 11.
+// What is met before a call: refusals 12, 10, 46 and 11, and 2 of one that names a stream.
 ghost use Rattle.std.specs.Prelude.{◌≡◌, leb, length, true};
-ghost use Rattle.inbox.specs.Need.{byte_need, length_need};
-ghost use Rattle.runner.specs.Range.{in_range, stop};
-ghost use Rattle.runner.specs.RangeLaws.{unopened, stopped, stop_if, stands, agrees};
+ghost use Rattle.inbox.specs.Need.{length_need};
+ghost use Rattle.runner.specs.Range.{last_turn, in_range, stop, stop_at};
+ghost use Rattle.runner.specs.RangeLaws.{unopened, stopped, stopped_at, stop_if, stands, agrees};
 ghost use Rattle.exec.specs.Key.{admits};
 ghost use Rattle.runner.specs.Calls.{Called, Hears, Notes};
 
 use crate::answer::After;
 use crate::pairs::credits_fit;
 use crate::runner::Runner;
-use exec::{Admission, Key, Limits, Receipt, Refusal};
+use exec::{Admission, Key, Limits, Receipt, Refusal, Stream};
+use inbox::need::need_fits;
 use inbox::receiver::grant_fits;
 
-// Whether a byte store of so many bytes does.
-pub(crate) fn bytes_do(limits: Limits, bytes: usize) -> bool
-    ensures { result ≡ leb (byte_need limits) bytes }
+// The position of the last stream that is open.
+fn last_turn(limits: Limits) -> u8
+    ensures { result ≡ last_turn limits }
 {
-    inbox::need::byte_need(limits) <= bytes
+    if limits.has_notes() { 2 } else { 1 }
 }
 
 // Whether a length store of so many lengths does.
@@ -50,9 +51,11 @@ impl Runner {
     {
         let first = self.credits[0];
         let second = self.credits[1];
-        ((output::outputs::fit(self.outputs, self.limits.chunk) & credits_fit(first, second))
+        let third = self.credits[2];
+        ((output::outputs::fit(self.outputs_of(), self.limits.chunk)
+            & credits_fit(self.limits, first, second, third))
             & self.input.inbox.fits(self.limits, self.input.window))
-            & (self.turn <= 1)
+            & (self.turn <= last_turn(self.limits))
     }
 
     // Whether none of the four is met, given whether the lent stores do, in two halves that each call asks with `&`: the inbox, the
@@ -68,7 +71,7 @@ impl Runner {
         let inbox = input.inbox;
         let window = input.window;
         (inbox.within(limits, window) & limits.is_valid())
-            & (grant_fits(window.smallest, limits.input.size) & stores)
+            & (grant_fits(window.smallest, limits.input.size) & (need_fits(limits) & stores))
     }
 
     #[tactic(auto, unfolding(crate::specs::RangeLaws::stands))]
@@ -76,11 +79,13 @@ impl Runner {
         ensures { result ≡ stands self }
     {
         let limits = self.limits;
-        let outputs = self.outputs;
+        let outputs = self.outputs_of();
         let first = self.credits[0];
         let second = self.credits[1];
-        (output::outputs::within(outputs, limits.chunk) & credits_fit(first, second))
-            & (self.turn <= 1)
+        let third = self.credits[2];
+        (output::outputs::within(outputs, limits.chunk)
+            & credits_fit(limits, first, second, third))
+            & (self.turn <= last_turn(limits))
     }
 
     // Which of the four, of a call that meets one. Made a part of each call: where it stood alone the runner would be copied for it.
@@ -107,6 +112,30 @@ impl Runner {
         Err(self.stopped())
     }
 
+    // What a call that names a stream meets: the same, and then a stream that is not open.
+    #[tactic(auto, unfolding(crate::specs::Range::stop_at))]
+    #[inline(always)]
+    pub(crate) fn check_at(self, stream: Stream, stores: bool) -> Result<(), Refusal>
+        ensures { result ≡ stop_at self stream stores }
+    {
+        self.check(stores)?;
+        if self.limits.has(stream) {
+            return Ok(());
+        }
+        Err(Refusal::Pool)
+    }
+
+    // Which refusal, of such a call that meets one, given whether it meets none of the four.
+    #[inline(always)]
+    pub(crate) fn stopped_at(self, good: bool) -> Refusal
+        ensures { result ≡ stopped_at good self }
+    {
+        if good {
+            return Refusal::Pool;
+        }
+        self.stopped()
+    }
+
     // The same, given whether it meets none of the four: of a call that changes the runner in place. `answer` and `meets` test that
     // themselves, as a `reply` with more callers is no part of each (a tick takes 160 instructions so, and 218 by `?`).
     #[tactic(auto, unfolding(crate::specs::RangeLaws::stop_if))]
@@ -119,12 +148,16 @@ impl Runner {
         Err(self.stopped())
     }
 
-    // A call: what it leaves and answers, unless it is refused.
-    pub(crate) fn call<T, F: FnOnce(Runner) -> After<T>>(self, next: F) -> After<T>
+    // A call: what it leaves and answers, unless it is refused by what it met.
+    pub(crate) fn call<T, F: FnOnce(Runner) -> After<T>>(
+        self,
+        met: Result<(), Refusal>,
+        next: F,
+    ) -> After<T>
         requires { F.IsAlwaysCallable next }
-        ensures { Called (F.post next self) (stop self true) self result }
+        ensures { Called (F.post next self) met self result }
     {
-        match self.check(true) {
+        match met {
             Ok(()) => next(self),
             Err(refusal) => After {
                 runner: self,
@@ -134,11 +167,15 @@ impl Runner {
     }
 
     // A call with no result: what it does to the runner.
-    pub(crate) fn note<F: FnOnce(Runner) -> Runner>(self, next: F) -> After<()>
+    pub(crate) fn note<F: FnOnce(Runner) -> Runner>(
+        self,
+        met: Result<(), Refusal>,
+        next: F,
+    ) -> After<()>
         requires { F.IsAlwaysCallable next }
-        ensures { Notes (F.post next self) (stop self true) self result }
+        ensures { Notes (F.post next self) met self result }
     {
-        self.call(|runner| After {
+        self.call(met, |runner| After {
             runner: next(runner),
             answer: Ok(()),
         })
@@ -153,7 +190,7 @@ impl Runner {
         requires { F.IsAlwaysCallable next }
         ensures { Called (Hears (F.post next self) (admits self.key key) self) (stop self true) self result }
     {
-        self.call(|runner| match runner.key.admits(key) {
+        self.call(self.check(true), |runner| match runner.key.admits(key) {
             Ok(Admission::Own) => next(runner),
             Ok(Admission::Stale) => After {
                 runner,

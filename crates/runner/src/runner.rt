@@ -45,20 +45,21 @@ ghost use Rattle.runner.specs.Streams.{input_after, output_after};
 
 use crate::answer::{After, Message, Request};
 use crate::pairs::ring_base;
-use crate::range::{bytes_do, lengths_do, unopened};
+use crate::range::{lengths_do, unopened};
 use crate::streams::is_dropped;
 use credit::sender::Credit;
 use exec::{
     Admission, Cause, Key, LaunchFailure, Limits, Pool, Receipt, Refusal, Settlement, Status,
     Stream, Timers,
 };
+use inbox::need::{bytes_do, need_fits};
 use inbox::receiver::grant_fits;
 use input::Input;
 use lifecycle::clocks::Clocks;
 use lifecycle::flags::Flags;
 use lifecycle::life::{Exit, Launch, Life, Settling};
 use output::Output;
-use output::outputs::{output_in, put_output};
+use output::outputs::put_output;
 
 #[derive(Clone, Copy)]
 pub struct Runner {
@@ -72,11 +73,11 @@ pub struct Runner {
     pub flags: Flags,
     // The workload's standard input.
     pub input: Input,
-    // The output streams, in the order of Stream::ALL.
-    pub outputs: [Output; 2],
-    // The credit of the output pools: one a stream, or the first one shared.
-    pub credits: [Credit; 2],
-    // The position of the stream whose output is sent first next: one past the last stream is refusal 12, so it is a number.
+    // The output streams, in the order of Stream::ALL. That of one that is not open is never read.
+    pub outputs: [Output; 3],
+    // The credit of the output pools: one a stream, or the first one shared. The last is never read where Notes is not open.
+    pub credits: [Credit; 3],
+    // The position of the stream whose output is sent first next: one past the last open stream is refusal 12, so it is a number.
     pub turn: u8,
     // The most bytes that were held at once.
     pub high_water: usize,
@@ -98,7 +99,9 @@ impl Runner {
         ensures { result ≡ «open» key limits timers smallest created store.now lengths.now }
     {
         let enough = bytes_do(limits, store.len()) & lengths_do(limits, lengths.len());
-        if limits.is_valid() & (grant_fits(smallest, limits.input.size) & enough) {
+        if limits.is_valid()
+            & (grant_fits(smallest, limits.input.size) & (need_fits(limits) & enough))
+        {
             let runner = Runner::fresh(key, limits, timers, smallest, created);
             return After {
                 runner,
@@ -149,8 +152,8 @@ impl Runner {
                 finished: false,
             },
             input,
-            outputs: [output, output],
-            credits: [credit, credit],
+            outputs: [output, output, output],
+            credits: [credit, credit, credit],
             turn: 0,
             high_water: 0,
         }
@@ -237,7 +240,7 @@ impl Runner {
     pub fn launched(self, report: Result<(), LaunchFailure>) -> After<()>
         ensures { result ≡ launched self report }
     {
-        self.note(|runner| runner.launch(report))
+        self.note(self.check(true), |runner| runner.launch(report))
     }
 
     // How many more bytes of a stream may be read and handed over with `output`.
@@ -245,7 +248,7 @@ impl Runner {
     pub fn read_allowance(self, stream: Stream) -> Result<usize, Refusal>
         ensures { result ≡ read_allowance self stream }
     {
-        self.check(true)?;
+        self.check_at(stream, true)?;
         Ok(self.allowance(stream))
     }
 
@@ -256,9 +259,10 @@ impl Runner {
         ensures { output_after result store.new ≡ output self stream bytes.now store.old }
     {
         let enough = bytes_do(self.limits, store.len());
-        let answer = if self.agrees(enough) & self.stands() {
+        let good = self.agrees(enough) & self.stands();
+        let answer = if good & self.limits.has(stream) {
             let none = self.keeps_none(stream);
-            let output = output_in(stream, self.outputs);
+            let output = self.out_of(stream);
             let base = ring_base(stream, self.limits.chunk);
             let intake = output.take_in(self.flags.gave_up, store, base, self.limits.chunk, bytes);
             let outputs = put_output(stream, intake.output, self.outputs);
@@ -266,7 +270,7 @@ impl Runner {
             self.high_water = self.mark(none);
             Ok(intake.taken)
         } else {
-            Err(self.stopped())
+            Err(self.stopped_at(good))
         };
         After {
             runner: self,
@@ -279,7 +283,9 @@ impl Runner {
     pub fn discarded(self, stream: Stream, bytes: usize) -> After<()>
         ensures { result ≡ discarded self stream bytes }
     {
-        self.note(|runner| runner.at(stream, |output| output.discard(bytes)))
+        self.note(self.check_at(stream, true), |runner| {
+            runner.at(stream, |output| output.discard(bytes))
+        })
     }
 
     // Every writer of a stream closed it.
@@ -287,7 +293,9 @@ impl Runner {
     pub fn output_closed(self, stream: Stream) -> After<()>
         ensures { result ≡ output_closed self stream }
     {
-        self.note(|runner| runner.at(stream, |output| output.close()))
+        self.note(self.check_at(stream, true), |runner| {
+            runner.at(stream, |output| output.close())
+        })
     }
 
     // Reading a stream failed, which ends and truncates it.
@@ -295,7 +303,9 @@ impl Runner {
     pub fn output_failed(self, stream: Stream) -> After<()>
         ensures { result ≡ output_failed self stream }
     {
-        self.note(|runner| runner.at(stream, |output| output.fail()))
+        self.note(self.check_at(stream, true), |runner| {
+            runner.at(stream, |output| output.fail())
+        })
     }
 
     // Every writer of a stream closed it, though it is not read to its end.
@@ -303,7 +313,9 @@ impl Runner {
     pub fn output_hung_up(self, stream: Stream) -> After<()>
         ensures { result ≡ output_hung_up self stream }
     {
-        self.note(|runner| runner.at(stream, |output| output.hang_up()))
+        self.note(self.check_at(stream, true), |runner| {
+            runner.at(stream, |output| output.hang_up())
+        })
     }
 
     // The bytes of input that the adapter writes to the workload next: those that wait from the ring's head to the end of its
@@ -341,7 +353,7 @@ impl Runner {
     pub fn input_closed(self) -> After<()>
         ensures { result ≡ input_closed self }
     {
-        self.note(|runner| runner.close_input())
+        self.note(self.check(true), |runner| runner.close_input())
     }
 
     // The workload's end, with its status unless that is lost. Only the first counts.
@@ -349,7 +361,7 @@ impl Runner {
     pub fn exited(self, now: u64, status: Option<Status>) -> After<()>
         ensures { result ≡ exited self now status }
     {
-        self.note(|runner| runner.exit(now, status))
+        self.note(self.check(true), |runner| runner.exit(now, status))
     }
 
     // The result of the settlement that was requested.
@@ -357,7 +369,7 @@ impl Runner {
     pub fn settled(self, report: Settlement) -> After<()>
         ensures { result ≡ settled self report }
     {
-        self.note(|runner| runner.settle(report))
+        self.note(self.check(true), |runner| runner.settle(report))
     }
 
     // Ends the workload, as the adapter abandons the execution, and detaches the runner from the peer.
@@ -365,7 +377,7 @@ impl Runner {
     pub fn dropped(self, now: u64) -> After<()>
         ensures { result ≡ dropped self now }
     {
-        self.note(|runner| runner.detach(now, Cause::Dropped))
+        self.note(self.check(true), |runner| runner.detach(now, Cause::Dropped))
     }
 
     // Ends the workload, as the session with the peer was reset, and detaches the runner from the peer.
@@ -373,7 +385,7 @@ impl Runner {
     pub fn reset(self, now: u64) -> After<()>
         ensures { result ≡ reset self now }
     {
-        self.note(|runner| runner.detach(now, Cause::Reset))
+        self.note(self.check(true), |runner| runner.detach(now, Cause::Reset))
     }
 
     // Ends the workload, as the transport to the peer was lost, and detaches the runner from the peer.
@@ -381,7 +393,7 @@ impl Runner {
     pub fn disconnect(self, now: u64) -> After<()>
         ensures { result ≡ disconnect self now }
     {
-        self.note(|runner| runner.detach(now, Cause::Disconnected))
+        self.note(self.check(true), |runner| runner.detach(now, Cause::Disconnected))
     }
 
     // Fires the timers whose instants `now` has reached. They are handed a copy, and what they do not move is left in its place, so
@@ -424,7 +436,7 @@ impl Runner {
     pub fn next_request(self) -> After<Option<Request>>
         ensures { result ≡ next_request self }
     {
-        self.call(|runner| runner.ask())
+        self.call(self.check(true), |runner| runner.ask())
     }
 
     #[tactic(auto, unfolding(crate::specs::Message::wish_effect))]

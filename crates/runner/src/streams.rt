@@ -6,7 +6,7 @@ ghost use Rattle.inbox.specs.Need.{byte_need};
 ghost use Rattle.input.specs.Input.{is_applied};
 ghost use Rattle.runner.specs.Calls.{credit};
 ghost use Rattle.runner.specs.RangeLaws.{InRange};
-ghost use Rattle.runner.specs.State.{buffered, out_of, with_outputs};
+ghost use Rattle.runner.specs.State.{buffered, outputs_of, out_of, with_outputs};
 ghost use Rattle.output.specs.declared.Output.{Output};
 ghost use Rattle.output.specs.Outputs.{put_output};
 ghost use Rattle.runner.specs.Streams.{
@@ -27,15 +27,29 @@ use crate::runner::Runner;
 use credit::sender::Credit;
 use exec::{Admission, Key, Pool, Receipt, Refusal, Stream};
 use output::Output;
-use output::outputs::{output_in, put_output};
+use output::outputs::{output_in, put_output, seen};
 
 impl Runner {
+    // The outputs as every call reads them: one of a stream that is not open is over.
+    pub(crate) fn outputs_of(self) -> [Output; 3]
+        ensures { result ≡ outputs_of self }
+    {
+        seen(self.limits.has_notes(), self.outputs)
+    }
+
+    // That of one stream.
+    pub(crate) fn out_of(self, stream: Stream) -> Output
+        ensures { result ≡ out_of stream self }
+    {
+        output_in(stream, self.outputs_of())
+    }
+
     // The bytes held now.
     pub(crate) fn held(self) -> usize
         requires { buffered self < 2 ^ 64 }
         ensures { result ≡ buffered self }
     {
-        output::outputs::buffered_of(self.outputs) + self.input.inbox.length
+        output::outputs::buffered_of(self.outputs_of()) + self.input.inbox.length
     }
 
     // The high-water mark, given whether a call kept none of its bytes.
@@ -74,7 +88,7 @@ impl Runner {
     pub(crate) fn keeps_none(self, stream: Stream) -> bool
         ensures { result ≡ keeps_none stream self }
     {
-        let output = output_in(stream, self.outputs);
+        let output = self.out_of(stream);
         (output.closed | self.flags.gave_up) | output.discarding
     }
 
@@ -83,7 +97,7 @@ impl Runner {
         requires { InRange self }
         ensures { result ≡ read_allowance_of self stream }
     {
-        let output = output_in(stream, self.outputs);
+        let output = self.out_of(stream);
         output.allowance(self.flags.gave_up, self.limits.chunk) as usize
     }
 
@@ -92,7 +106,7 @@ impl Runner {
         requires { F.IsAlwaysCallable change }
         ensures { (output : Output) × F.post change (out_of stream self) output × (result ≡ with_outputs (put_output stream output self.outputs) self) }
     {
-        let output = change(output_in(stream, self.outputs));
+        let output = change(self.out_of(stream));
         let outputs = put_output(stream, output, self.outputs);
         self.outputs = outputs;
         self
@@ -106,7 +120,7 @@ impl Runner {
         key: Key,
         pool: Pool,
         units: u32,
-        credits: &mut [Credit; 2],
+        credits: &mut [Credit; 3],
     ) -> Result<Receipt, Refusal>
         requires { credits.old ≡ self.credits }
         ensures { (result ≡ (credit self key pool units).answer) × (credits.new ≡ (credit self key pool units).runner.credits) }
@@ -124,7 +138,7 @@ impl Runner {
         self,
         index: usize,
         units: u32,
-        credits: &mut [Credit; 2],
+        credits: &mut [Credit; 3],
     ) -> Result<Receipt, Refusal>
         requires { credits.old ≡ self.credits }
         ensures { (result ≡ credit_in (Ok index) self units) × (credits.new ≡ (credit_next (Ok Own) (Ok index) self units).credits) }

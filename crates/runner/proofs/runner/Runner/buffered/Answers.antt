@@ -1,6 +1,6 @@
 -- What is held is no more than the need of the byte store.
-use Rattle.std.proofs.Common.{arith, sym, ◌∙◌}
-use Rattle.inbox.specs.Need.{need_fits}
+use Rattle.std.proofs.Common.{arith, sym, ◌∙◌, true, ◌-◌, ◌^◌, leb-true}
+use Rattle.inbox.specs.Need.{byte_need}
 use Rattle.runner.proofs.Flows.{held_fits}
 use Rattle.runner.specs.RangeLaws.{is_good_lem}
 use Rattle.runner.proofs.runner.Runner.buffered.Goals as goal
@@ -8,4 +8,5 @@ use Rattle.runner.proofs.runner.Runner.buffered.Goals as goal
 pub held-requires : goal.held-requires
 held-requires c =
     let r = c.args.self in
-    omega (arith, held_fits r (is_good_lem r _ (sym c.check.ensures ∙ c.in_ok-check.was)).range, need_fits r.limits (grind arith) (omega (arith, c.well_formed.0.1.1.1.0.1.1.1.0.1.1.1.0.1)))
+    let g = is_good_lem r true (sym c.check.ensures ∙ c.in_ok-check.was) in
+    omega (arith, held_fits r g.range, leb-true (byte_need r.limits) (2 ^ 64 - 1) g.need)

@@ -6,7 +6,7 @@ use Rattle.exec.specs.declared.Refusal.{Refusal}
 use Rattle.exec.specs.declared.Key.{Key}
 use Rattle.exec.specs.declared.Pool.{Pool}
 use Rattle.exec.specs.Key.{admits}
-use Rattle.exec.specs.Limits.{output_pool}
+use Rattle.exec.specs.Limits.{output_pool, has_notes}
 use Rattle.runner.specs.declared.runner.Runner.{Runner}
 use Rattle.runner.specs.Calls.{calling, credit}
 use Rattle.runner.specs.Range.{stop}
@@ -20,10 +20,10 @@ unfolding credit credit_next
 credit-back r k p units = by (stop r true)
   where
     next : Runner
-    next = credit_next (admits r.key k) (output_pool r.limits.shared p) r units
+    next = credit_next (admits r.key k) (output_pool r.limits.shared (has_notes r.limits) p) r units
 
     answer : Result Receipt Refusal
-    answer = credit_answer (admits r.key k) (output_pool r.limits.shared p) r units
+    answer = credit_answer (admits r.key k) (output_pool r.limits.shared (has_notes r.limits) p) r units
 
     by : (g : Result (Unit {0}) Refusal) → (let a = calling g answer next r in record { runner = with_flow a.runner.credits r.turn r.flags r.high_water r; answer = a.answer } ≡ a)
     by (Ok tt) = refl
