@@ -6,17 +6,23 @@ use Rattle.exec.specs.declared.Admission.TheVariants.{Own, Stale}
 use Rattle.exec.specs.declared.Admission.{Admission}
 use Rattle.exec.specs.declared.Refusal.{Refusal}
 use Rattle.exec.specs.declared.Key.{Key}
+use Rattle.exec.specs.declared.Stream.{Stream}
 use Rattle.exec.specs.Key.{admits}
+use Rattle.exec.specs.Limits.{has}
 use Rattle.inbox.specs.Need.{byte_need, length_need}
 use Rattle.inbox.specs.RangeLaws.{both}
 use Rattle.runner.specs.declared.runner.Runner.{Runner}
-use Rattle.runner.specs.Range.{bytes_do, lengths_do, stop}
-use Rattle.runner.specs.RangeLaws.{InRange, Good, is_good_lem, stop_if, stopped, stands, agrees, tested, goes}
+use Rattle.runner.specs.Range.{bytes_do, lengths_do, stop, stop_at}
+use Rattle.runner.specs.RangeLaws.{InRange, Good, is_good_lem, stop_if, stopped, stopped_at, stands, agrees, tested, tested_at, goes}
 use Rattle.runner.specs.Streams.{is_taken}
 
 pub tested_stop : (r : Runner) (stores : Bool) → stop r stores ≡ cond (agrees r stores && stands r) (Ok tt) (Err (stopped r))
 unfolding stop_if
 tested_stop r stores = tested r {stores = stores} {found = stores} refl refl refl
+
+pub tested_stop_at : (r : Runner) (x : Stream) (stores : Bool)
+    → stop_at r x stores ≡ cond ((agrees r stores && stands r) && has r.limits x) (Ok tt) (Err (stopped_at (agrees r stores && stands r) r))
+tested_stop_at r x stores = tested_at r {stores = stores} {found = stores} refl refl refl x
 
 -- what was admitted, with a byte store
 pub admitted_bytes : (r : Runner) (store : List ℕ) (found : Bool) → found ≡ bytes_do r.limits store → stop r found ≡ Ok tt → InRange r × (byte_need r.limits ≤ length store)

@@ -254,7 +254,7 @@ impl Runner {
 
     // Bytes that were read from a stream, in order, of which it takes as many as the allowance lets it. While the stream is
     // discarded it takes all, and drops them.
-    #[tactic(auto, unfolding(crate::specs::Calls::output, crate::specs::Streams::output_took, crate::specs::Streams::output_next, crate::specs::Streams::output_taken, crate::specs::Streams::output_store, output::specs::Output::taken_in), using(crate::proofs::Guards::tested_stop))]
+    #[tactic(auto, unfolding(crate::specs::Calls::output, crate::specs::Streams::output_took, crate::specs::Streams::output_next, crate::specs::Streams::output_taken, crate::specs::Streams::output_store, output::specs::Output::taken_in), using(crate::proofs::Guards::tested_stop_at))]
     pub fn output(mut self, stream: Stream, store: &mut [u8], bytes: &[u8]) -> After<usize>
         ensures { output_after result store.new ≡ output self stream bytes.now store.old }
     {
