@@ -14,9 +14,9 @@ use Rattle.exec.specs.declared.Limits.{Limits}
 use Rattle.exec.specs.declared.Stream.{Stream}
 use Rattle.exec.specs.declared.Unit as units
 use Rattle.exec.specs.declared.Unit.TheVariants.{Bytes, Frames}
-use Rattle.exec.specs.Limits.{is_valid}
+use Rattle.exec.specs.Limits.{is_valid, streams}
 use Rattle.exec.specs.Outcome.{is_truncated}
-use Rattle.inbox.specs.Need.{byte_need, length_need_as, length_need}
+use Rattle.inbox.specs.Need.{byte_need, length_need_as, length_need, need_fits}
 use Rattle.input.specs.declared.Input.{Input}
 use Rattle.runner.specs.Calls as Calls
 use Rattle.runner.specs.Range.{bytes_do, lengths_do, stop, open_stop, fresh}
@@ -60,11 +60,12 @@ pub record Fine (s : State) : Type 0 where
   pub sound : Sound s
   pub limits : is_valid s.runner.limits ≡ true
   pub grants : grants s.runner ≡ true
+  pub need : need_fits s.runner.limits ≡ true
 
 pub goes : (s : State) (c : Call) → Fine s → stop s.runner (enough s c) ≡ Ok tt
 goes s c h =
     let r = h.sound.ranged in
-    unstopped s.runner (enough s c) (in_range_lem s.lengths s.runner r) h.limits h.grants
+    unstopped s.runner (enough s c) (in_range_lem s.lengths s.runner r) h.limits h.grants h.need
     (enough_all c s (le-leb (byte_need s.runner.limits) (length s.bytes) h.sound.roomy)
     (le-leb (length_need s.runner.limits) (length s.lengths) (slots_by s.runner.limits.input.unit s.runner.limits s.lengths s.runner.input r.2.0)))
 
@@ -73,6 +74,7 @@ fine_next c s h = record {
   sound = sound_next c s h.sound;
   limits = rw (ap (λ (x : Conf). x.limits) (framed_conf (framed c s))) h.limits;
   grants = subst⁻¹ (λ (x : Conf). grant_fits x.smallest x.limits.input.size ≡ true) (framed_conf (framed c s)) h.grants;
+  need = subst⁻¹ (λ (x : Conf). need_fits x.limits ≡ true) (framed_conf (framed c s)) h.need;
 }
 
 fine_list : (cs : List Call) (s : State) → Fine s → Fine (after_all s cs)
@@ -97,7 +99,7 @@ after_same (c ∷ cs) s h = rw (next_same s c h) (after_same cs (next s c) (fine
 
 pub fine_open : (conf : Conf) (now : ℕ) (bytes lengths : List ℕ) → Lent conf bytes lengths → Fine (begun conf now bytes lengths)
 unfolding fresh
-fine_open conf now bytes lengths o = record { sound = sound_open conf now bytes lengths o; limits = o.limits; grants = o.grants }
+fine_open conf now bytes lengths o = record { sound = sound_open conf now bytes lengths o; limits = o.limits; grants = o.grants; need = o.need }
 
 pub opens_by : (conf : Conf) (now : ℕ) (bytes lengths : List ℕ) → Opens conf now bytes lengths
     → open_stop conf.limits conf.smallest (bytes_do conf.limits bytes && lengths_do conf.limits lengths) ≡ Ok tt
@@ -150,7 +152,7 @@ module _ (conf : Conf) (now : ℕ) (bytes lengths : List ℕ) (op : Opens conf n
 
   -- the bound after every call that ticks
   pub late_call : (cs ds es : List Call) (t n : ℕ) (k : Key) (c : Cause) (call : Call) → Step.answer (Step.after (Step.opened conf now bytes lengths) cs) (Call.cancel t k c) ≡ Call.Applied
-      → t + conf.timers.grace + conf.timers.settlement < 2 ^ 64 → t + conf.timers.grace + conf.timers.settlement ≤ n → tick_of conf call ≡ Some n → 5 ≤ messages es
+      → t + conf.timers.grace + conf.timers.settlement < 2 ^ 64 → t + conf.timers.grace + conf.timers.settlement ≤ n → tick_of conf call ≡ Some n → 3 + streams conf.limits ≤ messages es
       → any_terminal (Step.run (Step.opened conf now bytes lengths) (cs ++ (Call.cancel t k c ∷ (ds ++ (call ∷ es))))) ≡ true
   late_call cs ds es t n k c call e l m i v =
       subst⁻¹ (λ (ds : List Done). any_terminal ds ≡ true) (same_run (cs ++ (Call.cancel t k c ∷ (ds ++ (call ∷ es)))))

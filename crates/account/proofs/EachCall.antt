@@ -17,12 +17,13 @@ use Rattle.exec.specs.declared.Cause.TheVariants as Cause
 use Rattle.exec.specs.declared.Limits.{Limits}
 use Rattle.exec.specs.declared.Receipt.TheVariants.{Late, Applied}
 use Rattle.exec.specs.declared.Stream.{Stream}
-use Rattle.exec.specs.declared.Stream.TheVariants.{Stdout, Stderr}
+use Rattle.exec.specs.declared.Stream.TheVariants.{Stdout, Stderr, Notes}
 use Rattle.exec.specs.Each.{Each}
 use Rattle.exec.specs.Key.{admits}
-use Rattle.exec.specs.Limits.{input_bytes as inbox_size}
+use Rattle.exec.specs.Limits.{input_bytes as inbox_size, has, has_notes}
+use Rattle.exec.specs.Stream.{same_stream}
 use Rattle.ring.specs.Ring.{ring_write}
-use Rattle.ring.specs.RingLaws.{write_length, write_other}
+use Rattle.ring.specs.RingLaws.{read_none, write_length, write_other}
 use Rattle.inbox.specs.Need.{byte_need}
 use Rattle.output.specs.declared.Output.{Output}
 use Rattle.inbox.specs.Inbox.{inbox_base}
@@ -36,54 +37,59 @@ use Rattle.output.specs.Outputs.{put_output}
 use Rattle.runner.specs.State.{out_of, with_outputs, at, base}
 use Rattle.runner.specs.Streams.{is_shut, room, output_taken, output_next, output_store, discarded_next, closed_next, failed_next, hung_up_next, credit_next, is_taken, input_next, input_store, end_next, written_next}
 use Rattle.calls.specs.Call as Call
-use Rattle.calls.specs.Call.{Conf, Call, is_refused}
+use Rattle.calls.specs.Call.{Conf, Call, Answer, is_refused}
 use Rattle.account.specs.Step.{State, received_as}
 use Rattle.account.specs.Account
 use Rattle.account.specs.Account.{Tally, tally_of, marked, sent_by, mk, adds, add, hear, heard, on_tally, taken_by, launch_r, close_r, hang_r, settling_r}
-use Rattle.account.proofs.Plain.{said, next, answer}
+use Rattle.account.proofs.Plain.{said, next, answer, if_open, by_open}
 use Rattle.account.proofs.Stages.{launched_if}
 use Rattle.account.proofs.Rings.{ring}
-use Rattle.account.proofs.Sides.{on_out, on_one_lem, base_behind, bases_apart}
+use Rattle.account.proofs.Sides.{on_out, on_one_lem, third, third_or, is_over, place, placed, base_behind, bases_apart}
 use Rattle.account.proofs.Streams.{Fits, Good, closed_by, failed_by, discarded_by, taken_by_lem, sent_by_lem, moved, keeps_less}
-use Rattle.account.proofs.Range.{Queued, chosen_queued, RangedS}
+use Rattle.account.proofs.Range.{Queued, chosen_queued, chosen_open, RangedS}
 use Rattle.account.proofs.Finish.{framed, framed_conf}
 use Rattle.account.proofs.Lives.{rep, Inv, along, tick_inv, cancel_inv, detach_inv, exited_inv, reported_same}
 use Rattle.account.proofs.Flags.{either}
 use Rattle.account.proofs.InputRange.{room_by, paid}
 
 -- a claim of the invariant on each stream
-abbrev Claim : List ℕ → ℕ → Stream → Output → Tally → Type 0
-Claim st n x o t = Good st (base x n) n o t
+abbrev Claim : List ℕ → Limits → Stream → Output → Tally → Type 0
+Claim st l x o t = Good st (place l x) l.chunk o t
 
 -- what is replayed does not change with an output that stays as closed and as hung up as it was
 rep_at : (x : Stream) (o : Output) (s : Runner) → o.closed ≡ (out_of x s).closed → o.hung_up ≡ (out_of x s).hung_up → rep (with_outputs (put_output x o s.outputs) s) ≡ rep s
 rep_at Stdout o s c h = rw (c, h) refl
 rep_at Stderr o s c h = rw (c, h) refl
+rep_at Notes o s c h =
+    let k = third (has_notes s.limits) s.outputs (λ (p : Output). p.closed ≡ (out_of Notes s).closed) o c refl in
+    let u = third (has_notes s.limits) s.outputs (λ (p : Output). p.hung_up ≡ (out_of Notes s).hung_up) o h refl in
+    rw (k, u) refl
 
-sent_inv : (st : List ℕ) (x : Stream) (n : ℕ) (s : Runner) (a : Account.Account) → n ≤ (out_of x s).queued → Inv st s a
+sent_inv : (st : List ℕ) (x : Stream) (n : ℕ) (s : Runner) (a : Account.Account) → has s.limits x ≡ true → n ≤ (out_of x s).queued → Inv st s a
     → Inv st (output_sent x n s) (heard (Call.Output x (payload s x n st)) a)
 unfolding payload output_sent output_paid
-sent_inv st x n s a l h = (
+sent_inv st x n s a k l h = (
   h.0 ∙ sym (rep_at x (sent_out s.limits.chunk n (out_of x s)) s refl refl),
-  on_one_lem (Claim st s.limits.chunk) x (sent_out s.limits.chunk n (out_of x s)) (sent_by (payload_of x)) s.outputs a.tallies (sent_by_lem st (base x s.limits.chunk) s.limits.chunk n (out_of x s) (tally_of x a) l (h.1 x)) (λ y e. h.1 y),
+  on_one_lem (has_notes s.limits) s.outputs (Claim st s.limits) s.limits refl x (sent_out s.limits.chunk n (out_of x s)) (sent_by (payload_of x)) a.tallies k
+      (rw (placed s.limits x k) (sent_by_lem st (place s.limits x) s.limits.chunk n (out_of x s) (tally_of x a) l (h.1 x))) (λ y e. h.1 y),
 )
   where
     payload_of : Stream → List ℕ
     payload_of y = ring st (base y s.limits.chunk) s.limits.chunk (out_of y s).start n
 
 -- an output that keeps all that the invariant sees of it
-seen_inv : (st : List ℕ) (x : Stream) (f : Output → Output) (s : Runner) (a : Account.Account) → ((o : Output) (t : Tally) → Good st (base x s.limits.chunk) s.limits.chunk o t → Good st (base x s.limits.chunk) s.limits.chunk (f o) t)
+seen_inv : (st : List ℕ) (x : Stream) (f : Output → Output) (s : Runner) (a : Account.Account) → ((o : Output) (t : Tally) → Claim st s.limits x o t → Claim st s.limits x (f o) t)
     → ((f (out_of x s)).closed ≡ (out_of x s).closed) → ((f (out_of x s)).hung_up ≡ (out_of x s).hung_up) → Inv st s a → Inv st (at x f s) a
 seen_inv st x f s a k c u h = (
   h.0 ∙ sym (rep_at x (f (out_of x s)) s c u),
-  on_out (λ (y : Stream) (o : Output). Good st (base y s.limits.chunk) s.limits.chunk o (tally_of y a)) x (f (out_of x s)) s.outputs (k (out_of x s) (tally_of x a) (h.1 x)) (λ y e. h.1 y),
+  on_out (has_notes s.limits) s.outputs (λ (y : Stream) (o : Output). Claim st s.limits y o (tally_of y a)) x (f (out_of x s)) (k (out_of x s) (tally_of x a) (h.1 x)) h.1,
 )
 
-effect_inv : (st : List ℕ) (m : Choice) (s : Runner) (a : Account.Account) → Queued s m → Inv st s a → Inv st (effect m s) (cond (is_refused (said m s st)) a (hear (said m s st) a))
+effect_inv : (st : List ℕ) (m : Choice) (s : Runner) (a : Account.Account) → ((x : Stream) (n : ℕ) → Choice.Output x n ≡ m → has s.limits x ≡ true) → Queued s m → Inv st s a → Inv st (effect m s) (cond (is_refused (said m s st)) a (hear (said m s st) a))
 unfolding effect said
-effect_inv st (Choice.End x) s a l h = seen_inv st x ended_out s a (λ o t g. g) refl refl h
-effect_inv st (Choice.Output x n) s a l h = sent_inv st x n s a (l x n refl) h
-effect_inv st _ s a l h = h
+effect_inv st (Choice.End x) s a k l h = seen_inv st x ended_out s a (λ o t g. g) refl refl h
+effect_inv st (Choice.Output x n) s a k l h = sent_inv st x n s a (k x n refl) (l x n refl) h
+effect_inv st _ s a k l h = h
 
 handed_inv : (st : List ℕ) (w : Option Request) (s : Runner) (a : Account.Account) → Inv st s a → Inv st (wish_effect w s) a
 unfolding wish_effect
@@ -106,10 +112,10 @@ input_inv true b st s a n l m h =
     let c : ℕ = s.limits.chunk in
     let w = write_length (inbox_base s.limits) (inbox_size s.limits) s.input.inbox.start s.input.inbox.length b (length b) st n (omega arith) (omega arith) k in (
       h.0,
-      λ x. let f = base_behind x c in
-          moved st _ (base x c) c (out_of x s) (tally_of x a)
+      λ x. let f = base_behind s.limits x in
+          moved st _ (place s.limits x) c (out_of x s) (tally_of x a)
           (write_other (inbox_base s.limits) (inbox_size s.limits) s.input.inbox.start s.input.inbox.length b (length b) st n (omega arith) (omega arith) k
-          (base x c) c (out_of x s).start (out_of x s).queued (h.1 x).2 (let z = (h.1 x).1.inside in omega arith) (h.1 x).1.within (inl f)) w (h.1 x),
+          (place s.limits x) c (out_of x s).start (out_of x s).queued (h.1 x).2 (let z = (h.1 x).1.inside in omega arith) (h.1 x).1.within (inl f)) w (h.1 x),
     )
 
 taken_inv : (t : Bool) (b st : List ℕ) (s : Runner) (a : Account.Account) → byte_need s.limits ≤ length st → s.input.inbox.start < inbox_size s.limits
@@ -119,45 +125,65 @@ unfolding receive_bytes
 taken_inv false b st s a n l m h = h
 taken_inv true b st s a n l m h = input_inv (is_kept s.limits s.input (length b)) b st s a n l m h
 
-output_inv : (st : List ℕ) (x : Stream) (b : List ℕ) (s : Runner) (a : Account.Account) → Inv st s a
+-- the bytes of a stream are kept by a store that keeps those of the streams that are open
+spared : (s : Runner) (y : Stream) {st st' : List ℕ}
+    → (has s.limits y ≡ true → ring st' (base y s.limits.chunk) s.limits.chunk (out_of y s).start (out_of y s).queued ≡ ring st (base y s.limits.chunk) s.limits.chunk (out_of y s).start (out_of y s).queued)
+    → ring st' (place s.limits y) s.limits.chunk (out_of y s).start (out_of y s).queued ≡ ring st (place s.limits y) s.limits.chunk (out_of y s).start (out_of y s).queued
+spared s y {st} {st'} h = by (has s.limits y) refl
+  where
+    by : (b : Bool) → has s.limits y ≡ b
+        → ring st' (cond b (base y s.limits.chunk) 0) s.limits.chunk (out_of y s).start (out_of y s).queued ≡ ring st (cond b (base y s.limits.chunk) 0) s.limits.chunk (out_of y s).start (out_of y s).queued
+    by true e = h e
+    by false e =
+        rw (is_over s.limits s.outputs y e, read_none 0 s.limits.chunk 0 st', read_none 0 s.limits.chunk 0 st) refl
+
+output_inv : (st : List ℕ) (x : Stream) (b : List ℕ) (s : Runner) (a : Account.Account) → has s.limits x ≡ true → Inv st s a
     → Inv (output_store s x b st) (output_next s x (length b)) (on_tally x (taken_by (take (output_taken s x (length b)) b)) a)
 unfolding output_store output_next output_taken
-output_inv st x b s a h =
+output_inv st x b s a o h =
     let c : ℕ = s.limits.chunk in
+    let g : Good st (base x c) c (out_of x s) (tally_of x a) = subst (λ (p : ℕ). Good st p c (out_of x s) (tally_of x a)) (placed s.limits x o) (h.1 x) in
     let k : ℕ = keeps (is_shut x s) (out_of x s).discarding (room x s) (length b) in
-    let has = keeps_less (is_shut x s) (out_of x s).discarding (room x s) (length b) in
+    let few = keeps_less (is_shut x s) (out_of x s).discarding (room x s) (length b) in
     let kr = keeps_fit (is_shut x s) (out_of x s).discarding (room x s) (length b) in
-    let i0 = (h.1 x).1.inside in let w0 = (h.1 x).1.within in (
+    let i0 = g.1.inside in let w0 = g.1.within in (
       h.0 ∙ sym (rep_at x _ s refl refl),
-      on_one_lem (Claim (output_store s x b st) c) x _ _ s.outputs a.tallies
-          (taken_by_lem st (base x c) c (is_shut x s) b (out_of x s) (tally_of x a) (or_self_left (out_of x s).closed s.flags.gave_up) (h.1 x))
-          (λ y e. moved st _ (base y c) c (out_of y s) (tally_of y a)
-          (write_other (base x c) c (out_of x s).start (out_of x s).queued b k st (h.1 x).2 (omega arith) has (omega arith)
-          (base y c) c (out_of y s).start (out_of y s).queued (h.1 y).2 (let z = (h.1 y).1.inside in omega arith) (h.1 y).1.within (bases_apart x y c e))
-          (write_length (base x c) c (out_of x s).start (out_of x s).queued b k st (h.1 x).2 (omega arith) has (omega arith)) (h.1 y)),
+      on_one_lem (has_notes s.limits) s.outputs (Claim (output_store s x b st) s.limits) s.limits refl x _ _ a.tallies o
+          (rw (placed s.limits x o) (taken_by_lem st (base x c) c (is_shut x s) b (out_of x s) (tally_of x a) (or_self_left (out_of x s).closed s.flags.gave_up) g))
+          (λ y e. moved st _ (place s.limits y) c (out_of y s) (tally_of y a)
+          (spared s y
+          (λ p. let v : Good st (base y c) c (out_of y s) (tally_of y a) = subst (λ (q : ℕ). Good st q c (out_of y s) (tally_of y a)) (placed s.limits y p) (h.1 y) in
+          write_other (base x c) c (out_of x s).start (out_of x s).queued b k st g.2 (omega arith) few (omega arith)
+          (base y c) c (out_of y s).start (out_of y s).queued v.2 (let z = v.1.inside in omega arith) v.1.within (bases_apart x y c e)))
+          (write_length (base x c) c (out_of x s).start (out_of x s).queued b k st g.2 (omega arith) few (omega arith)) (h.1 y)),
     )
 
 -- a stream's output and tally changed by a report: one that neither closes it nor says that it hung up, and one that closes it
-told_inv : (st : List ℕ) (x : Stream) (f : Output → Output) (g : Tally → Tally) (s : Runner) (a : Account.Account) → (f (out_of x s)).closed ≡ (out_of x s).closed → (f (out_of x s)).hung_up ≡ (out_of x s).hung_up
-    → Claim st s.limits.chunk x (f (out_of x s)) (g (tally_of x a)) → Inv st s a → Inv st (at x f s) (on_tally x g a)
-told_inv st x f g s a c u p h = (
+told_inv : (st : List ℕ) (x : Stream) (f : Output → Output) (g : Tally → Tally) (s : Runner) (a : Account.Account) → has s.limits x ≡ true → (f (out_of x s)).closed ≡ (out_of x s).closed → (f (out_of x s)).hung_up ≡ (out_of x s).hung_up
+    → Claim st s.limits x (f (out_of x s)) (g (tally_of x a)) → Inv st s a → Inv st (at x f s) (on_tally x g a)
+told_inv st x f g s a o c u p h = (
   h.0 ∙ sym (rep_at x (f (out_of x s)) s c u),
-  on_one_lem (Claim st s.limits.chunk) x (f (out_of x s)) g s.outputs a.tallies p (λ y e. h.1 y),
+  on_one_lem (has_notes s.limits) s.outputs (Claim st s.limits) s.limits refl x (f (out_of x s)) g a.tallies o p (λ y e. h.1 y),
 )
 
 closed_rep : (x : Stream) (o : Output) (s : Runner) → o.closed ≡ true → o.hung_up ≡ (out_of x s).hung_up → close_r x (rep s) ≡ rep (with_outputs (put_output x o s.outputs) s)
 closed_rep Stdout o s c h = rw (c, h) refl
 closed_rep Stderr o s c h = rw (c, h) refl
+closed_rep Notes o s c h =
+    let k = third_or (has_notes s.limits) s.outputs (λ (p : Output). p.closed ≡ true) o c refl in
+    let u = third (has_notes s.limits) s.outputs (λ (p : Output). p.hung_up ≡ (out_of Notes s).hung_up) o h refl in
+    rw (k, u) refl
 
-hung_rep : (x : Stream) (s : Runner) → hang_r x (rep s) ≡ rep (at x hung_up s)
-hung_rep Stdout s = refl
-hung_rep Stderr s = refl
+hung_rep : (x : Stream) (s : Runner) → has s.limits x ≡ true → hang_r x (rep s) ≡ rep (at x hung_up s)
+hung_rep Stdout s o = refl
+hung_rep Stderr s o = refl
+hung_rep Notes s o = rw o refl
 
-shut_inv : (st : List ℕ) (x : Stream) (f : Output → Output) (g : Tally → Tally) (s : Runner) (a : Account.Account) → (f (out_of x s)).closed ≡ true → (f (out_of x s)).hung_up ≡ (out_of x s).hung_up
-    → Claim st s.limits.chunk x (f (out_of x s)) (g (tally_of x a)) → Inv st s a → Inv st (at x f s) (on_tally x g (mk (close_r x a.rep) a.tallies))
-shut_inv st x f g s a c u p h = (
+shut_inv : (st : List ℕ) (x : Stream) (f : Output → Output) (g : Tally → Tally) (s : Runner) (a : Account.Account) → has s.limits x ≡ true → (f (out_of x s)).closed ≡ true → (f (out_of x s)).hung_up ≡ (out_of x s).hung_up
+    → Claim st s.limits x (f (out_of x s)) (g (tally_of x a)) → Inv st s a → Inv st (at x f s) (on_tally x g (mk (close_r x a.rep) a.tallies))
+shut_inv st x f g s a o c u p h = (
   ap (close_r x) h.0 ∙ closed_rep x (f (out_of x s)) s c u,
-  on_one_lem (Claim st s.limits.chunk) x (f (out_of x s)) g s.outputs a.tallies p (λ y e. h.1 y),
+  on_one_lem (has_notes s.limits) s.outputs (Claim st s.limits) s.limits refl x (f (out_of x s)) g a.tallies o p (λ y e. h.1 y),
 )
 
 -- a cancel that is refused changes nothing
@@ -191,6 +217,12 @@ Roomy s = byte_need s.runner.limits ≤ length s.bytes
 unheard : (s : State) (a : Account.Account) (c : Call) → InvS (next s c) a → InvS (next s c) (cond (is_refused (answer s c)) a a)
 unheard s a c h = either (InvS (next s c)) (is_refused (answer s c)) a a h h
 
+-- a call that names a stream: where that is not open it is refused, and adds nothing
+named : (c : Call) (s : State) {t : State} (a : Account.Account) (x : Stream) (r : Answer) → InvS s a → (has s.runner.limits x ≡ true → InvS t (add a c r))
+    → InvS (cond (has s.runner.limits x) t s) (add a c (if_open s x r))
+unfolding add
+named c s {t} a x r h k = by_open (λ (u : State) (q : Answer). InvS u (add a c q)) s t x r k h
+
 -- every call, while the runner has not finished
 pub step_inv : (c : Call) (s : State) (a : Account.Account) → s.runner.flags.finished ≡ false → RangedS s → Roomy s → InvS s a → InvS (next s c) (add a c (answer s c))
 unfolding next adds add answer credit_next input_next input_store end_next launched_next discarded_next closed_next failed_next hung_up_next written_next close_runner_input settled_next
@@ -207,23 +239,29 @@ step_inv (Call.launched x) s a f r m h =
     let u : Runner = s.runner in
     along s.bytes (λ (y : Account.Account). Inv s.bytes (launched_if (awaits_launch u) x u) (mk (launch_r y.rep) y.tallies)) u a h
     (launched_inv s.bytes (awaits_launch u) x u a.tallies refl (refl, h.1))
-step_inv (Call.output x b) s a f r m h = output_inv s.bytes x b s.runner a h
+step_inv (Call.output x b) s a f r m h =
+    named (Call.output x b) s a x (Call.Taken _) h (λ o. output_inv s.bytes x b s.runner a o h)
 step_inv (Call.discarded x n) s a f r m h =
-    let u : Runner = s.runner in let c : ℕ = u.limits.chunk in
-    told_inv s.bytes x (lost_out (ltb 0 n)) (marked (ltb 0 n)) u a refl refl (discarded_by s.bytes (base x c) c (ltb 0 n) (out_of x u) (tally_of x a) (h.1 x)) h
+    let u : Runner = s.runner in
+    named (Call.discarded x n) s a x Call.Ok h (λ o.
+    told_inv s.bytes x (lost_out (ltb 0 n)) (marked (ltb 0 n)) u a o refl refl (discarded_by s.bytes (place u.limits x) u.limits.chunk (ltb 0 n) (out_of x u) (tally_of x a) (h.1 x)) h)
 step_inv (Call.output_closed x) s a f r m h =
-    let u : Runner = s.runner in let c : ℕ = u.limits.chunk in (
+    let u : Runner = s.runner in
+    named (Call.output_closed x) s a x Call.Ok h (λ o. (
       ap (close_r x) h.0 ∙ closed_rep x (closed_out (out_of x u)) u refl refl,
-      on_out (λ (y : Stream) (o : Output). Claim s.bytes c y o (tally_of y a)) x (closed_out (out_of x u)) u.outputs (closed_by s.bytes (base x c) c (out_of x u) (tally_of x a) (h.1 x)) (λ y e. h.1 y),
-    )
+      on_out (has_notes u.limits) u.outputs (λ (y : Stream) (o : Output). Claim s.bytes u.limits y o (tally_of y a)) x (closed_out (out_of x u))
+          (closed_by s.bytes (place u.limits x) u.limits.chunk (out_of x u) (tally_of x a) (h.1 x)) h.1,
+    ))
 step_inv (Call.output_failed x) s a f r m h =
-    let u : Runner = s.runner in let c : ℕ = u.limits.chunk in
-    shut_inv s.bytes x failed_out (marked true) u a refl refl (failed_by s.bytes (base x c) c (out_of x u) (tally_of x a) (h.1 x)) h
+    let u : Runner = s.runner in
+    named (Call.output_failed x) s a x Call.Ok h (λ o.
+    shut_inv s.bytes x failed_out (marked true) u a o refl refl (failed_by s.bytes (place u.limits x) u.limits.chunk (out_of x u) (tally_of x a) (h.1 x)) h)
 step_inv (Call.output_hung_up x) s a f r m h =
-    let u : Runner = s.runner in let c : ℕ = u.limits.chunk in (
-      ap (hang_r x) h.0 ∙ hung_rep x u,
-      on_out (λ (y : Stream) (o : Output). Claim s.bytes c y o (tally_of y a)) x (hung_up (out_of x u)) u.outputs (h.1 x) (λ y e. h.1 y),
-    )
+    let u : Runner = s.runner in
+    named (Call.output_hung_up x) s a x Call.Ok h (λ o. (
+      ap (hang_r x) h.0 ∙ hung_rep x u o,
+      on_out (has_notes u.limits) u.outputs (λ (y : Stream) (o : Output). Claim s.bytes u.limits y o (tally_of y a)) x (hung_up (out_of x u)) (h.1 x) h.1,
+    ))
 step_inv (Call.exited now x) s a f r m h = exited_inv s.bytes now x s.runner a f h
 step_inv (Call.settled y) s a f r m h =
     along s.bytes (λ (x : Account.Account). InvS (next s (Call.settled y)) (add x (Call.settled y) Call.Ok)) s.runner a h
@@ -233,7 +271,8 @@ step_inv (Call.reset now) s a f r m h = detach_inv s.bytes now Cause.Reset s.run
 step_inv (Call.disconnect now) s a f r m h = detach_inv s.bytes now Cause.Disconnected s.runner a f h
 step_inv (Call.tick now) s a f r m h = tick_inv s.bytes now s.runner a f h
 step_inv Call.next_request s a f r m h = unheard s a Call.next_request (handed_inv s.bytes (wish s.runner) s.runner a h)
-step_inv (Call.next_message b) s a f r m h = effect_inv s.bytes (choose s.runner (length b)) s.runner a (chosen_queued s.runner (length b)) h
+step_inv (Call.next_message b) s a f r m h =
+    effect_inv s.bytes (choose s.runner (length b)) s.runner a (chosen_open s.runner (length b)) (chosen_queued s.runner (length b)) h
 step_inv _ s a f r m h = h
 
 -- ---- no call changes the length of the byte store
@@ -253,12 +292,12 @@ unfolding receive_bytes
 taken_length false b st s n l m = refl
 taken_length true b st s n l m = input_length (is_kept s.limits s.input (length b)) b st s n l m
 
-output_length : (x : Stream) (b st : List ℕ) (s : Runner) → byte_need s.limits ≤ length st → Fits s.limits.chunk (out_of x s).start (out_of x s).queued → length (output_store s x b st) ≡ length st
+output_length : (x : Stream) (b st : List ℕ) (s : Runner) → has s.limits x ≡ true → byte_need s.limits ≤ length st → Fits s.limits.chunk (out_of x s).start (out_of x s).queued → length (output_store s x b st) ≡ length st
 unfolding output_store
-output_length x b st s n f =
+output_length x b st s o n f =
     let has = keeps_less (is_shut x s) (out_of x s).discarding (room x s) (length b) in
     let kr = keeps_fit (is_shut x s) (out_of x s).discarding (room x s) (length b) in
-    let i = f.inside in let w = f.within in let z = base_behind x s.limits.chunk in
+    let i = f.inside in let w = f.within in let z = base_behind s.limits x in let p = placed s.limits x o in
     write_length (base x s.limits.chunk) s.limits.chunk (out_of x s).start (out_of x s).queued b (keeps (is_shut x s) (out_of x s).discarding (room x s) (length b)) st (omega arith) (omega arith) has (omega arith)
 
 bytes_length : (c : Call) (s : State) → RangedS s → Roomy s → length (next s c).bytes ≡ length s.bytes
@@ -266,7 +305,8 @@ unfolding next input_store
 bytes_length (Call.input k b) s r m =
     let u : Runner = s.runner in let x : (Result Admission Refusal) = admits u.key k in
     taken_length (is_taken x u) b s.bytes u m r.2.1 (kept_room b s r)
-bytes_length (Call.output x b) s r m = output_length x b s.bytes s.runner m (r.0 x)
+bytes_length (Call.output x b) s r m =
+    by_open (λ (t : State) (q : Answer). length t.bytes ≡ length s.bytes) s _ x (Call.Taken 0) (λ o. output_length x b s.bytes s.runner o m (r.0 x)) refl
 bytes_length _ s r m = refl
 
 pub roomy_next : (c : Call) (s : State) → RangedS s → Roomy s → Roomy (next s c)

@@ -14,7 +14,7 @@ use Rattle.choice.specs.declared.Choice.{Choice}
 use Rattle.runner.specs.declared.runner.Runner.{Runner}
 use Rattle.choice.specs.Order.{if_else, order}
 use Rattle.exec.specs.Key.{admits}
-use Rattle.exec.specs.Limits.{output_pool}
+use Rattle.exec.specs.Limits.{output_pool, has_notes}
 use Rattle.runner.specs.Calls.{asked_for}
 use Rattle.runner.specs.Life.{close_runner_input, launched_next, settled_next, cancel_answer, outcome_of}
 use Rattle.runner.specs.Streams.{output_next, discarded_next, closed_next, failed_next, hung_up_next, credit_answer, credit_next, input_answer, input_next, end_answer, end_next, written_next}
@@ -104,7 +104,7 @@ pub data Kind (s : State) : Call → Type 0 where
 
 pub kind : (c : Call) (s : State) → Kind s c
 unfolding answer
-kind (Call.credit k p u) s = quiet (quiet_received (credit_answer (admits s.runner.key k) (output_pool s.runner.limits.shared p) s.runner u))
+kind (Call.credit k p u) s = quiet (quiet_received (credit_answer (admits s.runner.key k) (output_pool s.runner.limits.shared (has_notes s.runner.limits) p) s.runner u))
 kind (Call.input k b) s = quiet (quiet_received (input_answer (admits s.runner.key k) s.runner (length b)))
 kind (Call.end_input k) s = quiet (quiet_received (end_answer (admits s.runner.key k) s.runner))
 kind (Call.cancel now k c) s = quiet (quiet_received (cancel_answer (admits s.runner.key k) s.runner now))

@@ -1,4 +1,6 @@
 -- The fourth part: Terminal by the fifth message after the late tick.
+use Rattle.output.specs.Outputs.{notes}
+use Rattle.output.specs.Output.{over as over_output}
 use Rattle.std.specs.Prelude.{Option, Result, Some, None, Ok, Err}
 use Rattle.exec.specs.declared.Admission.TheVariants.{Own, Stale}
 use Rattle.exec.specs.declared.Admission.{Admission}
@@ -16,7 +18,7 @@ use borrow.Author.Tests.{le-leb, ltb-true, ltb-false}
 use Rattle.exec.specs.declared.Cause.{Cause}
 use Rattle.exec.specs.declared.Key.{Key}
 use Rattle.exec.specs.declared.Stream.{Stream}
-use Rattle.exec.specs.declared.Stream.TheVariants.{Stdout, Stderr}
+use Rattle.exec.specs.declared.Stream.TheVariants.{Stdout, Stderr, Notes}
 use Rattle.exec.specs.declared.Unit as Units
 use Rattle.exec.specs.declared.Unit.TheVariants.{Bytes, Frames}
 use Rattle.choice.specs.declared.Choice.{Choice}
@@ -25,7 +27,7 @@ use Rattle.runner.specs.declared.runner.Runner.{Runner}
 use Rattle.choice.specs.Order.{if_else, order}
 use Rattle.exec.specs.Time.{after, then, earliest, due, after_at}
 use Rattle.exec.specs.Key.{admits}
-use Rattle.exec.specs.Limits.{pool_of}
+use Rattle.exec.specs.Limits.{pool_of, has_notes, streams}
 use Rattle.exec.specs.Stream.{stream_at, following}
 use Rattle.credit.specs.Sender.{sendable}
 use Rattle.input.specs.Input.{close_input}
@@ -209,15 +211,22 @@ no_send s n x d = go s.limits.output.unit (min (min (out_of x s).queued s.limits
         pick true = refl
         pick false = refl
 
--- what is chosen, in terms of the five flags
-abbrev late_order : (det st cm e0 e1 : Bool) → Stream → Bool → Choice
-late_order det st cm e0 e1 x cr = order false det false cr st cm false (true && not e0) (true && not e1) (true && true && ((true && (e0 || det)) && (true && (e1 || det))) && true) x 0 0
+-- what is chosen, in terms of the six flags
+abbrev late_order : (det st cm e0 e1 e2 : Bool) → Stream → Bool → Choice
+late_order det st cm e0 e1 e2 x cr =
+    order false det false cr st cm false (true && not e0) (true && not e1) (true && not e2)
+    (true && true && (((true && (e0 || det)) && (true && (e1 || det))) && (true && (e2 || det))) && true) x 0 0 0
 
 choose_late : (s : Runner) (n : ℕ) (d : Dry s) (k : AllKnown s) → s.flags.finished ≡ false → s.input.closed ≡ true
-    → choose s n ≡ late_order s.flags.detached s.flags.started_message s.input.closed_message (out_of Stdout s).ended (out_of Stderr s).ended (stream_at s.turn) s.flags.credited
+    → choose s n ≡ late_order s.flags.detached s.flags.started_message s.input.closed_message (out_of Stdout s).ended (out_of Stderr s).ended (out_of Notes s).ended (stream_at s.turn)
+    s.flags.credited
 unfolding choose is_ready
 choose_late s n d k f i =
-    rw (no_send s n (stream_at s.turn) d, no_send s n (following (stream_at s.turn)) d, f, i, k.launch, k.exit, k.closed Stdout, k.closed Stderr, k.settled, (d Stdout).none, (d Stderr).none) refl
+    let x = stream_at s.turn in
+    rw (
+      no_send s n x d, no_send s n (following x) d, no_send s n (following (following x)) d, f, i, k.launch, k.exit,
+      k.closed Stdout, k.closed Stderr, k.closed Notes, k.settled, (d Stdout).none, (d Stderr).none, (d Notes).none,
+    ) refl
 
 pub data Progress (s : Runner) (n : ℕ) : Type 0 where
   terminal : choose s n ≡ Choice.Terminal → Progress s n
@@ -238,25 +247,40 @@ near_end : (x : Stream) (s : Runner) → (out_of x s).ended ≡ false → suc (l
 unfolding effect
 near_end Stdout s e = rw e (omega arith)
 near_end Stderr s e = rw e (omega arith)
+near_end Notes s e = rw (e, by (has_notes s.limits)) (omega arith)
+  where
+    by : (b : Bool) → bit (not (cond b (ended_out (out_of Notes s)) over_output).ended) ≡ 0
+    by true = refl
+    by false = refl
 
-progress_by : (s : Runner) (n : ℕ) (det st cm e0 e1 : Bool) → s.flags.started_message ≡ st → s.input.closed_message ≡ cm → (out_of Stdout s).ended ≡ e0 → (out_of Stderr s).ended ≡ e1
-    → choose s n ≡ late_order det st cm e0 e1 (stream_at s.turn) s.flags.credited → Progress s n
+progress_by : (s : Runner) (n : ℕ) (det st cm e0 e1 e2 : Bool) → s.flags.started_message ≡ st → s.input.closed_message ≡ cm → (out_of Stdout s).ended ≡ e0
+    → (out_of Stderr s).ended ≡ e1 → (out_of Notes s).ended ≡ e2 → choose s n ≡ late_order det st cm e0 e1 e2 (stream_at s.turn) s.flags.credited → Progress s n
 unfolding order if_else
-progress_by s n true st cm true true p2 p3 p4 p5 e = terminal e
-progress_by s n true st cm true false p2 p3 p4 p5 e = terminal e
-progress_by s n true st cm false true p2 p3 p4 p5 e = terminal e
-progress_by s n true st cm false false p2 p3 p4 p5 e = terminal e
-progress_by s n false true cm e0 e1 p2 p3 p4 p5 e = near s n Choice.Started e (near_started s p2)
-progress_by s n false false true e0 e1 p2 p3 p4 p5 e = near s n Choice.InputClosed e (near_closed s p3)
-progress_by s n false false false false e1 p2 p3 p4 p5 e = near s n (Choice.End Stdout) e (near_end Stdout s p4)
-progress_by s n false false false true false p2 p3 p4 p5 e = near s n (Choice.End Stderr) e (near_end Stderr s p5)
-progress_by s n false false false true true p2 p3 p4 p5 e = terminal e
+progress_by s n true st cm e0 e1 e2 p2 p3 p4 p5 p6 e = terminal (e ∙ all e0 e1 e2)
+  where
+    -- detached, the ends are not told
+    all : (e0 e1 e2 : Bool) → late_order true st cm e0 e1 e2 (stream_at s.turn) s.flags.credited ≡ Choice.Terminal
+    all true true true = refl
+    all true true false = refl
+    all true false true = refl
+    all true false false = refl
+    all false true true = refl
+    all false true false = refl
+    all false false true = refl
+    all false false false = refl
+progress_by s n false true cm e0 e1 e2 p2 p3 p4 p5 p6 e = near s n Choice.Started e (near_started s p2)
+progress_by s n false false true e0 e1 e2 p2 p3 p4 p5 p6 e = near s n Choice.InputClosed e (near_closed s p3)
+progress_by s n false false false false e1 e2 p2 p3 p4 p5 p6 e = near s n (Choice.End Stdout) e (near_end Stdout s p4)
+progress_by s n false false false true false e2 p2 p3 p4 p5 p6 e = near s n (Choice.End Stderr) e (near_end Stderr s p5)
+progress_by s n false false false true true false p2 p3 p4 p5 p6 e = near s n (Choice.End Notes) e (near_end Notes s p6)
+progress_by s n false false false true true true p2 p3 p4 p5 p6 e = terminal e
 
 progress_of : (s : Runner) (n : ℕ) → s.flags.finished ≡ false → s.input.closed ≡ true → Either ⊥ (Dry s) → Either ⊥ (AllKnown s) → Progress s n
 progress_of s n f i (left p) k = absurd p
 progress_of s n f i (right d) (left p) = absurd p
 progress_of s n f i (right d) (right k) =
-    progress_by s n s.flags.detached s.flags.started_message s.input.closed_message (out_of Stdout s).ended (out_of Stderr s).ended refl refl refl refl (choose_late s n d k f i)
+    progress_by s n s.flags.detached s.flags.started_message s.input.closed_message (out_of Stdout s).ended (out_of Stderr s).ended (out_of Notes s).ended
+    refl refl refl refl refl (choose_late s n d k f i)
 
 pub progress : (s : Runner) (n : ℕ) → After s → s.flags.finished ≡ false → Progress s n
 progress s n h f = progress_of s n f h.0 h.2 h.3
@@ -320,12 +344,19 @@ pub before_list : (sum : ℕ) (cs : List Call) (s : State) → Before sum s.runn
 before_list sum [] s h = h
 before_list sum (c ∷ cs) s h = before_list sum cs (next s c) (low_next (Soon sum) (soon_lower sum) c s h).hold
 
-pub bits : (s : Runner) → left_over s ≤ 4
-bits s = let a = small s.flags.started_message in let b = small s.input.closed_message in let c = small (not (out_of Stdout s).ended) in let d = small (not (out_of Stderr s).ended) in omega arith
+pub bits : (s : Runner) → left_over s ≤ 2 + streams s.limits
+bits s =
+    let a = small s.flags.started_message in let b = small s.input.closed_message in
+    let c = small (not (out_of Stdout s).ended) in let d = small (not (out_of Stderr s).ended) in let e = third_end (has_notes s.limits) in omega arith
   where
     small : (b : Bool) → bit b ≤ 1
     small true = omega arith
     small false = omega arith
+
+    -- the third has an end to tell where it is open
+    third_end : (b : Bool) → bit (not (cond b (notes s.outputs) over_output).ended) ≤ cond b 1 0
+    third_end true = small (not (notes s.outputs).ended)
+    third_end false = omega arith
 
 -- from the late tick on
 pub late_ticked : (sum n : ℕ) (s : Runner) → s.flags.finished ≡ false → sum ≤ n → Before sum s → After (ticked s n)

@@ -16,7 +16,7 @@ use Rattle.exec.specs.declared.Key.{Key}
 use Rattle.exec.specs.declared.Pool.{Pool}
 use Rattle.exec.specs.declared.Stream.{Stream}
 use Rattle.exec.specs.Key.{admits}
-use Rattle.exec.specs.Limits.{cost, off_chunk, output_pool}
+use Rattle.exec.specs.Limits.{cost, off_chunk, output_pool, has, has_notes}
 use Rattle.exec.specs.Refusal.{number}
 use Rattle.credit.specs.Sender.{grantable}
 use Rattle.input.specs.Input as Input
@@ -27,22 +27,45 @@ use Rattle.runner.specs.Calls.{asked_for}
 use Rattle.runner.specs.Life.{is_late, ticked, cancel_answer}
 use Rattle.runner.specs.Message.{choose, payload, said_for, buffer_after, wish}
 use Rattle.runner.specs.MessageLaws.{payload_length}
-use Rattle.runner.specs.Range.{stop, bytes_do}
+use Rattle.runner.specs.Range.{stop, stop_at, unless_closed, bytes_do}
 use Rattle.runner.specs.State.{credit_at}
 use Rattle.runner.specs.Streams as Streams
 use Rattle.calls.specs.Call as Call
-use Rattle.calls.specs.Call.{Call}
+use Rattle.calls.specs.Call.{Call, Answer}
 use Rattle.account.specs.Claim.{is_stop}
 use Rattle.account.specs.Step as Step
-use Rattle.account.specs.Step.{State, received_as, asks, says}
+use Rattle.account.specs.Step.{State, on_runner, received_as, replied, took, counts, asks, says}
 use Rattle.account.proofs.Plain as Plain
 use Rattle.account.proofs.Plain.{said}
 
 -- ---- what is left
 
+-- of a call that names a stream, by whether that is open
+noted_is : (h : Bool) (t : Runner) (s : State) → on_runner (Calls.noting (unless_closed h (Ok tt)) t s.runner).runner s ≡ cond h (on_runner t s) s
+noted_is true t s = refl
+noted_is false t s = refl
+
+answered_is : (h : Bool) (t r : Runner) → replied (Calls.noting (unless_closed h (Ok tt)) t r).answer ≡ cond h Call.Ok (Call.Refused 2)
+answered_is true t r = refl
+answered_is false t r = refl
+
 pub next_is : (s : State) (c : Call) → stop s.runner (Plain.enough s c) ≡ Ok tt → Step.next s c ≡ Plain.next s c
-unfolding Plain.enough Plain.next Step.next Streams.received Streams.output_took Calls.credit Calls.input Calls.end_input Calls.cancel Calls.launched Calls.output Calls.discarded Calls.output_closed Calls.output_failed Calls.output_hung_up Calls.input_written Calls.input_closed Calls.exited Calls.settled Calls.dropped Calls.reset Calls.disconnect Calls.tick Calls.next_request Calls.next_message
+unfolding stop_at Plain.enough Plain.next Step.next Streams.received Streams.output_took Calls.credit Calls.input Calls.end_input Calls.cancel Calls.launched Calls.output Calls.discarded Calls.output_closed Calls.output_failed Calls.output_hung_up Calls.input_written Calls.input_closed Calls.exited Calls.settled Calls.dropped Calls.reset Calls.disconnect Calls.tick Calls.next_request Calls.next_message
 next_is s Call.key g = refl
+next_is s (Call.output x b) g = rw g (by (has s.runner.limits x))
+  where
+    t : Streams.OutputAfter
+    t = Streams.output_took s.runner x b s.bytes
+
+    by : (h : Bool) → (let a = Calls.output_by (unless_closed h (Ok tt)) s.runner x b s.bytes in
+        ◌≡◌ {A = State} (record { runner = a.taking.runner; bytes = a.bytes; lengths = s.lengths })
+        (cond h (record { runner = t.taking.runner; bytes = t.bytes; lengths = s.lengths }) s))
+    by true = refl
+    by false = refl
+next_is s (Call.discarded x n) g = rw g (noted_is (has s.runner.limits x) _ s)
+next_is s (Call.output_closed x) g = rw g (noted_is (has s.runner.limits x) _ s)
+next_is s (Call.output_failed x) g = rw g (noted_is (has s.runner.limits x) _ s)
+next_is s (Call.output_hung_up x) g = rw g (noted_is (has s.runner.limits x) _ s)
 next_is s _ g = first_of (rw g, cc)
 
 -- ---- what is answered
@@ -56,10 +79,26 @@ says_is (Choice.Output x n) r store buffer h =
 says_is _ r store buffer h = refl
 
 pub answer_is : (s : State) (c : Call) → stop s.runner (Plain.enough s c) ≡ Ok tt → Step.answer s c ≡ Plain.answer s c
-unfolding Plain.enough Plain.answer Step.answer Streams.received Streams.output_took Calls.key Calls.limits Calls.credit Calls.input Calls.end_input Calls.cancel Calls.launched Calls.read_allowance Calls.output Calls.discarded Calls.output_closed Calls.output_failed Calls.output_hung_up Calls.pending_input Calls.input_written Calls.input_closed Calls.exited Calls.settled Calls.dropped Calls.reset Calls.disconnect Calls.tick Calls.deadline Calls.next_request Calls.next_message Calls.is_finished Calls.is_detached Calls.awaits_settlement Calls.memory_bound Calls.buffered Calls.high_water
+unfolding stop_at Plain.enough Plain.answer Step.answer Streams.received Streams.output_took Calls.key Calls.limits Calls.credit Calls.input Calls.end_input Calls.cancel Calls.launched Calls.read_allowance Calls.output Calls.discarded Calls.output_closed Calls.output_failed Calls.output_hung_up Calls.pending_input Calls.input_written Calls.input_closed Calls.exited Calls.settled Calls.dropped Calls.reset Calls.disconnect Calls.tick Calls.deadline Calls.next_request Calls.next_message Calls.is_finished Calls.is_detached Calls.awaits_settlement Calls.memory_bound Calls.buffered Calls.high_water
 answer_is s (Call.next_message buffer) g =
     let e : stop s.runner (bytes_do s.runner.limits s.bytes) ≡ (Ok tt) = g in
     rw e (says_is (choose s.runner (length buffer)) s.runner s.bytes buffer (λ x n o. payload_length s.runner s.bytes buffer x n e o))
+answer_is s (Call.read_allowance x) g = rw g (by (has s.runner.limits x))
+  where
+    by : (h : Bool) → counts (Calls.unless (unless_closed h (Ok tt)) (Streams.read_allowance_of s.runner x))
+        ≡ cond h (Call.Value (Streams.read_allowance_of s.runner x)) (Call.Refused 2)
+    by true = refl
+    by false = refl
+answer_is s (Call.output x b) g = rw g (by (has s.runner.limits x))
+  where
+    by : (h : Bool) → took (Calls.output_by (unless_closed h (Ok tt)) s.runner x b s.bytes).taking.answer
+        ≡ cond h (Call.Taken (Streams.output_taken s.runner x (length b))) (Call.Refused 2)
+    by true = refl
+    by false = refl
+answer_is s (Call.discarded x n) g = rw g (answered_is (has s.runner.limits x) _ s.runner)
+answer_is s (Call.output_closed x) g = rw g (answered_is (has s.runner.limits x) _ s.runner)
+answer_is s (Call.output_failed x) g = rw g (answered_is (has s.runner.limits x) _ s.runner)
+answer_is s (Call.output_hung_up x) g = rw g (answered_is (has s.runner.limits x) _ s.runner)
 answer_is s _ g = rw g refl
 
 -- ---- which is none of the four (by the answers alone, so that demand 3 does not stand on what a refusal leaves)
@@ -90,13 +129,15 @@ abbrev CalmPool : Result ℕ Refusal → Type 0
 CalmPool (Ok i) = Unit
 CalmPool (Err x) = is_stop (Call.Refused (number x)) ≡ false
 
-pool_calm : (shared : Bool) (p : Pool) → CalmPool (output_pool shared p)
-pool_calm true Pool.Output = tt
-pool_calm false Pool.Input = refl
-pool_calm false Pool.Stdout = tt
-pool_calm false Pool.Stderr = tt
-pool_calm false Pool.Output = refl
-pool_calm true _ = refl
+pool_calm : (shared notes : Bool) (p : Pool) → CalmPool (output_pool shared notes p)
+pool_calm true n Pool.Output = tt
+pool_calm false n Pool.Input = refl
+pool_calm false n Pool.Stdout = tt
+pool_calm false n Pool.Stderr = tt
+pool_calm false n Pool.Output = refl
+pool_calm false true Pool.Notes = tt
+pool_calm false false Pool.Notes = refl
+pool_calm true n _ = refl
 
 credit_in_lem : (p : Result ℕ Refusal) (r : Runner) (units : ℕ) → CalmPool p → Calm (Streams.credit_in p r units)
 unfolding Streams.credit_in
@@ -142,12 +183,22 @@ unfolding said
 said_calm (Choice.End x) r bytes = refl
 said_calm _ r bytes = refl
 
+closed_calm : (b : Bool) (a : Answer) → is_stop a ≡ false → is_stop (cond b a (Call.Refused 2)) ≡ false
+closed_calm true a h = h
+closed_calm false a h = refl
+
 calm : (s : State) (c : Call) → is_stop (Plain.answer s c) ≡ false
 unfolding Plain.answer
-calm s (Call.credit k p u) = credit_calm (admits s.runner.key k) (output_pool s.runner.limits.shared p) s.runner u (admits_calm s.runner.key k) (pool_calm s.runner.limits.shared p)
+calm s (Call.credit k p u) = credit_calm (admits s.runner.key k) (output_pool s.runner.limits.shared (has_notes s.runner.limits) p) s.runner u (admits_calm s.runner.key k) (pool_calm s.runner.limits.shared (has_notes s.runner.limits) p)
 calm s (Call.input k b) = input_calm (admits s.runner.key k) s.runner (length b) (admits_calm s.runner.key k)
 calm s (Call.end_input k) = end_calm (admits s.runner.key k) s.runner (admits_calm s.runner.key k)
 calm s (Call.cancel now k c) = cancel_calm (admits s.runner.key k) s.runner now (admits_calm s.runner.key k)
+calm s (Call.output x b) = closed_calm (has s.runner.limits x) _ refl
+calm s (Call.discarded x n) = closed_calm (has s.runner.limits x) _ refl
+calm s (Call.output_closed x) = closed_calm (has s.runner.limits x) _ refl
+calm s (Call.output_failed x) = closed_calm (has s.runner.limits x) _ refl
+calm s (Call.output_hung_up x) = closed_calm (has s.runner.limits x) _ refl
+calm s (Call.read_allowance x) = closed_calm (has s.runner.limits x) _ refl
 calm s Call.next_request = wish_calm (wish s.runner)
 calm s (Call.next_message buffer) = said_calm (choose s.runner (length buffer)) s.runner s.bytes
 calm s _ = refl

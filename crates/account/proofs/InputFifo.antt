@@ -18,7 +18,7 @@ use Rattle.exec.specs.declared.Cause.TheVariants.{Dropped, Reset, Disconnected}
 use Rattle.exec.specs.declared.Limits.{Limits}
 use Rattle.exec.specs.declared.Stream.{Stream}
 use Rattle.exec.specs.Key.{admits}
-use Rattle.exec.specs.Limits.{input_bytes as inbox_size}
+use Rattle.exec.specs.Limits.{input_bytes as inbox_size, has}
 use Rattle.ring.specs.Ring.{first_run}
 use Rattle.ring.specs.RingLaws.{write_read, write_other, read_none, pending_front}
 use Rattle.inbox.specs.Inbox as Inbox
@@ -34,8 +34,8 @@ use Rattle.choice.specs.declared.Choice.{Choice}
 use Rattle.runner.specs.declared.runner.Runner.{Runner}
 use Rattle.runner.specs.Life.{close_runner_input, ticked, cancel_next, launched_next, exited_next, settled_next, detach_next}
 use Rattle.runner.specs.Message.{choose, effect, output_sent, output_paid, wish, wish_effect}
-use Rattle.runner.specs.Range.{in_range, fresh}
-use Rattle.runner.specs.State.{out_of, base, credits_fit}
+use Rattle.runner.specs.Range.{in_range, fresh, last_turn}
+use Rattle.runner.specs.State.{out_of, base, credits_fit, outputs_of}
 use Rattle.runner.specs.Streams.{pending_of, is_shut, room, output_next, output_store, discarded_next, closed_next, failed_next, hung_up_next, credit_next, input_answer, input_next, input_store, end_next, written_next}
 use Rattle.calls.specs.Call as Call
 use Rattle.calls.specs.Call.{Conf, Call, Answer}
@@ -47,7 +47,7 @@ use Rattle.account.specs.InputClaim.{is_applied, front, handed_by, handed, broug
 use Rattle.account.proofs.Plain.{next, answer, begun}
 use Rattle.account.proofs.Rings.{ring_split}
 use Rattle.account.proofs.Streams.{keeps_less}
-use Rattle.account.proofs.Sides.{base_behind}
+use Rattle.account.proofs.Sides.{base_behind, placed}
 use Rattle.account.proofs.Range.{in_range_lem}
 use Rattle.account.proofs.Finish.{framed, framed_conf}
 use Rattle.account.proofs.EachCall.{kept_room}
@@ -88,9 +88,9 @@ within : (s : State) → Fine s → Within s.runner.limits s.runner.input s.byte
 unfolding in_range
 within s h =
     let r : Runner = s.runner in
-    let o : Bool = outputs_fit r.limits.chunk r.outputs && credits_fit r.credits in
+    let o : Bool = outputs_fit r.limits.chunk (outputs_of r) && credits_fit r.limits r.credits in
     let i : Bool = inbox_fits r.limits r.input.window r.input.inbox in
-    let f : i ≡ true = and_r o i (and_l (o && i) (leb r.turn 1) (in_range_lem s.lengths r h.sound.ranged)) in
+    let f : i ≡ true = and_r o i (and_l (o && i) (leb r.turn (last_turn r.limits)) (in_range_lem s.lengths r h.sound.ranged)) in
     record { area = h.sound.roomy; begins = h.sound.ranged.2.1; most = (Fits.in_range_lem r.limits r.input.window r.input.inbox f).most }
 
 -- ---- bytes from the peer
@@ -149,16 +149,16 @@ end_flow _ r st f e = still r.limits r.input st
 
 -- ---- the output's rings are apart from the inbox's
 
-output_flow : (x : Stream) (b : List ℕ) (s : State) → Fine s
+output_flow : (x : Stream) (b : List ℕ) (s : State) → has s.runner.limits x ≡ true → Fine s
     → Flow s.runner.limits s.runner.input s.runner.input s.bytes (output_store s.runner x b s.bytes) [] []
 unfolding output_store
-output_flow x b s h =
+output_flow x b s open h =
     let r = s.runner in let c : ℕ = r.limits.chunk in let w = within s h in
     let k : ℕ = keeps_of (is_shut x r) (out_of x r).discarding (room x r) (length b) in
-    let has = keeps_less (is_shut x r) (out_of x r).discarding (room x r) (length b) in
+    let few = keeps_less (is_shut x r) (out_of x r).discarding (room x r) (length b) in
     let kr = keeps_fit (is_shut x r) (out_of x r).discarding (room x r) (length b) in
-    let i = (h.sound.ranged.0 x).inside in let m = (h.sound.ranged.0 x).within in let a = w.area in let g = w.begins in let d = base_behind x c in
-    let z = write_other (base x c) c (out_of x r).start (out_of x r).queued b k s.bytes (omega arith) (omega arith) has (omega arith)
+    let i = (h.sound.ranged.0 x).inside in let m = (h.sound.ranged.0 x).within in let a = w.area in let g = w.begins in let d = base_behind r.limits x in let p = placed r.limits x open in
+    let z = write_other (base x c) c (out_of x r).start (out_of x r).queued b k s.bytes (omega arith) (omega arith) few (omega arith)
     (inbox_base r.limits) (inbox_size r.limits) r.input.inbox.start r.input.inbox.length a (omega arith) w.most (inr d) in
     on (append-nil (queue r.limits r.input s.bytes) ∙ sym z) (λ e. (e, refl))
 

@@ -1,4 +1,5 @@
 -- The bound of demand 3 after every call that ticks: what the late tick leaves, the rest of the call keeps.
+use Rattle.exec.specs.Limits.{streams}
 use Rattle.std.specs.Prelude.{Option, Result, Some, None, Ok}
 use Rattle.std.proofs.lemmas.Option.{none-some, same_Some}
 use Rattle.exec.specs.declared.Admission.TheVariants.{Own}
@@ -71,13 +72,16 @@ after_call sum n _ s f l h e = absurd (none-some n e)
 
 -- ---- the whole list
 
-pub from_call : (sum n : ℕ) (call : Call) (es : List Call) (s : State) → s.runner.flags.finished ≡ false → sum ≤ n → Before sum s.runner → tick_of (conf_of s.runner) call ≡ Some n → 5 ≤ messages es
+pub from_call : (sum n : ℕ) (call : Call) (es : List Call) (s : State) → s.runner.flags.finished ≡ false → sum ≤ n → Before sum s.runner → tick_of (conf_of s.runner) call ≡ Some n → 3 + streams s.runner.limits ≤ messages es
     → any_terminal (run s (call ∷ es)) ≡ true
 from_call sum n call es s f l h e m = go (next s call).runner.flags.finished refl
   where
     go : (b : Bool) → (next s call).runner.flags.finished ≡ b → (is_terminal (answer s call) || any_terminal (run (next s call) es)) ≡ true
     go true g = rw (ends_by call s f g) refl
-    go false g = let b = bits (next s call).runner in rw (count es (next s call) (after_call sum n call s f l h e) g (omega arith)) (or-true (is_terminal (answer s call)))
+    go false g =
+        let b = bits (next s call).runner in
+        let c = ap (λ (x : Conf). streams x.limits) (conf_list (call ∷ []) s) in
+        rw (count es (next s call) (after_call sum n call s f l h e) g (omega arith)) (or-true (is_terminal (answer s call)))
 
 -- Terminal has come in the first calls, or comes in the rest from a runner not finished
 pub either_part : (ds rest : List Call) (s : State) → s.runner.flags.finished ≡ false → ((after_all s ds).runner.flags.finished ≡ false → any_terminal (run (after_all s ds) rest) ≡ true) → any_terminal (run s (ds ++ rest)) ≡ true
@@ -92,7 +96,7 @@ unfolding fresh
 opened_conf conf now bytes lengths = refl
 
 pub any : (conf : Conf) (now : ℕ) (bytes lengths : List ℕ) (cs ds es : List Call) (t n : ℕ) (k : Key) (c : Cause) (call : Call) → answer (after_all (begun conf now bytes lengths) cs) (Call.cancel t k c) ≡ Call.Applied
-    → t + conf.timers.grace + conf.timers.settlement < 2 ^ 64 → t + conf.timers.grace + conf.timers.settlement ≤ n → tick_of conf call ≡ Some n → 5 ≤ messages es
+    → t + conf.timers.grace + conf.timers.settlement < 2 ^ 64 → t + conf.timers.grace + conf.timers.settlement ≤ n → tick_of conf call ≡ Some n → 3 + streams conf.limits ≤ messages es
     → any_terminal (run (begun conf now bytes lengths) (cs ++ (Call.cancel t k c ∷ (ds ++ (call ∷ es))))) ≡ true
 any conf now bytes lengths cs ds es t n k c call e l m i v =
     let s : State = after_all (begun conf now bytes lengths) cs in
@@ -103,6 +107,7 @@ any conf now bytes lengths cs ds es t n k c call e l m i v =
     let b = cancelled t k c s e (rw tm l) in
     let sum : ℕ = t + s.runner.timers.grace + s.runner.timers.settlement in
     let r : any_terminal (run u (ds ++ (call ∷ es))) ≡ true = either_part ds (call ∷ es) u b.1
-    (λ f. from_call sum n call es (after_all u ds) f (rw tm m) (before_list sum ds u b.0) (subst⁻¹ (λ (x : Conf). tick_of x call ≡ Some n) cu i) v) in
+    (λ f. from_call sum n call es (after_all u ds) f (rw tm m) (before_list sum ds u b.0) (subst⁻¹ (λ (x : Conf). tick_of x call ≡ Some n) cu i)
+    (subst⁻¹ (λ (x : Conf). 3 + streams x.limits ≤ messages es) cu v)) in
     rw (run_append cs (Call.cancel t k c ∷ (ds ++ (call ∷ es))) (begun conf now bytes lengths))
     (rw r (rw (or-true (is_terminal (answer s (Call.cancel t k c)))) (or-true (any_terminal (run (begun conf now bytes lengths) cs)))))

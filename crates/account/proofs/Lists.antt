@@ -1,5 +1,7 @@
 -- Over a list of calls: the invariant, and the first three parts of the demand.
-use mathlib.Core.Bool.{Bool, true, false, true≢false, false≢true}
+use Rattle.exec.specs.declared.Limits.{Limits}
+use Rattle.exec.specs.Limits.{has_notes}
+use mathlib.Core.Bool.{Bool, true, false, true≢false, false≢true, cond, not}
 use mathlib.Core.Path.{◌≡◌, refl, sym, ap, ◌∙◌}
 use mathlib.Core.List.{List, [], ◌∷◌, ◌++◌, append_assoc}
 use Prim.Native.Nat.{ℕ, ◌+◌, ◌≤◌, ◌<◌}
@@ -7,14 +9,15 @@ use native.Mathlib.Omega.{arith}
 use lib.ListN.{length, take}
 use Rattle.exec.specs.declared.Outcome.{Outcome}
 use Rattle.exec.specs.declared.Stream.{Stream}
-use Rattle.exec.specs.declared.Stream.TheVariants.{Stdout, Stderr}
+use Rattle.exec.specs.declared.Stream.TheVariants.{Stdout, Stderr, Notes}
 use Rattle.exec.specs.Outcome.{is_truncated}
 use Rattle.ring.specs.RingLaws.{read_none}
-use Rattle.output.specs.Output.{new_output}
+use Rattle.output.specs.declared.Output.{Output}
+use Rattle.output.specs.Output.{new_output, over as over_output}
 use Rattle.runner.specs.declared.runner.Runner.{Runner}
 use Rattle.runner.specs.Life.{ticked, outcome_of}
 use Rattle.runner.specs.Range as Range
-use Rattle.runner.specs.State.{out_of, base}
+use Rattle.runner.specs.State.{out_of}
 use Rattle.calls.specs.Call as Call
 use Rattle.calls.specs.Call.{Conf, Call, Answer, count}
 use Rattle.account.specs.Step.{State}
@@ -23,11 +26,11 @@ use Rattle.account.specs.Account.{Replay, Tally, add, account, start, tally_of, 
 use Rattle.account.specs.Claim.{IsPrefix, is_message, is_terminal, Silent}
 use Rattle.account.proofs.Plain.{next, answer, after_all, run, begun}
 use Rattle.account.proofs.Streams.{Good, cut_is}
-use Rattle.account.proofs.Sides.{out_alike, one_per, base_behind}
+use Rattle.account.proofs.Sides.{out_open, one_per, place, base_behind}
 use Rattle.account.proofs.Keeps.{add_keeps}
 use Rattle.account.proofs.Range.{RangedS, range_next, Lent, opened_range}
 use Rattle.account.proofs.Finish.{Ends, ends, ends_answer, ends_fin, no_more, silent, fin_stays}
-use Rattle.account.proofs.Lives.{tick_inv}
+use Rattle.account.proofs.Lives.{rep, tick_inv}
 use Rattle.runner.specs.TerminalLaws.{chosen_ready, ready_empty}
 use Rattle.account.proofs.EachCall.{InvS, Roomy, step_inv, roomy_next}
 
@@ -91,6 +94,22 @@ fresh st b n l area = (
   area,
 )
 
+unread : (st : List ℕ) (b n : ℕ) → 0 < n → b + n ≤ length st → Good st b n over_output Account.none
+unread st b n l area = (
+  rw (read_none b n 0 st) (record { rest = []; whole = refl; lost = λ e. absurd (false≢true e); idle = λ e. refl; flag = refl }),
+  record { inside = l; within = omega arith },
+  area,
+)
+
+-- what is read of the third stream of a runner just opened
+third_closed : (b : Bool) → (cond b new_output over_output).closed ≡ not b
+third_closed true = refl
+third_closed false = refl
+
+third_hung : (b : Bool) → (cond b new_output over_output).hung_up ≡ false
+third_hung true = refl
+third_hung false = refl
+
 -- the account of the runner without its guard
 abbrev pub plain_of : Conf → ℕ → List ℕ → List ℕ → List Call → Account.Account
 plain_of c now bytes lengths cs = account (start c now) (run (begun c now bytes lengths) cs)
@@ -102,13 +121,24 @@ sound_open c now bytes lengths o = record { ranged = opened_range c now bytes le
 pub open_course : (c : Conf) (now : ℕ) (bytes lengths : List ℕ) → Lent c bytes lengths → (cs : List Call) → Course (after_all (begun c now bytes lengths) cs) (plain_of c now bytes lengths cs)
 unfolding Range.fresh start
 open_course c now bytes lengths o cs = list_course cs (begun c now bytes lengths) (start c now)
-    (running refl (sound_open c now bytes lengths o) (refl, at_open))
+    (running refl (sound_open c now bytes lengths o) (at_rep, at_open))
   where
     n : ℕ
     n = c.limits.chunk
 
-    at_open : (x : Stream) → Good bytes (base x n) n (out_of x (Range.fresh c.key c.limits c.timers c.smallest now)) (tally_of x (start c now))
-    at_open x = rw (out_alike new_output x, one_per (λ (y : Stream). Account.none) x) (fresh bytes (base x n) n o.chunk (let z = o.room in let b = base_behind x n in omega arith))
+    l : Limits
+    l = c.limits
+
+    at_rep : (start c now).rep ≡ rep (Range.fresh c.key c.limits c.timers c.smallest now)
+    at_rep = rw (third_closed (has_notes l), third_hung (has_notes l)) refl
+
+    area : (x : Stream) → place l x + n ≤ length bytes
+    area x = let z = o.room in let b = base_behind l x in omega arith
+
+    at_open : (x : Stream) → Good bytes (place l x) n (out_of x (Range.fresh c.key l c.timers c.smallest now)) (tally_of x (start c now))
+    at_open x =
+        rw (one_per (λ (y : Stream). Account.none) x)
+        (out_open (λ (u : Output). Good bytes (place l x) n u Account.none) (has_notes l) (fresh bytes (place l x) n o.chunk (area x)) (unread bytes (place l x) n o.chunk (area x)) x)
 
 -- ---- parts one to three
 
@@ -124,6 +154,7 @@ told_cut : (s : Runner) (x : Stream) → is_truncated (outcome_of s) x ≡ (out_
 unfolding outcome_of
 told_cut s Stdout = refl
 told_cut s Stderr = refl
+told_cut s Notes = refl
 
 told : {o p : Outcome} → Call.Says (Call.Terminal o) ≡ Call.Says (Call.Terminal p) → o ≡ p
 told e = cc
@@ -139,7 +170,7 @@ marks_at s a c o (running f r h) e x =
     let w : answer s c ≡ Call.Says (Call.Terminal (outcome_of s.runner)) = ends_answer s c d in
     let same : o ≡ outcome_of s.runner = told (sym e ∙ w) in
     let n : ℕ = s.runner.limits.chunk in
-    ap (λ (o : Outcome). is_truncated o x) same ∙ told_cut s.runner x ∙ cut_is s.bytes (base x n) n (out_of x s.runner) (tally_of x a) (h.1 x) (q x)
+    ap (λ (o : Outcome). is_truncated o x) same ∙ told_cut s.runner x ∙ cut_is s.bytes (place s.runner.limits x) n (out_of x s.runner) (tally_of x a) (h.1 x) (q x)
 
 -- the first of the three events, by the account
 pub course_begun : (t : ℕ) (s : State) (a : Account.Account) → s.runner.flags.finished ≡ false → Course s a → (Account.tick_a t a).rep.begun ≡ (ticked s.runner t).clocks.terminated

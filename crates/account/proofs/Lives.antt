@@ -15,6 +15,7 @@ use Rattle.exec.specs.declared.Stream.{Stream}
 use Rattle.lifecycle.specs.declared.life.Settling.{Settling}
 use Rattle.runner.specs.declared.runner.Runner.{Runner}
 use Rattle.exec.specs.Each.{per, both}
+use Rattle.exec.specs.Limits.{has_notes}
 use Rattle.exec.specs.Time.{after, due}
 use Rattle.lifecycle.specs.Life.{launch_known, exit_known, or_lost, is_fenced, is_settled, expired, settle_with}
 use Rattle.lifecycle.specs.Setters.{set_timeout_at}
@@ -22,12 +23,12 @@ use Rattle.output.specs.Output.{grace_ended, given_up, abandoned}
 use Rattle.runner.specs.Life as Life
 use Rattle.runner.specs.Life.{awaits_launch, is_cleaned_up, close_runner_input, end_grace, give_up, abandon_launch, abandon_open_streams, begin_termination, pass_grace, terminate, drop_launch, ticked, note_exit, note_exit_once, exited_next, silenced, give_up_soon, cut_off, cut_off_once, detach_next}
 use Rattle.runner.specs.SmallestLaws.{close_smallest}
-use Rattle.runner.specs.State.{with_clocks, out_of, base}
+use Rattle.runner.specs.State.{with_clocks, out_of}
 use Rattle.calls.specs.Call.{Conf}
 use Rattle.account.specs.Account
 use Rattle.account.specs.Account.{Account, Replay, Tally, tally_of, marked_unless, mk, begin_if, begin, timeout_r, no_timeout_r, overdue_r, settling_r, is_settled_r, is_fenced_r, cleaned_r, give_up_a, leave_r, abandon_streams_a, abandon_a, tick1, tick3, tick4, tick5, tick_a, cancel_a, detached_r, detach_r, detach_a, exit_r, exit_a, reported_r}
 use Rattle.account.proofs.Streams.{Good, end_grace_lem, given_up_lem, abandoned_by}
-use Rattle.account.proofs.Sides.{out_each, one_both, one_per}
+use Rattle.account.proofs.Sides.{out_each, one_both, one_per, place}
 use Rattle.account.proofs.Timers as Timers
 use Rattle.account.proofs.Timers.{Kept, tick_keeps}
 use Rattle.account.proofs.Stages.{grace_if, terminate_if, timeout_if, give_up_if, drop_launch_if, abandon_streams_if, abandon_if, stage1, stage2, stage3, stage4, stage5, tick_if, tick_is, cancel_if, detach_if, exited_if, cancel_next}
@@ -89,7 +90,7 @@ rep s = record {
 
 -- what is kept of a stream, whose ring stands in the store
 abbrev pub GoodAt : List ℕ → Runner → Stream → Tally → Type 0
-GoodAt st s x t = Good st (base x s.limits.chunk) s.limits.chunk (out_of x s) t
+GoodAt st s x t = Good st (place s.limits x) s.limits.chunk (out_of x s) t
 
 abbrev pub Inv : List ℕ → Runner → Account → Type 0
 Inv st s a = (a.rep ≡ rep s) × ((x : Stream) → GoodAt st s x (tally_of x a))
@@ -161,7 +162,7 @@ module _ (st : List ℕ) where
   pub grace_inv : (b : Bool) (s : Runner) (a : Account) → Inv st s a → Inv st (grace_if b s) a
   unfolding end_grace
   grace_inv false s a h = h
-  grace_inv true s a h = (h.0, λ x. rw (out_each grace_ended s.outputs x) (end_grace_lem st (base x s.limits.chunk) s.limits.chunk (out_of x s) (tally_of x a) (h.1 x)))
+  grace_inv true s a h = (h.0, λ x. rw (out_each (has_notes s.limits) s.outputs grace_ended refl x) (end_grace_lem st (place s.limits x) s.limits.chunk (out_of x s) (tally_of x a) (h.1 x)))
 
   terminate_if_inv : (b : Bool) (now : ℕ) (c : Cause) (s : Runner) (a : Account) → Inv st s a → Inv st (terminate_if b now c s) (mk (begin_if b now a.rep) a.tallies)
   unfolding begin_termination pass_grace begin_if
@@ -192,7 +193,7 @@ module _ (st : List ℕ) where
   give_up_if_inv true true s a h = (refl, h.1)
   give_up_if_inv true false s a h = (
     rw (given_exit s.life.exit) refl,
-    λ x. rw (out_each given_up s.outputs x, one_both marked_unless (rep s).closed a.tallies x, one_per (λ (y : Stream). (out_of y s).closed) x) (given_up_lem st (base x s.limits.chunk) s.limits.chunk (out_of x s) (tally_of x a) (h.1 x)),
+    λ x. rw (out_each (has_notes s.limits) s.outputs given_up refl x, one_both marked_unless (rep s).closed a.tallies x, one_per (λ (y : Stream). (out_of y s).closed) x) (given_up_lem st (place s.limits x) s.limits.chunk (out_of x s) (tally_of x a) (h.1 x)),
   )
 
   cleaned_same : (s : Runner) → cleaned_r (rep s) ≡ is_cleaned_up s
@@ -217,7 +218,7 @@ module _ (st : List ℕ) where
   streams_inv false s a h = at_home s a h
   streams_inv true s a h = (
     refl,
-    λ x. rw (out_each abandoned s.outputs x, one_both marked_unless (both ◌||◌ (rep s).closed (rep s).hung) a.tallies x, one_both ◌||◌ (rep s).closed (rep s).hung x, one_per (λ (y : Stream). (out_of y s).closed) x, one_per (λ (y : Stream). (out_of y s).hung_up) x) (abandoned_by st (base x s.limits.chunk) s.limits.chunk (out_of x s) (tally_of x a) (h.1 x)),
+    λ x. rw (out_each (has_notes s.limits) s.outputs abandoned refl x, one_both marked_unless (both ◌||◌ (rep s).closed (rep s).hung) a.tallies x, one_both ◌||◌ (rep s).closed (rep s).hung x, one_per (λ (y : Stream). (out_of y s).closed) x, one_per (λ (y : Stream). (out_of y s).hung_up) x) (abandoned_by st (place s.limits x) s.limits.chunk (out_of x s) (tally_of x a) (h.1 x)),
   )
 
   abandon_if_inv : (b : Bool) (s : Runner) (a : Account) → Inv st s a → Inv st (abandon_if b s) (abandon_a b (home s a))
@@ -267,7 +268,7 @@ module _ (st : List ℕ) where
   detach_if_inv false false now c s a ff h =
       let t : Runner = terminate s now c in
       let g : Inv st t (mk (begin now a.rep) a.tallies) = terminate_inv now c s a h in
-      (ap (detached_r now) g.0, λ x. rw (out_each grace_ended t.outputs x) (end_grace_lem st (base x t.limits.chunk) t.limits.chunk (out_of x t) (tally_of x a) (g.1 x)))
+      (ap (detached_r now) g.0, λ x. rw (out_each (has_notes t.limits) t.outputs grace_ended refl x) (end_grace_lem st (place t.limits x) t.limits.chunk (out_of x t) (tally_of x a) (g.1 x)))
 
   pub detach_inv : (now : ℕ) (c : Cause) (s : Runner) (a : Account) → s.flags.finished ≡ false → Inv st s a → Inv st (detach_next s now c) (detach_a now a)
   unfolding detach_next cut_off_once cut_off detach_a

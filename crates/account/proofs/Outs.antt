@@ -2,7 +2,7 @@
 -- an output in nine ways.
 use Rattle.std.specs.Prelude.{Option, Some}
 use Rattle.runner.specs.declared.answer.Request.{Request}
-use mathlib.Core.Bool.{Bool, false, ◌||◌, true≢false}
+use mathlib.Core.Bool.{Bool, false, cond, ◌||◌, true≢false}
 use mathlib.Core.Path.{◌≡◌, refl, subst⁻¹}
 use Prim.Native.Nat.{ℕ}
 use lib.Dec.{ltb}
@@ -11,6 +11,7 @@ use mathlib.Core.List.{List}
 use Rattle.exec.specs.declared.Cause.{Cause}
 use Rattle.exec.specs.declared.Stream.{Stream}
 use Rattle.exec.specs.Key.{admits}
+use Rattle.exec.specs.Limits.{has, has_notes}
 use Rattle.choice.specs.declared.Choice.{Choice}
 use Rattle.output.specs.declared.Output.{Output}
 use Rattle.output.specs.Output.{grace_ended, given_up, abandoned, asked_out, closed_out, failed_out, hung_up, lost_out, intake}
@@ -23,6 +24,7 @@ use Rattle.calls.specs.Call.{Call}
 use Rattle.account.specs.Step.{State}
 use Rattle.account.specs.Claim.{is_message}
 use Rattle.account.proofs.Plain.{said, next, answer}
+use Rattle.account.proofs.Flags.{either}
 use Rattle.account.proofs.Sides.{out_each, on_out}
 use Rattle.account.proofs.Timers.{Kept, tick_keeps, cancel_keeps, detach_keeps, exited_keeps, launched_keeps}
 
@@ -49,7 +51,7 @@ unsaid_still _ r store e = absurd (true≢false e)
 module _ (P : Stream → Output → Type 0) (h : Stands P) where
   -- one stream's output changed
   on : (x : Stream) (f : Output → Output) (r : Runner) → (P x (out_of x r) → P x (f (out_of x r))) → All P r → All P (at x f r)
-  on x f r k p = on_out P x (f (out_of x r)) r.outputs (k (p x)) (λ y d. p y)
+  on x f r k p = on_out (has_notes r.limits) r.outputs P x (f (out_of x r)) (k (p x)) p
 
   timed : Kept (All P)
   unfolding close_runner_input
@@ -57,10 +59,14 @@ module _ (P : Stream → Output → Type 0) (h : Stands P) where
     moves = λ r c l f e p. p;
     closes = λ r p. p;
     tells = λ r p. p;
-    grace = λ r p x. rw (out_each grace_ended r.outputs x) (h.grace x (out_of x r) (p x));
-    gives = λ r p x. rw (out_each given_up r.outputs x) (h.gives x (out_of x r) (p x));
-    abandons = λ r p x. rw (out_each abandoned r.outputs x) (h.abandons x (out_of x r) (p x));
+    grace = λ r p x. rw (out_each (has_notes r.limits) r.outputs grace_ended refl x) (h.grace x (out_of x r) (p x));
+    gives = λ r p x. rw (out_each (has_notes r.limits) r.outputs given_up refl x) (h.gives x (out_of x r) (p x));
+    abandons = λ r p x. rw (out_each (has_notes r.limits) r.outputs abandoned refl x) (h.abandons x (out_of x r) (p x));
   }
+
+  -- a call that names a stream: where that is not open, nothing changes
+  named : (x : Stream) (s : State) {t : State} → All P s.runner → All P t.runner → All P (cond (has s.runner.limits x) t s).runner
+  named x s p q = either (λ (u : State). All P u.runner) (has s.runner.limits x) _ _ q p
 
   wished_keeps : (w : Option Request) (r : Runner) → All P r → All P (wish_effect w r)
   unfolding wish_effect
@@ -80,9 +86,9 @@ module _ (P : Stream → Output → Type 0) (h : Stands P) where
   quiet_keeps Call.next_request s e p = wished_keeps (wish s.runner) s.runner p
   quiet_keeps (Call.output x b) s e p =
       let r : Runner = s.runner in
-      on x (intake (is_shut x r) (out_of x r).discarding (room x r) (length b)) r (h.takes x r.flags.gave_up (out_of x r).discarding (room x r) (length b) (out_of x r)) p
-  quiet_keeps (Call.discarded x n) s e p = on x (lost_out (ltb 0 n)) s.runner (h.loses x (ltb 0 n) (out_of x s.runner)) p
-  quiet_keeps (Call.output_closed x) s e p = on x closed_out s.runner (h.closes x (out_of x s.runner)) p
-  quiet_keeps (Call.output_failed x) s e p = on x failed_out s.runner (h.fails x (out_of x s.runner)) p
-  quiet_keeps (Call.output_hung_up x) s e p = on x hung_up s.runner (h.hangs x (out_of x s.runner)) p
+      named x s p (on x (intake (is_shut x r) (out_of x r).discarding (room x r) (length b)) r (h.takes x r.flags.gave_up (out_of x r).discarding (room x r) (length b) (out_of x r)) p)
+  quiet_keeps (Call.discarded x n) s e p = named x s p (on x (lost_out (ltb 0 n)) s.runner (h.loses x (ltb 0 n) (out_of x s.runner)) p)
+  quiet_keeps (Call.output_closed x) s e p = named x s p (on x closed_out s.runner (h.closes x (out_of x s.runner)) p)
+  quiet_keeps (Call.output_failed x) s e p = named x s p (on x failed_out s.runner (h.fails x (out_of x s.runner)) p)
+  quiet_keeps (Call.output_hung_up x) s e p = named x s p (on x hung_up s.runner (h.hangs x (out_of x s.runner)) p)
   quiet_keeps _ s e p = p

@@ -20,7 +20,8 @@ use Rattle.output.specs.Output.{grace_ended, given_up, closed_out, failed_out, h
 use Rattle.runner.specs.Life.{awaits_launch, is_cleaned_up, end_grace, give_up}
 use Rattle.exec.specs.Stream.{every_stream_lem, sum_of_streams}
 use Rattle.output.specs.Outputs.{all_closed}
-use Rattle.runner.specs.State.{out_of}
+use Rattle.exec.specs.Limits.{has_notes}
+use Rattle.runner.specs.State.{outputs_of, out_of}
 use Rattle.account.proofs.Streams.{blocked_by}
 use Rattle.account.proofs.Sides.{out_each}
 use Rattle.account.proofs.Stages.{over}
@@ -103,7 +104,7 @@ pub cleaned_known : (s : Runner) → is_cleaned_up s ≡ true → AllKnown s
 cleaned_known s e =
     let l = launch_known s.life.launch in
     let x = exit_known s.life.exit in
-    let c = all_closed s.outputs in
+    let c = all_closed (outputs_of s) in
     let p = and_parts (l && x && c) (is_settled s.life.settling) e in
     let q = and_parts (l && x) c p.0 in
     let r = and_parts l x q.0 in
@@ -116,19 +117,19 @@ cleaned_known s e =
 
 pub known_given : (s : Runner) → AllKnown (give_up s)
 unfolding give_up
-known_given s = record { launch = and_none (not (launch_known s.life.launch)) (not s.flags.launch_abandoned); exit = given_exit s.life.exit; closed = λ x. ap (λ (o : Output). o.closed) (out_each given_up s.outputs x); settled = refl }
+known_given s = record { launch = and_none (not (launch_known s.life.launch)) (not s.flags.launch_abandoned); exit = given_exit s.life.exit; closed = λ x. ap (λ (o : Output). o.closed) (out_each (has_notes s.limits) s.outputs given_up refl x); settled = refl }
 
 pub known_grace : (s : Runner) → AllKnown s → AllKnown (end_grace s)
 unfolding end_grace
-known_grace s d = record { launch = d.launch; exit = d.exit; closed = λ x. ap (λ (o : Output). o.closed) (out_each grace_ended s.outputs x) ∙ d.closed x; settled = d.settled }
+known_grace s d = record { launch = d.launch; exit = d.exit; closed = λ x. ap (λ (o : Output). o.closed) (out_each (has_notes s.limits) s.outputs grace_ended refl x) ∙ d.closed x; settled = d.settled }
 
 pub dry_grace : (s : Runner) → Dry (end_grace s)
 unfolding end_grace
-dry_grace s x = rw (out_each grace_ended s.outputs x) (record { none = refl; stop = blocked_by (out_of x s).closed (out_of x s).discarding })
+dry_grace s x = rw (out_each (has_notes s.limits) s.outputs grace_ended refl x) (record { none = refl; stop = blocked_by (out_of x s).closed (out_of x s).discarding })
 
 pub dry_given : (s : Runner) → Dry (give_up s)
 unfolding give_up
-dry_given s x = rw (out_each given_up s.outputs x) (record { none = refl; stop = refl })
+dry_given s x = rw (out_each (has_notes s.limits) s.outputs given_up refl x) (record { none = refl; stop = refl })
 
 -- what a change of the input, and of an output, must keep
 abbrev pub InKept : Input → Input → Type 0

@@ -1,11 +1,14 @@
--- What a call leaves and answers where it is not refused by 12, 10, 46 or 11, and lists of such calls.
-use mathlib.Core.Bool.{Bool, true, ◌&&◌}
+-- What a call leaves and answers where it is not refused by 12, 10, 46 or 11, and lists of such calls. A call that names a stream that is
+-- not open is refused by 2.
+use mathlib.Core.Bool.{Bool, true, false, cond, ◌&&◌}
+use mathlib.Core.Path.{◌≡◌, refl}
 use mathlib.Core.List.{List, [], ◌∷◌}
 use Prim.Native.Nat.{ℕ}
 use lib.ListN.{length}
 use Rattle.exec.specs.declared.Cause.TheVariants as Cause
+use Rattle.exec.specs.declared.Stream.{Stream}
 use Rattle.exec.specs.Key.{admits}
-use Rattle.exec.specs.Limits.{output_pool}
+use Rattle.exec.specs.Limits.{output_pool, has, has_notes}
 use Rattle.inbox.specs.Need.{byte_need}
 use Rattle.lifecycle.specs.Life.{is_requested}
 use Rattle.choice.specs.declared.Choice.{Choice}
@@ -31,7 +34,7 @@ said Choice.Terminal r bytes = Call.Says (Call.Terminal (outcome_of r))
 
 unfoldable pub next : State → Call → State
 next s (Call.credit k p u) =
-    on_runner (credit_next (admits s.runner.key k) (output_pool s.runner.limits.shared p) s.runner u) s
+    on_runner (credit_next (admits s.runner.key k) (output_pool s.runner.limits.shared (has_notes s.runner.limits) p) s.runner u) s
 next s (Call.input k b) = record {
   runner = input_next (admits s.runner.key k) s.runner (length b);
   bytes = input_store (admits s.runner.key k) s.runner b s.bytes;
@@ -40,15 +43,15 @@ next s (Call.input k b) = record {
 next s (Call.end_input k) = on_runner (end_next (admits s.runner.key k) s.runner) s
 next s (Call.cancel now k c) = on_runner (cancel_next (admits s.runner.key k) s.runner now c) s
 next s (Call.launched x) = on_runner (launched_next s.runner x) s
-next s (Call.output x b) = record {
+next s (Call.output x b) = cond (has s.runner.limits x) (record {
   runner = output_next s.runner x (length b);
   bytes = output_store s.runner x b s.bytes;
   lengths = s.lengths;
-}
-next s (Call.discarded x n) = on_runner (discarded_next s.runner x n) s
-next s (Call.output_closed x) = on_runner (closed_next s.runner x) s
-next s (Call.output_failed x) = on_runner (failed_next s.runner x) s
-next s (Call.output_hung_up x) = on_runner (hung_up_next s.runner x) s
+}) s
+next s (Call.discarded x n) = cond (has s.runner.limits x) (on_runner (discarded_next s.runner x n) s) s
+next s (Call.output_closed x) = cond (has s.runner.limits x) (on_runner (closed_next s.runner x) s) s
+next s (Call.output_failed x) = cond (has s.runner.limits x) (on_runner (failed_next s.runner x) s) s
+next s (Call.output_hung_up x) = cond (has s.runner.limits x) (on_runner (hung_up_next s.runner x) s) s
 next s (Call.input_written n) = record {
   runner = written_next s.runner n s.lengths;
   bytes = s.bytes;
@@ -65,18 +68,22 @@ next s Call.next_request = on_runner (wish_effect (wish s.runner) s.runner) s
 next s (Call.next_message buffer) = on_runner (effect (choose s.runner (length buffer)) s.runner) s
 next s _ = s
 
+-- of a call that names a stream
+abbrev pub if_open : State → Stream → Answer → Answer
+if_open s x a = cond (has s.runner.limits x) a (Call.Refused 2)
+
 unfoldable pub answer : State → Call → Answer
 answer s (Call.credit k p u) =
-    received_as (credit_answer (admits s.runner.key k) (output_pool s.runner.limits.shared p) s.runner u)
+    received_as (credit_answer (admits s.runner.key k) (output_pool s.runner.limits.shared (has_notes s.runner.limits) p) s.runner u)
 answer s (Call.input k b) = received_as (input_answer (admits s.runner.key k) s.runner (length b))
 answer s (Call.end_input k) = received_as (end_answer (admits s.runner.key k) s.runner)
 answer s (Call.cancel now k c) = received_as (cancel_answer (admits s.runner.key k) s.runner now)
 answer s (Call.launched x) = Call.Ok
-answer s (Call.output x b) = Call.Taken (output_taken s.runner x (length b))
-answer s (Call.discarded x n) = Call.Ok
-answer s (Call.output_closed x) = Call.Ok
-answer s (Call.output_failed x) = Call.Ok
-answer s (Call.output_hung_up x) = Call.Ok
+answer s (Call.output x b) = if_open s x (Call.Taken (output_taken s.runner x (length b)))
+answer s (Call.discarded x n) = if_open s x Call.Ok
+answer s (Call.output_closed x) = if_open s x Call.Ok
+answer s (Call.output_failed x) = if_open s x Call.Ok
+answer s (Call.output_hung_up x) = if_open s x Call.Ok
 answer s (Call.input_written n) = Call.Came (written_came s.runner n s.lengths)
 answer s Call.input_closed = Call.Ok
 answer s (Call.exited now x) = Call.Ok
@@ -87,7 +94,7 @@ answer s (Call.disconnect now) = Call.Ok
 answer s (Call.tick now) = Call.Ok
 answer s Call.next_request = asks (asked_for (wish s.runner))
 answer s (Call.next_message buffer) = said (choose s.runner (length buffer)) s.runner s.bytes
-answer s (Call.read_allowance x) = Call.Value (read_allowance_of s.runner x)
+answer s (Call.read_allowance x) = if_open s x (Call.Value (read_allowance_of s.runner x))
 answer s Call.pending_input = Call.Pending (pending_of s.runner s.bytes)
 answer s Call.deadline = Call.Time (deadline_of s.runner)
 answer s Call.is_finished = Call.Truth s.runner.flags.finished
@@ -98,6 +105,15 @@ answer s Call.high_water = Call.Value s.runner.high_water
 answer s Call.memory_bound = Call.Value (byte_need s.runner.limits)
 answer s Call.key = Call.IsKey s.runner.key
 answer s Call.limits = Call.AreLimits s.runner.limits
+
+-- what holds of both ways that such a call may go
+pub by_open : (P : State → Answer → Type 0) (s t : State) (x : Stream) (a : Answer) → (has s.runner.limits x ≡ true → P t a) → P s (Call.Refused 2)
+    → P (cond (has s.runner.limits x) t s) (if_open s x a)
+by_open P s t x a h k = by (has s.runner.limits x) h
+  where
+    by : (b : Bool) → (b ≡ true → P t a) → P (cond b t s) (cond b a (Call.Refused 2))
+    by true h = h refl
+    by false h = k
 
 -- the stores that a call is lent do
 unfoldable pub enough : State → Call → Bool

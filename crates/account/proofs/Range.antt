@@ -4,7 +4,7 @@ use Rattle.exec.specs.declared.Admission.TheVariants.{Own}
 use Rattle.exec.specs.declared.Admission.{Admission}
 use Rattle.runner.specs.declared.answer.Request.{Request}
 use Rattle.exec.specs.declared.Refusal.{Refusal}
-use mathlib.Core.Bool.{Bool, true, false, cond, not, ◌&&◌}
+use mathlib.Core.Bool.{Bool, true, false, cond, not, ◌&&◌, ◌||◌}
 use mathlib.Core.Path.{◌≡◌, refl, ap}
 use mathlib.Core.List.{List, [], ◌∷◌}
 use Prim.Native.Nat.{ℕ, ◌+◌, ◌-◌, ◌*◌, ◌≤◌, ◌<◌}
@@ -16,17 +16,17 @@ use borrow.Author.Tests.{le-leb, lt-ltb, ltb-true, leb-true, eq-eqb}
 use Rattle.exec.specs.declared.Cause.{Cause}
 use Rattle.exec.specs.declared.Limits.{Limits}
 use Rattle.exec.specs.declared.Stream.{Stream}
-use Rattle.exec.specs.declared.Stream.TheVariants.{Stdout, Stderr}
+use Rattle.exec.specs.declared.Stream.TheVariants.{Stdout, Stderr, Notes}
 use Rattle.exec.specs.declared.Unit as units
 use Rattle.exec.specs.declared.Unit.TheVariants.{Bytes, Frames}
 use Rattle.exec.specs.Key.{admits}
-use Rattle.exec.specs.Limits.{cost, bytes_with, input_bytes, is_valid, output_pool, pool_of}
-use Rattle.exec.specs.Stream.{index, following}
+use Rattle.exec.specs.Limits.{cost, bytes_with, input_bytes, is_valid, output_pool, pool_of, has, has_notes}
+use Rattle.exec.specs.Stream.{index, following, turn_after}
 use Rattle.ring.specs.Ring.{wrap}
 use Rattle.ring.specs.RingLaws.{wrap_lt, read_none}
 use Rattle.credit.specs.declared.sender.Credit.{Credit}
 use Rattle.inbox.specs.Inbox.{inbox_held}
-use Rattle.inbox.specs.Need.{byte_need, length_need_as, length_need}
+use Rattle.inbox.specs.Need.{byte_need, length_need_as, length_need, need_fits}
 use Rattle.inbox.specs.Range.{ring_fits, frames_fit}
 use Rattle.inbox.specs.RangeLaws.{both}
 use Rattle.inbox.specs.Receiver.{units_fit}
@@ -38,10 +38,10 @@ use Rattle.choice.specs.declared.Choice.{Choice}
 use Rattle.runner.specs.declared.runner.Runner.{Runner}
 use Rattle.runner.specs.Life.{close_runner_input, settled_next}
 use Rattle.inbox.specs.Receiver.{grant_fits}
-use Rattle.runner.specs.MessageLaws.{chosen}
+use Rattle.runner.specs.MessageLaws.{chosen, open_sends}
 use Rattle.runner.specs.TerminalLaws.{sendable_count}
 use Rattle.runner.specs.Message.{choose, output_paid, output_sent, effect, wish, wish_effect}
-use Rattle.runner.specs.Range.{in_range, bytes_do, lengths_do, open_stop, fresh}
+use Rattle.runner.specs.Range.{in_range, bytes_do, lengths_do, open_stop, fresh, last_turn}
 use Rattle.runner.specs.RangeLaws.{is_opened}
 use Rattle.runner.specs.State.{out_of, at, credit_at, put_credit}
 use Rattle.runner.specs.Streams as Streams
@@ -50,8 +50,8 @@ use Rattle.calls.specs.Call.{Conf, Call}
 use Rattle.account.specs.Step.{State}
 use Rattle.account.proofs.Plain.{next, begun, after_all}
 use Rattle.account.proofs.Streams.{Fits}
-use Rattle.account.proofs.Sides.{out_each, out_alike, of_every, on_out}
-use Rattle.std.proofs.lemmas.Bool.{and_from, or_left}
+use Rattle.account.proofs.Sides.{out_each, out_open, of_every, on_out}
+use Rattle.std.proofs.lemmas.Bool.{and_from, or_left, or_right}
 use Rattle.account.proofs.Flags.{either}
 use Rattle.account.proofs.Timers.{Kept, tick_keeps, cancel_keeps, detach_keeps, exited_keeps, launched_keeps}
 use Rattle.account.proofs.InputRange.{none, sum_most, area_as, waiting, Held, HeldIn, InRange, waiting_length, holds_by, close_range, written_range, input_if, end_if, granted_by}
@@ -76,12 +76,13 @@ spent_range c n h = omega arith
 
 -- the account at a position, and changed by what keeps it within its window
 at_range : (i : ℕ) (cs : List Credit) → AllWithin cs → Within (credit_at i cs)
-at_range i cs h = either Within (eqb i 0) _ _ (h Stdout) (h Stderr)
+at_range i cs h = either Within (eqb i 0) _ _ (h Stdout) (either Within (eqb i 1) _ _ (h Stderr) (h Notes))
 
 put_range : (i : ℕ) (f : Credit → Credit) (cs : List Credit) → ((c : Credit) → Within c → Within (f c)) → AllWithin cs
     → AllWithin (put_credit i (f (credit_at i cs)) cs)
 put_range i f cs k h Stdout = either Within (eqb i 0) _ _ (k (credit_at i cs) (at_range i cs h)) (h Stdout)
-put_range i f cs k h Stderr = either Within (eqb i 0) _ _ (h Stderr) (k (credit_at i cs) (at_range i cs h))
+put_range i f cs k h Stderr = either Within (eqb i 1) _ _ (k (credit_at i cs) (at_range i cs h)) (h Stderr)
+put_range i f cs k h Notes = either Within (eqb i 0 || eqb i 1) _ _ (h Notes) (k (credit_at i cs) (at_range i cs h))
 
 credits_in_lem : (p : Result ℕ Refusal) (f : Bool) (u : ℕ) (cs : List Credit) → AllWithin cs → AllWithin (credits_in p f u cs)
 credits_in_lem (Err x) f u cs h = h
@@ -100,7 +101,7 @@ abbrev Queue : ℕ → Stream → Output → Type 0
 Queue n x o = Fits n o.start o.queued
 
 abbrev pub Ranged : List ℕ → Runner → Type 0
-Ranged lengths s = ((x : Stream) → Queue s.limits.chunk x (out_of x s)) × AllWithin s.credits × InRange s.limits lengths s.input × (s.turn ≤ 1)
+Ranged lengths s = ((x : Stream) → Queue s.limits.chunk x (out_of x s)) × AllWithin s.credits × InRange s.limits lengths s.input × (s.turn ≤ last_turn s.limits)
 
 emptied : (n s k : ℕ) → Fits n s k → Fits n 0 0
 emptied n s k h = record { inside = (let z = h.inside in omega arith); within = omega arith }
@@ -118,6 +119,10 @@ Queued s m = (x : Stream) (n : ℕ) → Choice.Output x n ≡ m → n ≤ (out_o
 pub chosen_queued : (s : Runner) (k : ℕ) → Queued s (choose s k)
 chosen_queued s k x n e = rw (chosen s k x n e).bytes (sendable_count s k x)
 
+-- and each carries bytes of a stream that is open
+pub chosen_open : (s : Runner) (k : ℕ) (x : Stream) (n : ℕ) → Choice.Output x n ≡ choose s k → has s.limits x ≡ true
+chosen_open s k x n e = let c = chosen s k x n e in open_sends s k x (omega (arith, c.bytes, c.some_bytes))
+
 module _ (ls : List ℕ) where
   pub timed : Kept (Ranged ls)
   unfolding close_runner_input
@@ -125,9 +130,9 @@ module _ (ls : List ℕ) where
     moves = λ r c l f e h. h;
     closes = λ r h. (h.0, h.1, close_range r.limits ls r.input r.flags.detached h.2, h.3);
     tells = λ r h. h;
-    grace = λ r h. (λ x. rw (out_each grace_ended r.outputs x) (emptied _ _ _ (h.0 x)), h.1, h.2, h.3);
-    gives = λ r h. (λ x. rw (out_each given_up r.outputs x) (emptied _ _ _ (h.0 x)), h.1, h.2, h.3);
-    abandons = λ r h. (λ x. rw (out_each abandoned r.outputs x) (h.0 x), h.1, h.2, h.3);
+    grace = λ r h. (λ x. rw (out_each (has_notes r.limits) r.outputs grace_ended refl x) (emptied _ _ _ (h.0 x)), h.1, h.2, h.3);
+    gives = λ r h. (λ x. rw (out_each (has_notes r.limits) r.outputs given_up refl x) (emptied _ _ _ (h.0 x)), h.1, h.2, h.3);
+    abandons = λ r h. (λ x. rw (out_each (has_notes r.limits) r.outputs abandoned refl x) (h.0 x), h.1, h.2, h.3);
   }
 
   paid_range : (x : Stream) (n : ℕ) (s : Runner) → Ranged ls s → AllWithin (output_paid x n s).credits
@@ -139,19 +144,23 @@ module _ (ls : List ℕ) where
   output_range : (x : Stream) (n : ℕ) (s : Runner) → n ≤ (out_of x s).queued → Ranged ls s → Ranged ls (output_sent x n s)
   unfolding output_sent output_paid
   output_range x n s l h = (
-    on_out (Queue s.limits.chunk) x (sent_out s.limits.chunk n (out_of x s)) s.outputs (sent_range _ n _ _ l (h.0 x)) (λ y e. h.0 y),
+    on_out (has_notes s.limits) s.outputs (Queue s.limits.chunk) x (sent_out s.limits.chunk n (out_of x s)) (sent_range _ n _ _ l (h.0 x)) h.0,
     paid_range x n s h,
     h.2,
-    turn_range x,
+    turn_range (has_notes s.limits) x,
   )
     where
-      turn_range : (y : Stream) → index (following y) ≤ 1
-      turn_range Stdout = omega arith
-      turn_range Stderr = omega arith
+      turn_range : (b : Bool) (y : Stream) → turn_after b y ≤ cond b 2 1
+      turn_range true Stdout = omega arith
+      turn_range true Stderr = omega arith
+      turn_range true Notes = omega arith
+      turn_range false Stdout = omega arith
+      turn_range false Stderr = omega arith
+      turn_range false Notes = omega arith
 
   -- an output whose queue stays as it was
   queue_kept : (x : Stream) (f : Output → Output) (s : Runner) → (f (out_of x s)).start ≡ (out_of x s).start → (f (out_of x s)).queued ≡ (out_of x s).queued → Ranged ls s → Ranged ls (at x f s)
-  queue_kept x f s e g h = (on_out (Queue s.limits.chunk) x (f (out_of x s)) s.outputs (rw (e, g) (h.0 x)) (λ y d. h.0 y), h.1, h.2, h.3)
+  queue_kept x f s e g h = (on_out (has_notes s.limits) s.outputs (Queue s.limits.chunk) x (f (out_of x s)) (rw (e, g) (h.0 x)) h.0, h.1, h.2, h.3)
 
   effect_range : (m : Choice) (s : Runner) → Queued s m → Ranged ls s → Ranged ls (effect m s)
   unfolding effect
@@ -168,11 +177,15 @@ module _ (ls : List ℕ) where
 abbrev pub RangedS : State → Type 0
 RangedS s = Ranged s.lengths s.runner
 
+-- a call that names a stream: where that is not open, nothing changes
+named : (x : Stream) (s : State) {t : State} → RangedS s → RangedS t → RangedS (cond (has s.runner.limits x) t s)
+named x s h k = either RangedS (has s.runner.limits x) _ _ k h
+
 pub range_next : (c : Call) (s : State) → RangedS s → RangedS (next s c)
 unfolding next credit_next input_next input_lengths end_next output_next discarded_next closed_next failed_next hung_up_next written_next Streams.written_lengths settled_next
 range_next (Call.credit k p u) s h =
     let r : Runner = s.runner in
-    let c = credits_range (admits r.key k) (output_pool r.limits.shared p) r.flags.finished u r.credits h.1 in
+    let c = credits_range (admits r.key k) (output_pool r.limits.shared (has_notes r.limits) p) r.flags.finished u r.credits h.1 in
     (h.0, c, h.2, h.3)
 range_next (Call.input k b) s h =
     let r : Runner = s.runner in
@@ -181,16 +194,17 @@ range_next (Call.end_input k) s h = (h.0, h.1, end_if (is_taken (admits s.runner
 range_next (Call.cancel now k c) s h = cancel_keeps _ (timed s.lengths) (admits s.runner.key k) now c s.runner h
 range_next (Call.launched x) s h = launched_keeps _ (timed s.lengths) x s.runner h
 range_next (Call.output x b) s h =
-    let r : Runner = s.runner in (
-      on_out (Queue r.limits.chunk) x _ r.outputs (kept_range r.limits.chunk (out_of x r).start (out_of x r).queued (is_shut x r) (out_of x r).discarding (length b) (h.0 x)) (λ y e. h.0 y),
+    let r : Runner = s.runner in
+    named x s h (
+      on_out (has_notes r.limits) r.outputs (Queue r.limits.chunk) x _ (kept_range r.limits.chunk (out_of x r).start (out_of x r).queued (is_shut x r) (out_of x r).discarding (length b) (h.0 x)) h.0,
       h.1,
       h.2,
       h.3,
     )
-range_next (Call.discarded x n) s h = queue_kept s.lengths x (lost_out (ltb 0 n)) s.runner refl refl h
-range_next (Call.output_closed x) s h = queue_kept s.lengths x closed_out s.runner refl refl h
-range_next (Call.output_failed x) s h = queue_kept s.lengths x failed_out s.runner refl refl h
-range_next (Call.output_hung_up x) s h = queue_kept s.lengths x hung_up s.runner refl refl h
+range_next (Call.discarded x n) s h = named x s h (queue_kept s.lengths x (lost_out (ltb 0 n)) s.runner refl refl h)
+range_next (Call.output_closed x) s h = named x s h (queue_kept s.lengths x closed_out s.runner refl refl h)
+range_next (Call.output_failed x) s h = named x s h (queue_kept s.lengths x failed_out s.runner refl refl h)
+range_next (Call.output_hung_up x) s h = named x s h (queue_kept s.lengths x hung_up s.runner refl refl h)
 range_next (Call.input_written n) s h = (h.0, h.1, written_range s.runner.limits s.lengths n s.runner.input h.2, h.3)
 range_next Call.input_closed s h = (timed s.lengths).closes s.runner h
 range_next (Call.exited now x) s h = exited_keeps _ (timed s.lengths) now x s.runner h
@@ -210,6 +224,7 @@ pub record Lent (c : Conf) (bytes lengths : List ℕ) : Type 0 where
   pub size : 0 < c.limits.input.size
   pub limits : is_valid c.limits ≡ true
   pub grants : grant_fits c.smallest c.limits.input.size ≡ true
+  pub need : need_fits c.limits ≡ true
   pub room : byte_need c.limits ≤ length bytes
   pub slots : length_need c.limits ≤ length lengths
 
@@ -219,12 +234,13 @@ lent c bytes lengths e =
     let p = is_opened l c.smallest (bytes_do l bytes && lengths_do l lengths) e in
     let q = both (ltb 0 l.chunk && ltb 0 l.input.size) (ltb 0 l.output.size) p.0 in
     let b = both (ltb 0 l.chunk) (ltb 0 l.input.size) q.0 in
-    let d = both (bytes_do l bytes) (lengths_do l lengths) p.2 in
+    let d = both (bytes_do l bytes) (lengths_do l lengths) p.3 in
     record {
       chunk = ltb-true 0 l.chunk b.0;
       size = ltb-true 0 l.input.size b.1;
       limits = p.0;
       grants = p.1;
+      need = p.2;
       room = leb-true (byte_need l) (length bytes) d.0;
       slots = leb-true (length_need l) (length lengths) d.1;
     }
@@ -242,15 +258,16 @@ pub opened_range : (c : Conf) (now : ℕ) (bytes lengths : List ℕ) → Lent c 
 unfolding fresh
 opened_range c now bytes lengths o =
     let l : Limits = c.limits in (
-      (λ x. rw (out_alike new_output x) (record { inside = o.chunk; within = omega arith })),
+      out_open (λ (x : Output). Fits l.chunk x.start x.queued) (has_notes l) (record { inside = o.chunk; within = omega arith }) (record { inside = o.chunk; within = omega arith }),
       account_range,
       (open_by_lem l.input.unit l lengths o.size o.slots, area_some l.input.unit l o.chunk o.size),
       omega arith,
     )
   where
-    account_range : AllWithin (new_credit c.limits.output.size ∷ new_credit c.limits.output.size ∷ [])
+    account_range : AllWithin (new_credit c.limits.output.size ∷ new_credit c.limits.output.size ∷ new_credit c.limits.output.size ∷ [])
     account_range Stdout = omega arith
     account_range Stderr = omega arith
+    account_range Notes = omega arith
 
 pub list_range : (cs : List Call) (s : State) → RangedS s → RangedS (after_all s cs)
 list_range [] s h = h
@@ -281,7 +298,7 @@ unfolding in_range
 in_range_lem lengths s h =
     and_from _ _
     (and_from _ _
-    (and_from _ _ (of_every _ (λ x. out_ok s.limits.chunk (out_of x s) (h.0 x))) (of_every _ (λ x. le-leb _ _ (h.1 x))))
+    (and_from _ _ (of_every _ (λ x. out_ok s.limits.chunk (out_of x s) (h.0 x))) (of_every _ (λ x. or_right (not (has s.limits x)) _ (le-leb _ _ (h.1 x)))))
     (and_from _ _ (and_from _ _ (ring_ok s.input.inbox.start (input_bytes s.limits) h.2.1) (le-leb s.input.inbox.length (input_bytes s.limits) (holds_by s.limits.input.unit s.limits lengths s.input h.2.0)))
     (units_ok s.limits.input.unit s.limits lengths s.input h.2.0)))
-    (le-leb s.turn 1 h.3)
+    (le-leb s.turn (last_turn s.limits) h.3)

@@ -1,5 +1,6 @@
 -- Refusals change nothing: by 12, 10, 46 and 11 the guard gives back what it was given; of what is refused behind it `Safe` tells, and of
 -- the records' own refusals `Records`. Then those of open, and of what writes and reads the bytes of a record.
+use Rattle.runner.specs.Streams.{read_allowance_of}
 use Rattle.std.specs.Prelude.{Option, Result, Some, None, Ok, Err}
 use Rattle.exec.specs.declared.Status.{Status}
 use mathlib.Core.Bool.{Bool, true, false, cond, not, ◌&&◌, ◌||◌, false≢true}
@@ -12,7 +13,7 @@ use lib.ListN.{length, get_or}
 use Rattle.exec.specs.declared.Key.{Key}
 use Rattle.exec.specs.declared.Refusal.{Refusal}
 use Rattle.exec.specs.declared.Timers.{Timers}
-use Rattle.exec.specs.Limits.{bytes_with, is_valid, no_limits}
+use Rattle.exec.specs.Limits.{bytes_with, is_valid, no_limits, has}
 use Rattle.exec.specs.Refusal.{number}
 use Rattle.runner.specs.declared.runner.Runner.{Runner}
 use Rattle.inbox.specs.Receiver.{grant_fits}
@@ -20,7 +21,7 @@ use Rattle.runner.specs.Calls as Calls
 use Rattle.runner.specs.Calls.{asked_for, stores_do, open_by}
 use Rattle.runner.specs.Message.{choose, wish}
 use Rattle.runner.specs.RangeLaws.{stop_ends}
-use Rattle.runner.specs.Range.{in_range, bytes_do, lengths_do, stop, open_stop, fresh}
+use Rattle.runner.specs.Range.{in_range, bytes_do, lengths_do, stop, open_stop, fresh, stop_at}
 use Rattle.output.specs.Output.{output_fits}
 use Rattle.codec.specs.declared.Record.{Record}
 use Rattle.codec.specs.Codec as Codec
@@ -49,7 +50,7 @@ use Rattle.account.specs.Step.{State, on_runner, replied, received_as, asks}
 use Rattle.account.specs.Records.{Entry, call, read_record, write_record, read_frame, write_frame, answers, next_entry, answer_entry, after_entries, among, of_entry}
 use Rattle.account.specs.Refused.{of_calls, Unwritten, Refusals}
 use Rattle.account.proofs.Plain as Plain
-use Rattle.account.proofs.Plain.{said}
+use Rattle.account.proofs.Plain.{said, by_open}
 use Rattle.std.proofs.lemmas.Bool.{or_right}
 use Rattle.account.proofs.Flags.{either}
 use Rattle.account.proofs.Guarded.{next_is, answer_is}
@@ -66,11 +67,11 @@ Known (Ok tt) = Unit
 Known (Err x) = among (number x) of_calls ≡ true
 
 stop_known : (r : Runner) (stores : Bool) (x : Refusal) → stop r stores ≡ Err x → Known (Err x)
-stop_known r stores x e = subst Known e (stop_ends Known refl refl refl r stores refl (λ i v g s. tt))
+stop_known r stores x e = subst Known e (stop_ends Known refl refl refl r stores refl (λ i v g n s. tt))
 
 pub stopped : (s : State) (c : Call) (x : Refusal) → stop s.runner (Plain.enough s c) ≡ Err x
     → (Step.next s c ≡ s) × (Step.answer s c ≡ Call.Refused (number x))
-unfolding Plain.enough Step.next Step.answer Calls.key Calls.limits Calls.credit Calls.input Calls.end_input Calls.cancel Calls.launched Calls.read_allowance Calls.output Calls.discarded Calls.output_closed Calls.output_failed Calls.output_hung_up Calls.pending_input Calls.input_written Calls.input_closed Calls.exited Calls.settled Calls.dropped Calls.reset Calls.disconnect Calls.tick Calls.deadline Calls.next_request Calls.next_message Calls.is_finished Calls.is_detached Calls.awaits_settlement Calls.memory_bound Calls.buffered Calls.high_water
+unfolding stop_at Plain.enough Step.next Step.answer Calls.key Calls.limits Calls.credit Calls.input Calls.end_input Calls.cancel Calls.launched Calls.read_allowance Calls.output Calls.discarded Calls.output_closed Calls.output_failed Calls.output_hung_up Calls.pending_input Calls.input_written Calls.input_closed Calls.exited Calls.settled Calls.dropped Calls.reset Calls.disconnect Calls.tick Calls.deadline Calls.next_request Calls.next_message Calls.is_finished Calls.is_detached Calls.awaits_settlement Calls.memory_bound Calls.buffered Calls.high_water
 stopped s (Call.credit k p u) x g = rw g (refl, refl)
 stopped s _ x g = rw g (refl, refl)
 
@@ -82,6 +83,16 @@ plain_safe s (Call.credit k p u) = credit_safe s k p u
 plain_safe s (Call.input k b) = input_safe s k b
 plain_safe s (Call.end_input k) = end_safe s k
 plain_safe s (Call.cancel now k c) = cancel_safe s now k c
+plain_safe s (Call.output x b) = by_open (Safe s) s _ x (Call.Taken _) (λ o. tt) (record { same = refl; known = refl })
+plain_safe s (Call.discarded x n) = by_open (Safe s) s _ x Call.Ok (λ o. tt) (record { same = refl; known = refl })
+plain_safe s (Call.output_closed x) = by_open (Safe s) s _ x Call.Ok (λ o. tt) (record { same = refl; known = refl })
+plain_safe s (Call.output_failed x) = by_open (Safe s) s _ x Call.Ok (λ o. tt) (record { same = refl; known = refl })
+plain_safe s (Call.output_hung_up x) = by_open (Safe s) s _ x Call.Ok (λ o. tt) (record { same = refl; known = refl })
+plain_safe s (Call.read_allowance x) = by_asked (has s.runner.limits x)
+  where
+    by_asked : (h : Bool) → Safe s s (cond h (Call.Value (read_allowance_of s.runner x)) (Call.Refused 2))
+    by_asked true = tt
+    by_asked false = record { same = refl; known = refl }
 plain_safe s Call.next_request = wish_safe s _ (wish s.runner)
 plain_safe s (Call.next_message buffer) = said_safe _ _ (choose s.runner (length buffer)) s.runner s.bytes
 plain_safe s _ = tt

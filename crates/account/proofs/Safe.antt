@@ -13,7 +13,7 @@ use Rattle.exec.specs.declared.Key.{Key}
 use Rattle.exec.specs.declared.Pool.{Pool}
 use Rattle.exec.specs.declared.Refusal.{Refusal}
 use Rattle.exec.specs.Key.{admits}
-use Rattle.exec.specs.Limits.{output_pool}
+use Rattle.exec.specs.Limits.{output_pool, has_notes}
 use Rattle.credit.specs.declared.sender.Credit.{Credit}
 use Rattle.credit.specs.Sender.{grantable, grant}
 use Rattle.runner.specs.State.{credit_at, put_credit, with_flow, with_input}
@@ -69,13 +69,15 @@ admits_by P own stale other k m =
     other
 
 -- a pool is refused by 2, or has an account
-pool_by : (P : Result ℕ Refusal → Type 0) → P (Err Refusal.Pool) → ((i : ℕ) → P (Ok i)) → (shared : Bool) (p : Pool) → P (output_pool shared p)
-pool_by P other at true Pool.Output = at 0
-pool_by P other at false Pool.Input = other
-pool_by P other at false Pool.Stdout = at 0
-pool_by P other at false Pool.Stderr = at 1
-pool_by P other at false Pool.Output = other
-pool_by P other at true _ = other
+pool_by : (P : Result ℕ Refusal → Type 0) → P (Err Refusal.Pool) → ((i : ℕ) → P (Ok i)) → (shared notes : Bool) (p : Pool) → P (output_pool shared notes p)
+pool_by P other at true n Pool.Output = at 0
+pool_by P other at false n Pool.Input = other
+pool_by P other at false n Pool.Stdout = at 0
+pool_by P other at false n Pool.Stderr = at 1
+pool_by P other at false n Pool.Output = other
+pool_by P other at false true Pool.Notes = at 2
+pool_by P other at false false Pool.Notes = other
+pool_by P other at true n _ = other
 
 -- the state with other accounts
 accounts : State → List Credit → State
@@ -92,14 +94,14 @@ granted s cs false false = record { same = refl; known = refl }
 abbrev CreditSafe : State → ℕ → Result Admission Refusal → Result ℕ Refusal → Type 0
 CreditSafe s u a p = Safe s (on_runner (Streams.credit_next a p s.runner u) s) (received_as (Streams.credit_answer a p s.runner u))
 
-pub credit_safe : (s : State) (k : Key) (p : Pool) (u : ℕ) → CreditSafe s u (admits s.runner.key k) (output_pool s.runner.limits.shared p)
+pub credit_safe : (s : State) (k : Key) (p : Pool) (u : ℕ) → CreditSafe s u (admits s.runner.key k) (output_pool s.runner.limits.shared (has_notes s.runner.limits) p)
 unfolding Streams.credit_next Streams.credit_answer Streams.credit_in accounts
 credit_safe s k p u =
     let cs = s.runner.credits in
-    admits_by (λ a. CreditSafe s u a (output_pool s.runner.limits.shared p))
+    admits_by (λ a. CreditSafe s u a (output_pool s.runner.limits.shared (has_notes s.runner.limits) p))
     (pool_by (CreditSafe s u (Ok Own)) (record { same = refl; known = refl })
     (λ i. granted s (put_credit i (grant (credit_at i cs) u).credit cs) s.runner.flags.finished (grantable (credit_at i cs) u))
-    s.runner.limits.shared p)
+    s.runner.limits.shared (has_notes s.runner.limits) p)
     refl (record { same = refl; known = refl }) s.runner.key k
 
 late_safe : (s t : State) (late : Bool) → Safe s t (received_as (cond late (Ok Receipt.Late) (Ok Receipt.Applied)))

@@ -1,4 +1,5 @@
 -- Every call keeps the phase that an Applied cancel begins, and after give-up lets the messages left be no more.
+use Rattle.exec.specs.Limits.{has, has_notes}
 use Rattle.std.specs.Prelude.{Option, Result, Some, None, Ok, Err}
 use Rattle.exec.specs.declared.Admission.TheVariants.{Own}
 use Rattle.exec.specs.declared.Admission.{Admission}
@@ -15,7 +16,7 @@ use lib.ListN.{length}
 use Rattle.exec.specs.declared.Cause.{Cause}
 use Rattle.runner.specs.declared.answer.Request.{Request}
 use Rattle.exec.specs.declared.Stream.{Stream}
-use Rattle.exec.specs.declared.Stream.TheVariants.{Stdout, Stderr}
+use Rattle.exec.specs.declared.Stream.TheVariants.{Stdout, Stderr, Notes}
 use Rattle.choice.specs.declared.Choice.{Choice}
 use Rattle.input.specs.declared.Input.{Input}
 use Rattle.output.specs.declared.Output.{Output}
@@ -38,7 +39,7 @@ use Rattle.account.proofs.Plain.{next}
 use Rattle.account.proofs.Flags.{either}
 use Rattle.account.proofs.Stages.{grace_if, terminate_if, timeout_if, give_up_if, drop_launch_if, abandon_streams_if, abandon_if, stage1, stage2, stage3, stage4, stage5, tick_if, tick_is, cancel_if, late, detached_now, detach_if, exited_if, launched_if, cancel_next}
 use Rattle.account.proofs.Streams.{wider}
-use Rattle.account.proofs.Sides.{out_each, on_out}
+use Rattle.account.proofs.Sides.{out_each, on_out, third}
 use Rattle.std.proofs.lemmas.Bool.{or_left}
 use Rattle.account.proofs.Phase.{Either, left, right, Empty, bit, AllKnown, Phase, left_over, over_overdue, reported_over, cleaned_known, known_given, dry_given, dry_grace, known_grace, InKept, OutKept, kept_asked, kept_end, kept_send, kept_discard, kept_close, kept_fail, kept_hang, kept_intake, kept_ended, kept_written, on_right, not_right}
 
@@ -97,8 +98,8 @@ module _ (P : Option ℕ → Type 0) (lower : (d e : Option ℕ) → P d → P (
     hold = (
       h.0,
       h.1,
-      on_right (λ d x. rw (out_each abandoned s.outputs x) (record { none = (d x).none; stop = wider (out_of x s).closed (out_of x s).hung_up (out_of x s).discarding (d x).stop })) h.2,
-      on_right (λ d. record { launch = d.launch; exit = d.exit; closed = λ x. ap (λ (o : Output). o.closed) (out_each abandoned s.outputs x) ∙ or_left (out_of x s).closed _ (d.closed x); settled = d.settled }) h.3,
+      on_right (λ d x. rw (out_each (has_notes s.limits) s.outputs abandoned refl x) (record { none = (d x).none; stop = wider (out_of x s).closed (out_of x s).hung_up (out_of x s).discarding (d x).stop })) h.2,
+      on_right (λ d. record { launch = d.launch; exit = d.exit; closed = λ x. ap (λ (o : Output). o.closed) (out_each (has_notes s.limits) s.outputs abandoned refl x) ∙ or_left (out_of x s).closed _ (d.closed x); settled = d.settled }) h.3,
     );
     less = λ n. le_refl (left_over s);
   }
@@ -197,8 +198,8 @@ module _ (P : Option ℕ → Type 0) (lower : (d e : Option ℕ) → P d → P (
     hold = (
       h.0,
       h.1,
-      on_right (λ d. on_out Empty x o s.outputs (k.drained (d x)) (λ y e. d y)) h.2,
-      on_right (λ d. record { launch = d.launch; exit = d.exit; closed = on_out (λ (y : Stream) (p : Output). p.closed ≡ true) x o s.outputs (k.closed (d.closed x)) (λ y e. d.closed y); settled = d.settled }) h.3,
+      on_right (λ d. on_out (has_notes s.limits) s.outputs Empty x o (k.drained (d x)) d) h.2,
+      on_right (λ d. record { launch = d.launch; exit = d.exit; closed = on_out (has_notes s.limits) s.outputs (λ (y : Stream) (p : Output). p.closed ≡ true) x o (k.closed (d.closed x)) d.closed; settled = d.settled }) h.3,
     );
     less = λ n. fewer_untold x s o k.msg;
   }
@@ -206,6 +207,9 @@ module _ (P : Option ℕ → Type 0) (lower : (d e : Option ℕ) → P d → P (
       fewer_untold : (x : Stream) (s : Runner) (o : Output) → bit (not o.ended) ≤ bit (not (out_of x s).ended) → left_over (with_outputs (put_output x o s.outputs) s) ≤ left_over s
       fewer_untold Stdout s o m = omega arith
       fewer_untold Stderr s o m = omega arith
+      fewer_untold Notes s o m =
+          let t = third (has_notes s.limits) s.outputs (λ (p : Output). bit (not p.ended) ≤ bit (not (out_of Notes s).ended)) o m (le_refl (bit (not (out_of Notes s).ended))) in
+          omega (arith, t)
 
   low_at : (x : Stream) (f : Output → Output) (s : Runner) → ((o : Output) → OutKept o (f o)) → Phase P s → Low s (at x f s)
   low_at x f s k h = low_out x s (f (out_of x s)) (k (out_of x s)) h
@@ -245,6 +249,10 @@ module _ (P : Option ℕ → Type 0) (lower : (d e : Option ℕ) → P d → P (
   low_effect (Choice.Output x n) s h = low_sent x n s h
   low_effect _ s h = record { hold = h; less = λ n. le_refl (left_over s) }
 
+  -- a call that names a stream: where that is not open, nothing changes
+  named : (x : Stream) (s : State) {t : State} → Phase P s.runner → Low s.runner t.runner → Low s.runner (cond (has s.runner.limits x) t s).runner
+  named x s h q = either (λ (u : State). Low s.runner u.runner) (has s.runner.limits x) _ _ q (same h)
+
   -- every call keeps the phase, and after give-up lets the messages left be no more
   pub low_next : (c : Call) (s : State) → Phase P s.runner → Low s.runner (next s c).runner
   unfolding next credit_next input_next end_next launched_next output_next discarded_next closed_next failed_next hung_up_next written_next settled_next receive_input written_input
@@ -262,11 +270,11 @@ module _ (P : Option ℕ → Type 0) (lower : (d e : Option ℕ) → P d → P (
   low_next (Call.launched x) s h = low_launched_if (awaits_launch s.runner) x s.runner refl h
   low_next (Call.output x b) s h =
       let r : Runner = s.runner in
-      low_high r (output_filled r x (length b)) _ (low_out x r _ (kept_intake r.flags.gave_up (room x r) (length b) (out_of x r)) h)
-  low_next (Call.discarded x n) s h = low_at x (lost_out (ltb 0 n)) s.runner (kept_discard (ltb 0 n)) h
-  low_next (Call.output_closed x) s h = low_at x closed_out s.runner kept_close h
-  low_next (Call.output_failed x) s h = low_at x failed_out s.runner kept_fail h
-  low_next (Call.output_hung_up x) s h = low_at x hung_up s.runner kept_hang h
+      named x s h (low_high r (output_filled r x (length b)) _ (low_out x r _ (kept_intake r.flags.gave_up (room x r) (length b) (out_of x r)) h))
+  low_next (Call.discarded x n) s h = named x s h (low_at x (lost_out (ltb 0 n)) s.runner (kept_discard (ltb 0 n)) h)
+  low_next (Call.output_closed x) s h = named x s h (low_at x closed_out s.runner kept_close h)
+  low_next (Call.output_failed x) s h = named x s h (low_at x failed_out s.runner kept_fail h)
+  low_next (Call.output_hung_up x) s h = named x s h (low_at x hung_up s.runner kept_hang h)
   low_next (Call.input_written n) s h =
       let r : Runner = s.runner in
       low_input r _ (kept_written r.input.closed r.input (close_when_taken (pop_in r.limits n s.lengths r.input)) refl h.0) h

@@ -8,8 +8,9 @@ use Rattle.exec.specs.declared.Refusal.{Refusal}
 use Rattle.exec.specs.declared.Settlement.{Settlement}
 use Rattle.exec.specs.declared.Stream.{Stream}
 use Rattle.exec.specs.declared.Timers.{Timers}
-use Rattle.exec.specs.Each.{Each, one, on_one, alike, both, every}
+use Rattle.exec.specs.Each.{Each, one, on_one, per, alike, both, every}
 use Rattle.exec.specs.Key.{admits}
+use Rattle.exec.specs.Limits.{has}
 use Rattle.exec.specs.Time.{after, then, earliest, due, timeout_at}
 use Rattle.calls.specs.Call.{Conf, Done, Call, key, limits, credit, input, end_input, cancel, launched, read_allowance, output, discarded, output_closed, output_failed, output_hung_up, pending_input, input_written, input_closed, exited, settled, dropped, reset, disconnect, tick, deadline, next_request, next_message, is_finished, is_detached, awaits_settlement, memory_bound, buffered, high_water, Answer, Ok, Applied, Stale, Late, Refused, Taken, Came, Pending, Value, Time, Truth, Asks, Says, IsKey, AreLimits, Nothing, is_refused, count, Message, Credit, Started, Output, End, InputClosed, Terminal}
 
@@ -346,7 +347,7 @@ add a c r = cond (is_refused r) a (adds a c r)
 abbrev pub none : Tally
 none = record { taken = []; sent = []; mark = false }
 
--- a runner just opened: the timeout runs from open
+-- a runner just opened: the timeout runs from open, and a stream that is not open counts as closed
 unfoldable pub start : Conf → ℕ → Account
 start c now = mk (record {
   key = c.key;
@@ -362,7 +363,7 @@ start c now = mk (record {
   exit = false;
   settling = Idle;
   detached = false;
-  closed = alike false;
+  closed = per (λ (x : Stream). not (has c.limits x));
   hung = alike false;
 }) (alike none)
 

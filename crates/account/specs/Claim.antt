@@ -1,4 +1,5 @@
 -- Demand 3, for every list of calls from a runner just opened.
+use Rattle.exec.specs.Limits.{streams}
 use Rattle.std.specs.Prelude.{Bool, true, false, ◌||◌, ◌≡◌, List, [], ◌∷◌, ◌++◌, ℕ, suc, ◌+◌, ◌^◌, ◌≤◌, ◌<◌, eqb, Result}
 use Rattle.exec.specs.declared.Cause.{Cause}
 use Rattle.exec.specs.declared.Key.{Key}
@@ -145,7 +146,7 @@ pub record Demand3 (conf : Conf) (now : ℕ) (bytes lengths : List ℕ) : Type 0
       → (tick_a t (account_of conf now bytes lengths cs)).rep.begun ≡ false
   -- after a cancel Applied at t, Terminal has come by the fifth next_message after a tick at or past t + grace + settlement
   pub late : (cs ds es : List Call) (t n : ℕ) (k : Key) (c : Cause) → answer (after (opened conf now bytes lengths) cs) (cancel t k c) ≡ Applied
-      → t + conf.timers.grace + conf.timers.settlement < 2 ^ 64 → t + conf.timers.grace + conf.timers.settlement ≤ n → 5 ≤ messages es
+      → t + conf.timers.grace + conf.timers.settlement < 2 ^ 64 → t + conf.timers.grace + conf.timers.settlement ≤ n → 3 + streams conf.limits ≤ messages es
       → any_terminal (run (opened conf now bytes lengths) (cs ++ (cancel t k c ∷ (ds ++ (tick n ∷ es))))) ≡ true
   -- from open on no call is refused by 10, 11 or 12
   pub ranged : (cs : List Call) (c : Call) → is_stop (answer (after (opened conf now bytes lengths) cs) c) ≡ false

@@ -1,4 +1,5 @@
 -- Demand 3's bound after every call that ticks, not only after tick itself, and after every record that makes such a call.
+use Rattle.exec.specs.Limits.{streams}
 use Rattle.std.specs.Prelude.{true, ◌≡◌, List, [], ◌∷◌, ◌++◌, ℕ, ◌+◌, ◌^◌, ◌≤◌, ◌<◌, Option, Result, Some, None, Ok, Err}
 use Rattle.exec.specs.declared.Admission.TheVariants.{Own, Stale}
 use Rattle.exec.specs.declared.Admission.{Admission}
@@ -60,5 +61,5 @@ LateAny conf now bytes lengths =
     let before = after_entries cancelled ds in
     answer_entry (after_entries (opened conf now bytes lengths) cs) (call (cancel t k c)) ≡ Applied
     → t + conf.timers.grace + conf.timers.settlement < 2 ^ 64 → t + conf.timers.grace + conf.timers.settlement ≤ n
-    → made conf e (answer_entry before e) ≡ ticks ∷ [] → tick_of conf ticks ≡ Some n → 5 ≤ messages (calls_of conf (run_entries (next_entry before e) es))
+    → made conf e (answer_entry before e) ≡ ticks ∷ [] → tick_of conf ticks ≡ Some n → 3 + streams conf.limits ≤ messages (calls_of conf (run_entries (next_entry before e) es))
     → any_terminal_in (run_entries (opened conf now bytes lengths) (cs ++ (call (cancel t k c) ∷ (ds ++ (e ∷ es))))) ≡ true

@@ -1,6 +1,7 @@
 -- Demand 3 whole: lists that mix the runner's calls with channel records and with frames, read into it and written from it. Each record or
 -- frame stands in the list as the calls that it makes, told from the arguments of open, its own, and its answer; one that is refused
 -- first makes none.
+use Rattle.exec.specs.Limits.{streams}
 use Rattle.std.specs.Prelude.{Bool, true, false, cond, not, ◌&&◌, ◌||◌, ◌≡◌, List, [], ◌∷◌, ◌++◌, ℕ, ◌+◌, ◌-◌, ◌^◌, ◌≤◌, ◌<◌, leb, eqb, length, take, drop, Option, Result, Some, None, Ok, Err}
 use Rattle.runner.specs.declared.answer.Message.{Message}
 use Rattle.codec.specs.declared.Record.{Record}
@@ -236,7 +237,7 @@ pub record Whole (conf : Conf) (now : ℕ) (bytes lengths : List ℕ) : Type 0 w
   -- t + grace + settlement; what is refused asks for none
   pub late : (cs ds es : List Entry) (t n : ℕ) (k : Key) (c : Cause) → answer_entry (after_entries (opened conf now bytes lengths) cs) (call (Call.cancel t k c)) ≡ Call.Applied
       → t + conf.timers.grace + conf.timers.settlement < 2 ^ 64 → t + conf.timers.grace + conf.timers.settlement ≤ n
-      → 5 ≤ messages (calls_of conf (run_entries (next_entry (after_entries (next_entry (after_entries (opened conf now bytes lengths) cs) (call (Call.cancel t k c))) ds) (call (Call.tick n))) es))
+      → 3 + streams conf.limits ≤ messages (calls_of conf (run_entries (next_entry (after_entries (next_entry (after_entries (opened conf now bytes lengths) cs) (call (Call.cancel t k c))) ds) (call (Call.tick n))) es))
       → any_terminal_in (run_entries (opened conf now bytes lengths) (cs ++ (call (Call.cancel t k c) ∷ (ds ++ (call (Call.tick n) ∷ es))))) ≡ true
   -- from open on no entry is refused by 10, 11 or 12
   pub ranged : (es : List Entry) (e : Entry) → is_stop (answer_entry (after_entries (opened conf now bytes lengths) es) e) ≡ false

@@ -8,7 +8,7 @@ use Rattle.exec.specs.declared.Unit as Units
 use Rattle.exec.specs.declared.Unit.TheVariants.{Bytes, Frames}
 use Rattle.exec.specs.declared.Window.{Window}
 use Rattle.exec.specs.declared.Limits.{Limits}
-use Rattle.exec.specs.Stream.{index, is_notes}
+use Rattle.exec.specs.Stream.{index, is_notes, sum_of_streams}
 
 abbrev pub bytes_window : ℕ → Window
 bytes_window size = record { unit = Bytes; size = size }
@@ -57,6 +57,10 @@ has_notes l = false
 -- whether a stream is
 abbrev pub has : Limits → Stream → Bool
 has l x = not (is_notes x) || has_notes l
+
+-- how many are
+abbrev pub streams : Limits → ℕ
+streams l = sum_of_streams (λ (x : Stream). cond (has l x) 1 0)
 
 -- with shared, pool Output alone is good; without it, those of the streams that are open are; Input never is
 abbrev pub output_pool : (shared notes : Bool) → Pool → Result ℕ Refusal

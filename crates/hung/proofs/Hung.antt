@@ -197,7 +197,7 @@ module _ (conf : Conf) (d t : ℕ) (below : t + conf.timers.grace + conf.timers.
   due_ticked s f e l (right h) = (low_ticked (Soon sum) (soon_lower sum) t s h).hold
 
   -- from a runner not finished, up to Terminal
-  from_tick : (n : ℕ) (ds es : List Call) (s : State) → s.runner.flags.finished ≡ false → s.runner.timers ≡ conf.timers → d ≤ t → Held s.runner → sum ≤ n → 5 ≤ messages es
+  from_tick : (n : ℕ) (ds es : List Call) (s : State) → s.runner.flags.finished ≡ false → s.runner.timers ≡ conf.timers → d ≤ t → Held s.runner → sum ≤ n → 3 + streams conf.limits ≤ messages es
       → any_terminal (run s (Call.tick t ∷ (ds ++ (Call.tick n ∷ es)))) ≡ true
   unfolding next
   from_tick n ds es s f e l h m v =
@@ -217,7 +217,7 @@ unfolding fresh
 live_open conf now bytes lengths = refl
 
 plain : (conf : Conf) (now : ℕ) (bytes lengths : List ℕ) (cs ds es : List Call) (d t n : ℕ) → timeout_at conf.timers.timeout now ≡ Some d → d ≤ t → Unended t cs
-    → t + conf.timers.grace + conf.timers.settlement < 2 ^ 64 → t + conf.timers.grace + conf.timers.settlement ≤ n → 5 ≤ messages es
+    → t + conf.timers.grace + conf.timers.settlement < 2 ^ 64 → t + conf.timers.grace + conf.timers.settlement ≤ n → 3 + streams conf.limits ≤ messages es
     → any_terminal (run (begun conf now bytes lengths) (cs ++ (Call.tick t ∷ (ds ++ (Call.tick n ∷ es))))) ≡ true
 plain conf now bytes lengths cs ds es d t n e l u below m v =
     let o : State = begun conf now bytes lengths in

@@ -27,5 +27,5 @@ Hung conf now bytes lengths =
     timeout_at conf.timers.timeout now ≡ Some d → d ≤ t
     → Unended t (calls_of conf (run_entries (opened conf now bytes lengths) cs))
     → t + conf.timers.grace + conf.timers.settlement < 2 ^ 64 → t + conf.timers.grace + conf.timers.settlement ≤ n
-    → 5 ≤ messages (calls_of conf (run_entries (next_entry before (call (tick n))) es))
+    → 3 + streams conf.limits ≤ messages (calls_of conf (run_entries (next_entry before (call (tick n))) es))
     → any_terminal_in (run_entries (opened conf now bytes lengths) (cs ++ (call (tick t) ∷ (ds ++ (call (tick n) ∷ es))))) ≡ true
