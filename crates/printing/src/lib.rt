@@ -170,6 +170,7 @@ pub fn name_of(stream: Stream) -> &'static [u8]
     match stream {
         Stream::Stdout => b"Stdout",
         Stream::Stderr => b"Stderr",
+        Stream::Notes => b"Notes",
     }
 }
 

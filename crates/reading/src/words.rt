@@ -19,6 +19,7 @@ pub fn named<T: Copy>(field: &[u8], table: &[(&[u8], T)]) -> Option<T>
 
 // ---- words. (A function for each type and no trait: an impl would name the table and the definition as these do, and be longer.)
 
+// (A card opens two streams: Notes is not read, as a stream or as a pool.)
 static STREAMS: [(&[u8], Stream); 2] = [(b"Stdout", Stream::Stdout), (b"Stderr", Stream::Stderr)];
 
 #[tactic(auto, unfolding(syntax::specs::Words::bytes, syntax::specs::Words::named, syntax::specs::Lines::find))]

@@ -45,7 +45,7 @@ counted w n = three w (digits_of n) dash
 abbrev pub filled : (word bs : List ℕ) → List ℕ
 filled w bs = three w (digits_of (length bs)) (hex_of bs)
 
--- Terminal has five more: status, cause, launch failure, two truncation digits (stdout first), reusable digit
+-- Terminal has five more: status, cause, launch failure, two truncation digits (stdout first; Notes, which no card opens, has none), reusable digit
 abbrev pub outcome_text : Outcome → List ℕ
 outcome_text o =
     word (bytes "Terminal") ++ bytes "," ++ or_dash status_text o.status ++ bytes "," ++ or_dash cause_name o.cause ++ bytes ","

@@ -47,6 +47,7 @@ table_prints : (prints 1 Call.Ok ≡ bytes "1,ok,-,-\n")
       launch_failure = None;
       stdout_truncated = true;
       stderr_truncated = true;
+      notes_truncated = false;
       reusable = false;
     }))) ≡ bytes "13,Terminal,-,-,-,Cancelled,-,11,0\n")
     × (prints 14 Call.Nothing ≡ bytes "14,none,-,-\n")
@@ -93,8 +94,21 @@ good_lines : (calls "tick,0035" ≡ Some (Call.tick 35))
 unfolding calls
 good_lines = (refl, refl, refl, refl, refl, refl, refl)
 
--- of the two digits of truncation stdout's is the first
-truncated : prints 1 (Call.Says (Call.Terminal (record { status = None; cause = None; launch_failure = None; stdout_truncated = true; stderr_truncated = false; reusable = false })))
-    ≡ bytes "1,Terminal,-,-,-,-,-,10,0\n"
+-- a card opens two streams: where a line names Notes, as stream or pool, it is no call, and with Stderr in its place it is one
+two_streams : (calls "credit,7,2,Stderr,3" ≡ Some (Call.credit (new_key 7 2) Pool.Stderr 3)) × (calls "credit,7,2,Notes,3" ≡ None)
+    × (calls "read_allowance,Stderr" ≡ Some (Call.read_allowance Stderr)) × (calls "read_allowance,Notes" ≡ None)
+    × (calls "output,Stderr,6b6e" ≡ Some (Call.output Stderr (107 ∷ 110 ∷ []))) × (calls "output,Notes,6b6e" ≡ None)
+    × (calls "discarded,Stderr,2" ≡ Some (Call.discarded Stderr 2)) × (calls "discarded,Notes,2" ≡ None)
+    × (calls "output_closed,Stderr" ≡ Some (Call.output_closed Stderr)) × (calls "output_closed,Notes" ≡ None)
+    × (calls "output_failed,Stderr" ≡ Some (Call.output_failed Stderr)) × (calls "output_failed,Notes" ≡ None)
+    × (calls "output_hung_up,Stderr" ≡ Some (Call.output_hung_up Stderr)) × (calls "output_hung_up,Notes" ≡ None)
+unfolding calls
+two_streams = (refl, refl, refl, refl, refl, refl, refl, refl, refl, refl, refl, refl, refl, refl)
+
+-- of the two digits of truncation stdout's is the first, and Notes has none
+truncated : (prints 1 (Call.Says (Call.Terminal (record { status = None; cause = None; launch_failure = None; stdout_truncated = true; stderr_truncated = false; notes_truncated = false; reusable = false })))
+    ≡ bytes "1,Terminal,-,-,-,-,-,10,0\n")
+    × (prints 2 (Call.Says (Call.Terminal (record { status = None; cause = None; launch_failure = None; stdout_truncated = false; stderr_truncated = false; notes_truncated = true; reusable = false })))
+    ≡ bytes "2,Terminal,-,-,-,-,-,00,0\n")
 unfolding prints
-truncated = refl
+truncated = (refl, refl)

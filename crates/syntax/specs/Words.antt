@@ -13,12 +13,14 @@ unfoldable pub use Rattle.octets.specs.Text.{bytes, same}
 abbrev pub stream_name : Stream → List ℕ
 stream_name Stream.Stdout = bytes "Stdout"
 stream_name Stream.Stderr = bytes "Stderr"
+stream_name Stream.Notes = bytes "Notes"
 
 abbrev pub pool_name : Pool → List ℕ
 pool_name Pool.Input = bytes "Input"
 pool_name Pool.Stdout = bytes "Stdout"
 pool_name Pool.Stderr = bytes "Stderr"
 pool_name Pool.Output = bytes "Output"
+pool_name Pool.Notes = bytes "Notes"
 
 abbrev pub cause_name : Cause → List ℕ
 cause_name Cause.Cancelled = bytes "Cancelled"
@@ -39,6 +41,7 @@ unfoldable pub named : {A : Type 0} → (A → List ℕ) → List A → (field :
 named name [] field = None
 named name (x ∷ xs) field = cond (same field (name x)) (Some x) (named name xs field)
 
+-- (Notes has its names above, as they are of every stream and pool, but is not read: a card opens two streams (02, A10))
 abbrev pub stream : List ℕ → Option Stream
 stream field = named stream_name (Stream.Stdout ∷ Stream.Stderr ∷ []) field
 
