@@ -65,7 +65,7 @@ module _ (l : Limits) (v : is_valid l ≡ true) where
   answered pre j h x a e = ap (λ (b : Result (Unit {0}) Refusal). hear_by b j x) (same l pre j h v x ∙ e)
 
   goes_on : (pre : List Item) (j : Judge) → Heard l pre j → (x : Item) → breach l pre x ≡ Ok tt → Heard l (pre ++ (x ∷ [])) (noted j x)
-  goes_on pre j h x e = more l pre j h x (same_cost l pre j h x ∙ (passed (breaks_order pre x) (breaks_length l x) (breaks_cost l pre x) (breaks_window l pre x) e).2)
+  goes_on pre j h x e = more l pre j h x (same_cost l pre j h x ∙ (passed (breaks_order l pre x) (breaks_length l x) (breaks_cost l pre x) (breaks_window l pre x) e).2)
 
   all_heard : (xs pre : List Item) (j : Judge) → Heard l pre j → PassFrom pre xs → (first j xs ≡ Ok tt) × Heard l (pre ++ xs) (after j xs)
   all_heard [] pre j h p = (refl, subst (λ (a : List Item). Heard l a j) (sym (append-nil pre)) h)

@@ -1,6 +1,6 @@
 -- The judge that heard a list of items that keep the rules: what it answers to one more is that item's breach, and it has heard it then.
-use Rattle.std.specs.Prelude.{Bool, true, false, cond, ◌||◌, ◌≡◌, refl, List, [], ◌∷◌, ◌++◌, ℕ, zero, suc, ◌+◌, ◌-◌, ◌≤◌, ◌<◌, eqb, ltb, Result, Ok, Err}
-use Rattle.std.proofs.Common.{sym, ap, ◌∙◌, arith, eqb-true, ltb-false}
+use Rattle.std.specs.Prelude.{Bool, true, false, cond, ◌||◌, ◌≡◌, refl, List, [], ◌∷◌, ◌++◌, ℕ, ◌+◌, ◌-◌, ◌≤◌, ◌<◌, eqb, ltb, Result, Ok, Err}
+use Rattle.std.proofs.Common.{sym, ap, ◌∙◌, subst, arith, eqb-true, ltb-false}
 use Rattle.std.proofs.Math.Bool.{or-false}
 use Rattle.std.proofs.lemmas.Bool.Decides.{nat_tests}
 use mathlib.Core.Bool.{or-true}
@@ -8,10 +8,10 @@ use Rattle.exec.specs.declared.Limits.{Limits}
 use Rattle.exec.specs.declared.Pool.{Pool}
 use Rattle.exec.specs.declared.Refusal.{Refusal}
 use Rattle.exec.specs.declared.Stream.{Stream}
-use Rattle.exec.specs.declared.Stream.TheVariants.{Stdout, Stderr}
-use Rattle.exec.specs.Limits.{cost, is_valid, off_chunk, output_pool, pool_of}
-use Rattle.exec.specs.Pair.{at, put}
-use Rattle.exec.specs.Stream.{index, same_stream}
+use Rattle.exec.specs.declared.Stream.TheVariants.{Stdout, Stderr, Notes}
+use Rattle.exec.specs.Limits.{cost, is_valid, off_chunk, has_notes, output_pool, pool_of}
+use Rattle.exec.specs.Row.{at, put}
+use Rattle.exec.specs.Stream.{index, stream_at, index_stream_at, same_stream}
 use Rattle.judge.specs.declared.Item.{Item}
 use Rattle.judge.specs.declared.Item.TheVariants.{Granted, Input, Credit, Started, Output, End, InputClosed, Terminal}
 use Rattle.judge.specs.declared.Judge.{Judge}
@@ -27,7 +27,7 @@ pub record Heard (l : Limits) (pre : List Item) (j : Judge) : Type 0 where
   pub closed : j.input_closed ≡ any is_closed pre
   pub terminal : j.terminal ≡ any is_terminal pre
   pub ended : (x : Stream) → has_ended x j ≡ any (is_end x) pre
-  pub left : (i : ℕ) → i < 2 → left_at i j + total (cost_to l i) pre ≡ total (granted_to l i) pre
+  pub left : (i : ℕ) → i < 3 → left_at i j + total (cost_to l i) pre ≡ total (granted_to l i) pre
   pub input : j.input_left + total (charge_of l) pre ≡ total brought_by pre
 
 pub none_heard : (l : Limits) → Heard l [] (new_judge l)
@@ -37,18 +37,15 @@ none_heard l = record {
   spoken = refl;
   closed = refl;
   terminal = refl;
-  ended = λ x. by (eqb (index x) 0);
-  left = λ i h. ap (λ (n : ℕ). n + 0) (zeros (eqb i 0));
+  ended = λ x. alike (eqb (index x) 0) (eqb (index x) 1) false;
+  left = λ i h. ap (λ (n : ℕ). n + 0) (alike (eqb i 0) (eqb i 1) 0);
   input = refl;
 }
   where
-    by : (b : Bool) → cond b false false ≡ false
-    by true = refl
-    by false = refl
-
-    zeros : (b : Bool) → ◌≡◌ {A = ℕ} (cond b 0 0) 0
-    zeros true = refl
-    zeros false = refl
+    alike : {A : Type 0} (b c : Bool) (v : A) → cond b v (cond c v v) ≡ v
+    alike true c v = refl
+    alike false true v = refl
+    alike false false v = refl
 
 -- ---- what it answers
 
@@ -56,34 +53,36 @@ none_heard l = record {
 shifted : (a b c d k : ℕ) → a + k ≡ c → b + k ≡ d → ltb a b ≡ ltb c d
 shifted a b c d k e f = grind (arith, nat_tests, e, f)
 
-pool_least : (l : Limits) (x : Stream) → pool_of l x < 2
+pool_least : (l : Limits) (x : Stream) → pool_of l x < 3
 pool_least l x = by l.shared x
   where
-    by : (s : Bool) (x : Stream) → cond s 0 (index x) < 2
+    by : (s : Bool) (x : Stream) → cond s 0 (index x) < 3
     by true x = omega arith
     by false Stdout = omega arith
     by false Stderr = omega arith
+    by false Notes = omega arith
 
--- a pool that the limits have stands at 0 or 1
+-- a pool that the limits have stands at 0, 1 or 2
 abbrev Stands : Result ℕ Refusal → Type 0
-Stands (Ok i) = i < 2
+Stands (Ok i) = i < 3
 Stands (Err x) = Unit
 
-stands : (s : Bool) (p : Pool) → Stands (output_pool s p)
-stands true Pool.Output = omega arith
-stands false Pool.Stdout = omega arith
-stands false Pool.Stderr = omega arith
-stands true _ = tt
-stands false _ = tt
+stands : (s n : Bool) (p : Pool) → Stands (output_pool s n p)
+stands true n Pool.Output = omega arith
+stands false n Pool.Stdout = omega arith
+stands false n Pool.Stderr = omega arith
+stands false true Pool.Notes = omega arith
+stands true n _ = tt
+stands false n _ = tt
 
 module _ (l : Limits) (pre : List Item) (j : Judge) (h : Heard l pre j) where
-  same_order : (x : Item) → is_out_of_order j x ≡ breaks_order pre x
+  same_order : (x : Item) → is_out_of_order j x ≡ breaks_order l pre x
   same_order (Granted p u) = refl
   same_order (Input n) = refl
   same_order (Credit u) = cc (h.terminal, h.closed)
   same_order Started = cc (h.terminal, h.started, h.spoken)
-  same_order (Output x n) = cc (h.terminal, h.ended x)
-  same_order (End x) = cc (h.terminal, h.ended x)
+  same_order (Output x n) = cc (h.terminal, h.ended x, h.limits)
+  same_order (End x) = cc (h.terminal, h.ended x, h.limits)
   same_order InputClosed = cc (h.terminal, h.closed)
   same_order Terminal = h.terminal
 
@@ -109,8 +108,8 @@ module _ (l : Limits) (pre : List Item) (j : Judge) (h : Heard l pre j) where
 
   same_window : (x : Item) → is_above_window j x ≡ breaks_window l pre x
   same_window (Granted p u) =
-      ap (λ (m : Limits). granted_above (output_pool m.shared p) j u) h.limits
-      ∙ same_granted (output_pool l.shared p) u (stands l.shared p)
+      ap (λ (m : Limits). granted_above (output_pool m.shared (has_notes m) p) j u) h.limits
+      ∙ same_granted (output_pool l.shared (has_notes l) p) u (stands l.shared (has_notes l) p)
   same_window (Credit u) =
       cc (
       ap (λ (m : Limits). ltb m.input.size (j.input_left + u)) h.limits
@@ -132,14 +131,18 @@ pub passed : (order length cost window : Bool) → verdict order length cost win
 passed a b c d e = (grind (arith, e), grind (arith, e), grind (arith, e), grind (arith, e))
 
 -- what stands at one position, once another is put
-at_put : {A : Type 0} (k i : ℕ) (v other : A) (both : List A) → k < 2 → i < 2 → at k other (put i v other both) ≡ cond (eqb i k) v (at k other both)
-at_put zero zero v other both h g = refl
-at_put zero (suc zero) v other both h g = refl
-at_put (suc zero) zero v other both h g = refl
-at_put (suc zero) (suc zero) v other both h g = refl
-at_put (suc (suc k)) i v other both h g = absurd (omega arith)
-at_put zero (suc (suc i)) v other both h g = absurd (omega arith)
-at_put (suc zero) (suc (suc i)) v other both h g = absurd (omega arith)
+at_put : {A : Type 0} (k i : ℕ) (v other : A) (row : List A) → k < 3 → i < 3 → at k other (put i v other row) ≡ cond (eqb i k) v (at k other row)
+at_put k i v other row h g =
+    subst (λ (k : ℕ). at k other (put i v other row) ≡ cond (eqb i k) v (at k other row)) (index_stream_at k h)
+    (subst (λ (i : ℕ). at (index (stream_at k)) other (put i v other row) ≡ cond (eqb i (index (stream_at k))) v (at (index (stream_at k)) other row))
+    (index_stream_at i g)
+    (by (stream_at k) (stream_at i)))
+  where
+    by : (x y : Stream) → at (index x) other (put (index y) v other row) ≡ cond (eqb (index y) (index x)) v (at (index x) other row)
+    by Stdout Stdout = refl
+    by Stderr Stderr = refl
+    by Notes Notes = refl
+    by _ _ = refl
 
 -- a flag that an item sets, or not
 set : (b : Bool) → true ≡ (b || true)
@@ -171,9 +174,9 @@ module _ (j : Judge) where
     where
       by : (x y : Stream) → has_ended y (noted j (End x)) ≡ (has_ended y j || same_stream x y)
       by Stdout Stdout = set (has_ended Stdout j)
-      by Stdout Stderr = unset (has_ended Stderr j)
-      by Stderr Stdout = unset (has_ended Stdout j)
       by Stderr Stderr = set (has_ended Stderr j)
+      by Notes Notes = set (has_ended Notes j)
+      by x y = unset (has_ended y j)
   ended_by y _ = unset (has_ended y j)
 
   limits_by : (x : Item) → (noted j x).limits ≡ j.limits
@@ -181,7 +184,7 @@ module _ (j : Judge) where
   limits_by _ = refl
 
 module _ (l : Limits) (pre : List Item) (j : Judge) (h : Heard l pre j) where
-  module _ (i : ℕ) (k : i < 2) where
+  module _ (i : ℕ) (k : i < 3) where
     -- units put to a pool
     added_at : (p : Result ℕ Refusal) (u : ℕ) → Stands p → at i 0 (left_by p u j.left) ≡ left_at i j + units_at p i u
     added_at (Err x) u s = omega arith
@@ -192,7 +195,7 @@ module _ (l : Limits) (pre : List Item) (j : Judge) (h : Heard l pre j) where
         by false e = omega arith
 
     -- and paid from one that has them
-    paid_at : (q c : ℕ) → q < 2 → c ≤ left_at q j → at i 0 (put q (left_at q j - c) 0 j.left) + cond (eqb q i) c 0 ≡ left_at i j
+    paid_at : (q c : ℕ) → q < 3 → c ≤ left_at q j → at i 0 (put q (left_at q j - c) 0 j.left) + cond (eqb q i) c 0 ≡ left_at i j
     paid_at q c s e = ap (λ (m : ℕ). m + cond (eqb q i) c 0) (at_put i q (left_at q j - c) 0 j.left k s) ∙ by (eqb q i) refl
       where
         by : (b : Bool) → eqb q i ≡ b → cond b (left_at q j - c) (left_at i j) + cond b c 0 ≡ left_at i j
@@ -201,7 +204,7 @@ module _ (l : Limits) (pre : List Item) (j : Judge) (h : Heard l pre j) where
 
     left_after : (x : Item) → is_unpaid j x ≡ false → left_at i (noted j x) + cost_to l i x ≡ left_at i j + granted_to l i x
     left_after (Granted p u) e =
-        omega (arith, ap (λ (m : Limits). at i 0 (left_by (output_pool m.shared p) u j.left)) h.limits ∙ added_at (output_pool l.shared p) u (stands l.shared p))
+        omega (arith, ap (λ (m : Limits). at i 0 (left_by (output_pool m.shared (has_notes m) p) u j.left)) h.limits ∙ added_at (output_pool l.shared (has_notes l) p) u (stands l.shared (has_notes l) p))
     left_after (Output x n) e =
         let f : ltb (left_at (pool_of l x) j) (cost l.output.unit n) ≡ false = ap (λ (m : Limits). ltb (left_at (pool_of m x) j) (cost m.output.unit n)) (sym h.limits) ∙ e in
         omega (

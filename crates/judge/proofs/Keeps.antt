@@ -7,13 +7,13 @@ use Rattle.exec.specs.declared.Limits.{Limits}
 use Rattle.exec.specs.declared.Pool.{Pool}
 use Rattle.exec.specs.declared.Refusal.{Refusal}
 use Rattle.exec.specs.declared.Stream.{Stream}
-use Rattle.exec.specs.declared.Stream.TheVariants.{Stdout, Stderr}
-use Rattle.exec.specs.Limits.{cost, off_chunk, output_pool, pool_of}
+use Rattle.exec.specs.declared.Stream.TheVariants.{Stdout, Stderr, Notes}
+use Rattle.exec.specs.Limits.{cost, off_chunk, has_notes, output_pool, pool_of}
 use Rattle.exec.specs.Stream.{index, same_stream}
 use Rattle.judge.specs.declared.Item.{Item}
 use Rattle.judge.specs.declared.Item.TheVariants.{Granted, Input, Credit, Started, Output, End, InputClosed, Terminal}
-use Rattle.judge.specs.Rules.{is_message, is_credit, is_started, is_output, is_end, is_spoken, is_closed, is_terminal, any, total, units_at, granted_to, cost_to, brought_by, charge_of, Keeps, breaks_order, breaks_length, breaks_cost, granted_breaks, breaks_window, breach}
-use Rattle.judge.proofs.Lists.{total_more, NoneBefore, NoneBehind, behind, before, one_before, before_one, along}
+use Rattle.judge.specs.Rules.{is_message, is_credit, is_started, is_output, is_end, is_spoken, is_unopened, is_closed, is_terminal, any, total, units_at, granted_to, cost_to, brought_by, charge_of, Keeps, stream_breaks, breaks_order, breaks_length, breaks_cost, granted_breaks, breaks_window, breach}
+use Rattle.judge.proofs.Lists.{total_more, NoneBefore, NoneBehind, none_of, each_of, behind, before, one_before, before_one, along}
 use Rattle.judge.proofs.Heard.{passed}
 
 -- what holds of each item of a list, behind those before it
@@ -26,7 +26,7 @@ Passes l xs = AtEach (λ pre x. breach l pre x ≡ Ok tt) xs
 
 -- ---- order
 
-record Ordered (xs : List Item) : Type 0 where
+record Ordered (l : Limits) (xs : List Item) : Type 0 where
   started : NoneBefore is_started is_started xs
   spoken : NoneBefore is_spoken is_started xs
   closed : NoneBefore is_closed is_closed xs
@@ -34,89 +34,102 @@ record Ordered (xs : List Item) : Type 0 where
   ends : (x : Stream) → NoneBefore (is_end x) (is_end x) xs
   outputs : (x : Stream) → NoneBefore (is_end x) (is_output x) xs
   last : NoneBefore is_terminal is_message xs
+  unopened : any (is_unopened l) xs ≡ false
 
 same_is : (y x : Stream) → same_stream y x ≡ true → y ≡ x
 same_is Stdout Stdout e = refl
 same_is Stderr Stderr e = refl
-same_is Stdout Stderr e = absurd (false≢true e)
-same_is Stderr Stdout e = absurd (false≢true e)
+same_is Notes Notes e = refl
+same_is _ _ e = absurd (false≢true e)
 
 same_self : (x : Stream) → same_stream x x ≡ true
 same_self Stdout = refl
 same_self Stderr = refl
+same_self Notes = refl
 
 neither : (a b : Bool) → a ≡ false → b ≡ false → (a || b) ≡ false
 neither a b e f = rw (e, f) refl
 
-module _ (pre : List Item) where
+module _ (l : Limits) (pre : List Item) where
   abbrev t : Bool
   t = any is_terminal pre
 
-  no_started : (x : Item) → is_started x ≡ true → breaks_order pre x ≡ false → any is_started pre ≡ false
+  no_started : (x : Item) → is_started x ≡ true → breaks_order l pre x ≡ false → any is_started pre ≡ false
   no_started Started q e = (or_parts t (any is_started pre) (or_parts (t || any is_started pre) (any is_spoken pre) e).0).1
   no_started _ q e = absurd (false≢true q)
 
-  no_spoken : (x : Item) → is_started x ≡ true → breaks_order pre x ≡ false → any is_spoken pre ≡ false
+  no_spoken : (x : Item) → is_started x ≡ true → breaks_order l pre x ≡ false → any is_spoken pre ≡ false
   no_spoken Started q e = (or_parts (t || any is_started pre) (any is_spoken pre) e).1
   no_spoken _ q e = absurd (false≢true q)
 
-  no_closed : (x : Item) → is_closed x ≡ true → breaks_order pre x ≡ false → any is_closed pre ≡ false
+  no_closed : (x : Item) → is_closed x ≡ true → breaks_order l pre x ≡ false → any is_closed pre ≡ false
   no_closed InputClosed q e = (or_parts t (any is_closed pre) e).1
   no_closed _ q e = absurd (false≢true q)
 
-  no_closed_credit : (x : Item) → is_credit x ≡ true → breaks_order pre x ≡ false → any is_closed pre ≡ false
+  no_closed_credit : (x : Item) → is_credit x ≡ true → breaks_order l pre x ≡ false → any is_closed pre ≡ false
   no_closed_credit (Credit u) q e = (or_parts t (any is_closed pre) e).1
   no_closed_credit _ q e = absurd (false≢true q)
 
-  no_end : (y : Stream) (x : Item) → is_end y x ≡ true → breaks_order pre x ≡ false → any (is_end y) pre ≡ false
-  no_end y (End x) q e = subst (λ (z : Stream). any (is_end z) pre ≡ false) (same_is x y q) (or_parts t (any (is_end x) pre) e).1
+  -- the stream had no End, and is open
+  not_shut : (x : Stream) → (t || stream_breaks l pre x) ≡ false → (any (is_end x) pre ≡ false) × (is_unopened l (End x) ≡ false)
+  not_shut x e = or_parts (any (is_end x) pre) _ (or_parts t (stream_breaks l pre x) e).1
+
+  no_end : (y : Stream) (x : Item) → is_end y x ≡ true → breaks_order l pre x ≡ false → any (is_end y) pre ≡ false
+  no_end y (End x) q e = subst (λ (z : Stream). any (is_end z) pre ≡ false) (same_is x y q) (not_shut x e).0
   no_end y _ q e = absurd (false≢true q)
 
-  no_end_output : (y : Stream) (x : Item) → is_output y x ≡ true → breaks_order pre x ≡ false → any (is_end y) pre ≡ false
-  no_end_output y (Output x n) q e = subst (λ (z : Stream). any (is_end z) pre ≡ false) (same_is x y q) (or_parts t (any (is_end x) pre) e).1
+  no_end_output : (y : Stream) (x : Item) → is_output y x ≡ true → breaks_order l pre x ≡ false → any (is_end y) pre ≡ false
+  no_end_output y (Output x n) q e = subst (λ (z : Stream). any (is_end z) pre ≡ false) (same_is x y q) (not_shut x e).0
   no_end_output y _ q e = absurd (false≢true q)
 
-  no_terminal : (x : Item) → is_message x ≡ true → breaks_order pre x ≡ false → t ≡ false
+  no_terminal : (x : Item) → is_message x ≡ true → breaks_order l pre x ≡ false → t ≡ false
   no_terminal (Granted p u) q e = absurd (false≢true q)
   no_terminal (Input n) q e = absurd (false≢true q)
   no_terminal Started q e = (or_parts t (any is_started pre) (or_parts (t || any is_started pre) (any is_spoken pre) e).0).0
   no_terminal Terminal q e = e
   no_terminal _ q e = (or_parts t _ e).0
 
-module _ (xs : List Item) where
-  ordered : AtEach (λ pre x. breaks_order pre x ≡ false) xs → Ordered xs
+  is_opened : (x : Item) → breaks_order l pre x ≡ false → is_unopened l x ≡ false
+  is_opened (Output x n) e = (not_shut x e).1
+  is_opened (End x) e = (not_shut x e).1
+  is_opened _ e = refl
+
+module _ (l : Limits) (xs : List Item) where
+  ordered : AtEach (λ pre x. breaks_order l pre x ≡ false) xs → Ordered l xs
   ordered h = record {
-    started = λ pre x post e q. no_started pre x q (h pre x post e);
-    spoken = λ pre x post e q. no_spoken pre x q (h pre x post e);
-    closed = λ pre x post e q. no_closed pre x q (h pre x post e);
-    credit = λ pre x post e q. no_closed_credit pre x q (h pre x post e);
-    ends = λ y pre x post e q. no_end pre y x q (h pre x post e);
-    outputs = λ y pre x post e q. no_end_output pre y x q (h pre x post e);
-    last = λ pre x post e q. no_terminal pre x q (h pre x post e);
+    started = λ pre x post e q. no_started l pre x q (h pre x post e);
+    spoken = λ pre x post e q. no_spoken l pre x q (h pre x post e);
+    closed = λ pre x post e q. no_closed l pre x q (h pre x post e);
+    credit = λ pre x post e q. no_closed_credit l pre x q (h pre x post e);
+    ends = λ y pre x post e q. no_end l pre y x q (h pre x post e);
+    outputs = λ y pre x post e q. no_end_output l pre y x q (h pre x post e);
+    last = λ pre x post e q. no_terminal l pre x q (h pre x post e);
+    unopened = none_of (is_unopened l) xs (λ pre x post e. is_opened l pre x (h pre x post e));
   }
 
-  in_order : Ordered xs → AtEach (λ pre x. breaks_order pre x ≡ false) xs
+  in_order : Ordered l xs → AtEach (λ pre x. breaks_order l pre x ≡ false) xs
   in_order h pre (Granted p u) post e = refl
   in_order h pre (Input n) post e = refl
   in_order h pre (Credit u) post e = neither _ _ (h.last pre _ post e refl) (h.credit pre _ post e refl)
   in_order h pre Started post e = neither _ _ (neither _ _ (h.last pre _ post e refl) (h.started pre _ post e refl)) (h.spoken pre _ post e refl)
-  in_order h pre (Output x n) post e = neither _ _ (h.last pre _ post e refl) (h.outputs x pre _ post e (same_self x))
-  in_order h pre (End x) post e = neither _ _ (h.last pre _ post e refl) (h.ends x pre _ post e (same_self x))
+  in_order h pre (Output x n) post e = neither _ _ (h.last pre _ post e refl) (neither _ _ (h.outputs x pre _ post e (same_self x)) (each_of (is_unopened l) xs h.unopened pre _ post e))
+  in_order h pre (End x) post e = neither _ _ (h.last pre _ post e refl) (neither _ _ (h.ends x pre _ post e (same_self x)) (each_of (is_unopened l) xs h.unopened pre _ post e))
   in_order h pre InputClosed post e = neither _ _ (h.last pre _ post e refl) (h.closed pre _ post e refl)
   in_order h pre Terminal post e = h.last pre _ post e refl
 
 -- ---- units
 
 -- the pool that the limits have at a position is a stream's
-stream_of : (l : Limits) (p : Pool) (i : ℕ) → output_pool l.shared p ≡ Ok i → (x : Stream) × (pool_of l x ≡ i)
-stream_of l p i e = by l.shared p e
+stream_of : (l : Limits) (p : Pool) (i : ℕ) → output_pool l.shared (has_notes l) p ≡ Ok i → (x : Stream) × (pool_of l x ≡ i)
+stream_of l p i e = by l.shared (has_notes l) p e
   where
-    by : (s : Bool) (p : Pool) → output_pool s p ≡ Ok i → (x : Stream) × (cond s 0 (index x) ≡ i)
-    by true Pool.Output e = (Stdout, cc)
-    by false Pool.Stdout e = (Stdout, cc)
-    by false Pool.Stderr e = (Stderr, cc)
-    by true _ e = cc
-    by false _ e = cc
+    by : (s n : Bool) (p : Pool) → output_pool s n p ≡ Ok i → (x : Stream) × (cond s 0 (index x) ≡ i)
+    by true n Pool.Output e = (Stdout, cc)
+    by false n Pool.Stdout e = (Stdout, cc)
+    by false n Pool.Stderr e = (Stderr, cc)
+    by false true Pool.Notes e = (Notes, cc)
+    by true n _ e = cc
+    by false n _ e = cc
 
 module _ (l : Limits) (pre : List Item) where
   -- costs stay within credit, item by item
@@ -153,7 +166,7 @@ module _ (l : Limits) (pre : List Item) where
       by false w = omega (arith, h)
 
   fits_one : (i : ℕ) (x : Item) → breaks_window l pre x ≡ false → Fits i pre → total (granted_to l i) pre + granted_to l i x ≤ l.output.size + (total (cost_to l i) pre + cost_to l i x)
-  fits_one i (Granted p u) e h = omega (arith, fits_by (output_pool l.shared p) u i e h)
+  fits_one i (Granted p u) e h = omega (arith, fits_by (output_pool l.shared (has_notes l) p) u i e h)
   fits_one i _ e h = omega (arith, h)
 
   charged_one : (x : Item) → breaks_cost l pre x ≡ false → Charged pre → total (charge_of l) pre + charge_of l x ≤ total brought_by pre + brought_by x
@@ -167,12 +180,12 @@ module _ (l : Limits) (pre : List Item) where
 -- ---- WHAT PASSES KEEPS THE RULES
 
 module _ (l : Limits) (xs : List Item) where
-  four : Passes l xs → AtEach (λ pre x. (breaks_order pre x ≡ false) × (breaks_length l x ≡ false) × (breaks_cost l pre x ≡ false) × (breaks_window l pre x ≡ false)) xs
-  four h pre x post e = passed (breaks_order pre x) (breaks_length l x) (breaks_cost l pre x) (breaks_window l pre x) (h pre x post e)
+  four : Passes l xs → AtEach (λ pre x. (breaks_order l pre x ≡ false) × (breaks_length l x ≡ false) × (breaks_cost l pre x ≡ false) × (breaks_window l pre x ≡ false)) xs
+  four h pre x post e = passed (breaks_order l pre x) (breaks_length l x) (breaks_cost l pre x) (breaks_window l pre x) (h pre x post e)
 
   pub keeps : Passes l xs → Keeps l xs
   keeps h =
-      let o = ordered xs (λ pre x post e. (four h pre x post e).0) in
+      let o = ordered l xs (λ pre x post e. (four h pre x post e).0) in
       record {
         one_started = before_one is_started xs o.started;
         started_first = λ pre post e. o.spoken pre Started post e refl;
@@ -181,6 +194,7 @@ module _ (l : Limits) (xs : List Item) where
         one_end = λ x. before_one (is_end x) xs (o.ends x);
         end_last = λ x pre post e. behind (is_end x) (is_output x) xs (o.outputs x) pre (End x) post e (same_self x);
         terminal_last = λ pre post e. behind is_terminal is_message xs o.last pre Terminal post e refl;
+        none_unopened = o.unopened;
         lengths = λ x n pre post e. on_chunk n (four h pre (Output x n) post e).1;
         costs = λ x. along (Paid l [] (pool_of l x)) xs (omega arith) λ pre y post e k.
             omega (arith, paid_one l pre (pool_of l x) y (four h pre y post e).2 k, total_more (cost_to l (pool_of l x)) pre y, total_more (granted_to l (pool_of l x)) pre y);
@@ -201,7 +215,7 @@ module _ (l : Limits) (xs : List Item) where
 
   -- ---- AND WHAT KEEPS THEM PASSES
 
-  order_kept : Keeps l xs → Ordered xs
+  order_kept : Keeps l xs → Ordered l xs
   order_kept k = record {
     started = one_before is_started xs k.one_started;
     spoken = first;
@@ -210,6 +224,7 @@ module _ (l : Limits) (xs : List Item) where
     ends = λ x. one_before (is_end x) xs (k.one_end x);
     outputs = λ y. before (is_end y) (is_output y) xs (ended y);
     last = before is_terminal is_message xs last;
+    unopened = k.none_unopened;
   }
     where
       first : (pre : List Item) (x : Item) (post : List Item) → xs ≡ pre ++ (x ∷ post) → is_started x ≡ true → any is_spoken pre ≡ false
@@ -247,9 +262,9 @@ module _ (l : Limits) (xs : List Item) where
     cost_kept _ post e = refl
 
     window_kept : (x : Item) (post : List Item) → xs ≡ pre ++ (x ∷ post) → breaks_window l pre x ≡ false
-    window_kept (Granted p u) post e = by (output_pool l.shared p) refl
+    window_kept (Granted p u) post e = by (output_pool l.shared (has_notes l) p) refl
       where
-        by : (q : Result ℕ Refusal) → output_pool l.shared p ≡ q → granted_breaks q l pre u ≡ false
+        by : (q : Result ℕ Refusal) → output_pool l.shared (has_notes l) p ≡ q → granted_breaks q l pre u ≡ false
         by (Err x) w = refl
         by (Ok i) w =
             let s = stream_of l p i w in
@@ -269,4 +284,4 @@ module _ (l : Limits) (xs : List Item) where
 
   pub passes : Keeps l xs → Passes l xs
   passes k pre x post e =
-      rw (in_order xs (order_kept k) pre x post e, length_kept k pre x post e, cost_kept k pre x post e, window_kept k pre x post e) refl
+      rw (in_order l xs (order_kept k) pre x post e, length_kept k pre x post e, cost_kept k pre x post e, window_kept k pre x post e) refl

@@ -63,6 +63,15 @@ unless : (b : Bool) → (b ≡ true → ⊥) → b ≡ false
 unless true h = absurd (h refl)
 unless false h = refl
 
+-- none of a list is so, where each is not
+pub none_of : (p : Item → Bool) (xs : List Item) → ((pre : List Item) (x : Item) (post : List Item) → xs ≡ pre ++ (x ∷ post) → p x ≡ false) → any p xs ≡ false
+none_of p xs h = unless (any p xs) λ a.
+    let f = found p xs a in
+    false≢true (sym (h f.0 f.1 f.2 f.3) ∙ f.4)
+
+pub each_of : (p : Item → Bool) (xs : List Item) → any p xs ≡ false → (pre : List Item) (x : Item) (post : List Item) → xs ≡ pre ++ (x ∷ post) → p x ≡ false
+each_of p xs n pre x post e = (or_parts (p x) (any p post) (or_parts (any p pre) (p x || any p post) (sym (any_append p pre (x ∷ post)) ∙ sym (ap (any p) e) ∙ n)).1).0
+
 -- where one that is q stands, none before it is p
 abbrev pub NoneBefore : (p q : Item → Bool) → List Item → Type 0
 NoneBefore p q xs = (pre : List Item) (x : Item) (post : List Item) → xs ≡ pre ++ (x ∷ post) → q x ≡ true → any p pre ≡ false

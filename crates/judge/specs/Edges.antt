@@ -9,8 +9,8 @@ use Rattle.exec.specs.declared.Refusal.{Refusal}
 use Rattle.exec.specs.declared.Refusal.TheVariants.{OutOfOrder, Chunk, Window, NoLimits}
 use Rattle.exec.specs.declared.Refusal.TheVariants as Refusals
 use Rattle.exec.specs.declared.Stream.{Stream}
-use Rattle.exec.specs.declared.Stream.TheVariants.{Stdout, Stderr}
-use Rattle.exec.specs.Limits.{cost, bytes_window, frames_window, limits_for}
+use Rattle.exec.specs.declared.Stream.TheVariants.{Stdout, Stderr, Notes}
+use Rattle.exec.specs.Limits.{cost, bytes_window, frames_window, limits_for, has_notes}
 use Rattle.exec.specs.Refusal.{number}
 use Rattle.judge.specs.declared.Item.{Item}
 use Rattle.judge.specs.declared.Item.TheVariants.{Granted, Input, Credit, Started, Output, End, InputClosed, Terminal}
@@ -114,6 +114,23 @@ ended : RefusedAt limits (End Stdout ∷ []) (End Stdout) OutOfOrder
 unfolding judged cost
 ended = ((refl, refl), (refl, refl), (refl, refl), (refl, refl), (refl, refl), (refl, refl), (refl, refl), (refl, refl), (refl, refl), (refl, refl), refl, (refl, refl))
 
+-- no Output or End of a stream that is not open, as Notes is not with two streams: from the first item on, of whatever length, paid or not
+unopened : RefusedAt limits [] (Output Notes 0) OutOfOrder
+    × RefusedAt limits [] (Output Notes 1) OutOfOrder
+    × RefusedAt limits [] (Output Notes 4) OutOfOrder
+    × RefusedAt limits [] (Output Notes 5) OutOfOrder
+    × RefusedAt limits [] (End Notes) OutOfOrder
+    × RefusedAt framed [] (Output Notes 1) OutOfOrder
+    × RefusedAt framed [] (End Notes) OutOfOrder
+    × RefusedAt shared [] (Output Notes 1) OutOfOrder
+    × RefusedAt shared (Granted Pool.Output 8 ∷ []) (Output Notes 1) OutOfOrder
+    × RefusedAt shared [] (End Notes) OutOfOrder
+    × RefusedAt limits (Granted Pool.Notes 8 ∷ []) (Output Notes 1) OutOfOrder
+    × RefusedAt limits (Started ∷ End Stdout ∷ End Stderr ∷ []) (End Notes) OutOfOrder
+    × RefusedAt limits (Terminal ∷ []) (End Notes) OutOfOrder
+unfolding judged cost has_notes
+unopened = ((refl, refl), (refl, refl), (refl, refl), (refl, refl), (refl, refl), (refl, refl), (refl, refl), (refl, refl), (refl, refl), (refl, refl), (refl, refl), (refl, refl), (refl, refl))
+
 -- ---- lengths from 1 to chunk, ahead of costs
 
 lengths : RefusedAt limits (Granted Pool.Stdout 8 ∷ []) (Output Stdout 0) Chunk
@@ -161,8 +178,12 @@ lacked : RefusedAt limits (Granted Pool.Output (2 ^ 32 - 1) ∷ Granted Pool.Inp
     × RefusedAt shared (Granted Pool.Stdout 8 ∷ Granted Pool.Stderr 8 ∷ Granted Pool.Input 8 ∷ []) (Output Stderr 1) Window
     × RefusedAt limits (Granted Pool.Input 8 ∷ []) (Input 1) Window
     × Accepted shared (Granted Pool.Input 0 ∷ Granted Pool.Input 9 ∷ Terminal ∷ Granted Pool.Stdout 9 ∷ [])
-unfolding judged cost
-lacked = ((refl, refl), (refl, refl), (refl, refl), (refl, refl), (refl, refl), (refl, refl), refl)
+    × RefusedAt limits (Granted Pool.Notes 8 ∷ []) (Output Stdout 1) Window
+    × RefusedAt limits (Granted Pool.Notes 8 ∷ []) (Output Stderr 1) Window
+    × RefusedAt shared (Granted Pool.Notes 8 ∷ []) (Output Stdout 1) Window
+    × Accepted limits (Granted Pool.Notes 0 ∷ Granted Pool.Notes 9 ∷ Granted Pool.Notes (2 ^ 32 - 1) ∷ Terminal ∷ Granted Pool.Notes 9 ∷ [])
+unfolding judged cost has_notes
+lacked = ((refl, refl), (refl, refl), (refl, refl), (refl, refl), (refl, refl), (refl, refl), refl, (refl, refl), (refl, refl), (refl, refl), refl)
 
 -- ---- input charges within the Credits
 
@@ -230,8 +251,10 @@ behind = refl
 none : RefusedAt (limits_for 0 (bytes_window 8) (bytes_window 8) false) [] Started NoLimits
     × RefusedAt (limits_for 4 (bytes_window 0) (bytes_window 8) false) [] (Output Stdout 5) NoLimits
     × RefusedAt (limits_for 4 (bytes_window 8) (bytes_window 0) false) [] (Input 0) NoLimits
+    × RefusedAt (limits_for 0 (bytes_window 8) (bytes_window 8) false) [] (Output Notes 1) NoLimits
+    × RefusedAt (limits_for 4 (bytes_window 0) (bytes_window 8) false) [] (End Notes) NoLimits
 unfolding judged
-none = ((refl, refl), (refl, refl), (refl, refl))
+none = ((refl, refl), (refl, refl), (refl, refl), (refl, refl), (refl, refl))
 
 -- ---- each sentence by itself: a list that it excludes
 
@@ -253,13 +276,23 @@ late_credit k = true≢false (k.closed_last [] (Credit 1 ∷ []) refl)
 second_end : (x : Stream) → Excluded limits (End x ∷ End x ∷ [])
 second_end Stdout k = let q : 2 ≤ 1 = k.one_end Stdout in absurd (omega (arith, q))
 second_end Stderr k = let q : 2 ≤ 1 = k.one_end Stderr in absurd (omega (arith, q))
+second_end Notes k = let q : 2 ≤ 1 = k.one_end Notes in absurd (omega (arith, q))
 
 late_output : (x : Stream) → Excluded limits (Granted Pool.Stdout 1 ∷ Granted Pool.Stderr 1 ∷ End x ∷ Output x 1 ∷ [])
 late_output Stdout k = true≢false (k.end_last Stdout (Granted Pool.Stdout 1 ∷ Granted Pool.Stderr 1 ∷ []) (Output Stdout 1 ∷ []) refl)
 late_output Stderr k = true≢false (k.end_last Stderr (Granted Pool.Stdout 1 ∷ Granted Pool.Stderr 1 ∷ []) (Output Stderr 1 ∷ []) refl)
+late_output Notes k = true≢false (k.end_last Notes (Granted Pool.Stdout 1 ∷ Granted Pool.Stderr 1 ∷ []) (Output Notes 1 ∷ []) refl)
 
 late_message : Excluded limits (Terminal ∷ Credit 1 ∷ [])
 late_message k = true≢false (k.terminal_last [] (Credit 1 ∷ []) refl)
+
+unopened_output : Excluded shared (Granted Pool.Output 1 ∷ Output Notes 1 ∷ [])
+unfolding has_notes
+unopened_output k = true≢false k.none_unopened
+
+unopened_end : Excluded limits (End Notes ∷ [])
+unfolding has_notes
+unopened_end k = true≢false k.none_unopened
 
 short_output : Excluded framed (Granted Pool.Stdout 1 ∷ Output Stdout 0 ∷ [])
 short_output k = let q : 1 ≤ 0 = (k.lengths Stdout 0 (Granted Pool.Stdout 1 ∷ []) [] refl).0 in absurd (omega (arith, q))

@@ -1,11 +1,11 @@
 -- The judge: what was heard, the units left, and what one item more makes of it. A refused item leaves the judge as it was.
-use Rattle.std.specs.Prelude.{Bool, true, false, cond, ◌||◌, List, [], ◌∷◌, ℕ, ◌+◌, ◌-◌, eqb, ltb, Result, Ok, Err}
+use Rattle.std.specs.Prelude.{Bool, true, false, cond, not, ◌||◌, List, [], ◌∷◌, ℕ, ◌+◌, ◌-◌, eqb, ltb, Result, Ok, Err}
 use Rattle.exec.specs.declared.Limits.{Limits}
 use Rattle.exec.specs.declared.Pool.{Pool}
 use Rattle.exec.specs.declared.Refusal.{Refusal}
 use Rattle.exec.specs.declared.Stream.{Stream}
-use Rattle.exec.specs.Limits.{cost, is_valid, off_chunk, output_pool, pool_of}
-use Rattle.exec.specs.Pair.{at, put}
+use Rattle.exec.specs.Limits.{cost, is_valid, off_chunk, has, has_notes, output_pool, pool_of}
+use Rattle.exec.specs.Row.{at, put}
 use Rattle.exec.specs.Stream.{index}
 use Rattle.judge.specs.declared.Item.{Item}
 use Rattle.judge.specs.declared.Item.TheVariants.{Granted, Input, Credit, Started, Output, End, InputClosed, Terminal}
@@ -19,8 +19,8 @@ new_judge l = record {
   spoken = false;
   input_closed = false;
   terminal = false;
-  ended = false ∷ false ∷ [];
-  left = 0 ∷ 0 ∷ [];
+  ended = false ∷ false ∷ false ∷ [];
+  left = 0 ∷ 0 ∷ 0 ∷ [];
   input_left = 0;
 }
 
@@ -32,13 +32,17 @@ left_at i j = at i 0 j.left
 
 -- ---- the tests
 
+-- a stream may have no Output or End: its End was heard, or it is not open
+abbrev pub is_shut : Stream → Judge → Bool
+is_shut x j = has_ended x j || not (has j.limits x)
+
 abbrev pub is_out_of_order : Judge → Item → Bool
 is_out_of_order j (Granted p u) = false
 is_out_of_order j (Input n) = false
 is_out_of_order j (Credit u) = j.terminal || j.input_closed
 is_out_of_order j Started = (j.terminal || j.started) || j.spoken
-is_out_of_order j (Output x n) = j.terminal || has_ended x j
-is_out_of_order j (End x) = j.terminal || has_ended x j
+is_out_of_order j (Output x n) = j.terminal || is_shut x j
+is_out_of_order j (End x) = j.terminal || is_shut x j
 is_out_of_order j InputClosed = j.terminal || j.input_closed
 is_out_of_order j Terminal = j.terminal
 
@@ -57,7 +61,7 @@ granted_above (Ok i) j u = ltb j.limits.output.size (left_at i j + u)
 granted_above (Err x) j u = false
 
 abbrev pub is_granted_above : Judge → Pool → (units : ℕ) → Bool
-is_granted_above j p u = granted_above (output_pool j.limits.shared p) j u
+is_granted_above j p u = granted_above (output_pool j.limits.shared (has_notes j.limits) p) j u
 
 abbrev pub is_above_window : Judge → Item → Bool
 is_above_window j (Granted p u) = is_granted_above j p u
@@ -97,7 +101,7 @@ left_by (Ok i) u left = put i (at i 0 left + u) 0 left
 left_by (Err x) u left = left
 
 abbrev pub left_granted : Judge → Pool → (units : ℕ) → List ℕ
-left_granted j p u = left_by (output_pool j.limits.shared p) u j.left
+left_granted j p u = left_by (output_pool j.limits.shared (has_notes j.limits) p) u j.left
 
 abbrev pub paid : Judge → Stream → (length : ℕ) → Judge
 paid j x n =

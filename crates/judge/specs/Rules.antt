@@ -1,10 +1,10 @@
 -- 02's rules of A8 over whole lists, without a judge: which lists keep them, and by which number an item breaks them behind the items
 -- before it. Credit and input are no messages; sums are of the items named, so nothing is subtracted.
-use Rattle.std.specs.Prelude.{Bool, true, false, cond, ◌||◌, ◌≡◌, List, [], ◌∷◌, ◌++◌, ℕ, ◌+◌, ◌≤◌, eqb, ltb, Result, Ok, Err}
+use Rattle.std.specs.Prelude.{Bool, true, false, cond, not, ◌||◌, ◌≡◌, List, [], ◌∷◌, ◌++◌, ℕ, ◌+◌, ◌≤◌, eqb, ltb, Result, Ok, Err}
 use Rattle.exec.specs.declared.Limits.{Limits}
 use Rattle.exec.specs.declared.Refusal.{Refusal}
 use Rattle.exec.specs.declared.Stream.{Stream}
-use Rattle.exec.specs.Limits.{cost, off_chunk, output_pool, pool_of}
+use Rattle.exec.specs.Limits.{cost, off_chunk, has, has_notes, output_pool, pool_of}
 use Rattle.exec.specs.Stream.{same_stream}
 use Rattle.judge.specs.declared.Item.{Item}
 use Rattle.judge.specs.declared.Item.TheVariants.{Granted, Input, Credit, Started, Output, End, InputClosed, Terminal}
@@ -43,6 +43,12 @@ is_spoken (Output x n) = true
 is_spoken (End x) = true
 is_spoken _ = false
 
+-- one of a stream that is not open
+abbrev pub is_unopened : Limits → Item → Bool
+is_unopened l (Output x n) = not (has l x)
+is_unopened l (End x) = not (has l x)
+is_unopened l _ = false
+
 abbrev pub is_closed : Item → Bool
 is_closed InputClosed = true
 is_closed _ = false
@@ -75,7 +81,7 @@ units_at (Ok k) i u = cond (eqb k i) u 0
 units_at (Err x) i u = 0
 
 abbrev pub granted_to : Limits → ℕ → Item → ℕ
-granted_to l i (Granted p u) = units_at (output_pool l.shared p) i u
+granted_to l i (Granted p u) = units_at (output_pool l.shared (has_notes l) p) i u
 granted_to l i _ = 0
 
 -- what an Output costs the pool at a position
@@ -106,6 +112,8 @@ pub record Keeps (l : Limits) (xs : List Item) : Type 0 where
   pub end_last : (x : Stream) (pre post : List Item) → xs ≡ pre ++ (End x ∷ post) → any (is_output x) post ≡ false
   -- no message after Terminal
   pub terminal_last : (pre post : List Item) → xs ≡ pre ++ (Terminal ∷ post) → any is_message post ≡ false
+  -- no Output or End of a stream that is not open
+  pub none_unopened : any (is_unopened l) xs ≡ false
   -- Output lengths from 1 to chunk
   pub lengths : (x : Stream) (n : ℕ) (pre post : List Item) → xs ≡ pre ++ (Output x n ∷ post) → (1 ≤ n) × (n ≤ l.chunk)
   -- costs within credit, and credit left at most its window: on the pool of each stream
@@ -118,15 +126,19 @@ pub record Keeps (l : Limits) (xs : List Item) : Type 0 where
 
 -- ---- BY WHICH NUMBER an item breaks them behind the items pre: order, then length, costs and charges, units and windows
 
-abbrev pub breaks_order : (pre : List Item) → Item → Bool
-breaks_order pre (Granted p u) = false
-breaks_order pre (Input n) = false
-breaks_order pre (Credit u) = any is_terminal pre || any is_closed pre
-breaks_order pre Started = (any is_terminal pre || any is_started pre) || any is_spoken pre
-breaks_order pre (Output x n) = any is_terminal pre || any (is_end x) pre
-breaks_order pre (End x) = any is_terminal pre || any (is_end x) pre
-breaks_order pre InputClosed = any is_terminal pre || any is_closed pre
-breaks_order pre Terminal = any is_terminal pre
+-- an Output or End behind the stream's End, or of one that is not open
+abbrev pub stream_breaks : Limits → (pre : List Item) → Stream → Bool
+stream_breaks l pre x = any (is_end x) pre || not (has l x)
+
+abbrev pub breaks_order : Limits → (pre : List Item) → Item → Bool
+breaks_order l pre (Granted p u) = false
+breaks_order l pre (Input n) = false
+breaks_order l pre (Credit u) = any is_terminal pre || any is_closed pre
+breaks_order l pre Started = (any is_terminal pre || any is_started pre) || any is_spoken pre
+breaks_order l pre (Output x n) = any is_terminal pre || stream_breaks l pre x
+breaks_order l pre (End x) = any is_terminal pre || stream_breaks l pre x
+breaks_order l pre InputClosed = any is_terminal pre || any is_closed pre
+breaks_order l pre Terminal = any is_terminal pre
 
 abbrev pub breaks_length : Limits → Item → Bool
 breaks_length l (Output x n) = off_chunk l n
@@ -143,7 +155,7 @@ granted_breaks (Ok i) l pre u = ltb (l.output.size + total (cost_to l i) pre) (t
 granted_breaks (Err x) l pre u = false
 
 abbrev pub breaks_window : Limits → (pre : List Item) → Item → Bool
-breaks_window l pre (Granted p u) = granted_breaks (output_pool l.shared p) l pre u
+breaks_window l pre (Granted p u) = granted_breaks (output_pool l.shared (has_notes l) p) l pre u
 breaks_window l pre (Credit u) = eqb u 0 || ltb (l.input.size + total (charge_of l) pre) (total brought_by pre + u)
 breaks_window l pre _ = false
 
@@ -157,4 +169,4 @@ verdict order length cost window =
     (Ok tt))))
 
 abbrev pub breach : Limits → (pre : List Item) → Item → Result (Unit {0}) Refusal
-breach l pre x = verdict (breaks_order pre x) (breaks_length l x) (breaks_cost l pre x) (breaks_window l pre x)
+breach l pre x = verdict (breaks_order l pre x) (breaks_length l x) (breaks_cost l pre x) (breaks_window l pre x)

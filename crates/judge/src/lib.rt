@@ -9,6 +9,7 @@ ghost use Rattle.judge.specs.Judge.{
   new_judge,
   has_ended,
   left_at,
+  is_shut,
   is_out_of_order,
   is_off_chunk,
   is_unpaid,
@@ -22,7 +23,7 @@ ghost use Rattle.judge.specs.Judge.{
   hear,
 };
 
-use exec::{Limits, Pool, Refusal, Stream, Unit, pair};
+use exec::{Limits, Pool, Refusal, Stream, Unit, row};
 
 // What is heard: the first two were answered Applied, the others are messages.
 #[derive(Clone, Copy, Debug, PartialEq, Eq)]
@@ -48,9 +49,9 @@ pub struct Judge {
     pub input_closed: bool,
     pub terminal: bool,
     // Of each stream, whether its End was heard.
-    pub ended: [bool; 2],
+    pub ended: [bool; 3],
     // The units granted and not spent: of each output pool (of the first alone, where the streams share one), and of the input.
-    pub left: [u32; 2],
+    pub left: [u32; 3],
     pub input_left: u32,
 }
 
@@ -91,8 +92,8 @@ impl Judge {
             spoken: false,
             input_closed: false,
             terminal: false,
-            ended: [false, false],
-            left: [0, 0],
+            ended: [false, false, false],
+            left: [0, 0, 0],
             input_left: 0,
         }
     }
@@ -100,16 +101,23 @@ impl Judge {
     fn has_ended(self, stream: Stream) -> bool
         ensures { result ≡ has_ended stream self }
     {
-        pair::at(stream.index(), self.ended)
+        row::at(stream.index(), self.ended)
     }
 
     fn left_at(self, pool: usize) -> u32
         ensures { result ≡ left_at pool self }
     {
-        pair::at(pool, self.left)
+        row::at(pool, self.left)
     }
 
     // ---- the tests, in the order in which they refuse
+
+    // Whether a stream may have no Output or End: its End was heard, or it is not open.
+    fn is_shut(self, stream: Stream) -> bool
+        ensures { result ≡ is_shut stream self }
+    {
+        self.has_ended(stream) | !self.limits.has(stream)
+    }
 
     // Order: 45.
     fn is_out_of_order(self, item: Item) -> bool
@@ -120,8 +128,8 @@ impl Judge {
             Item::Input(_) => false,
             Item::Credit(_) => self.terminal | self.input_closed,
             Item::Started => self.terminal | self.started | self.spoken,
-            Item::Output(stream, _) => self.terminal | self.has_ended(stream),
-            Item::End(stream) => self.terminal | self.has_ended(stream),
+            Item::Output(stream, _) => self.terminal | self.is_shut(stream),
+            Item::End(stream) => self.terminal | self.is_shut(stream),
             Item::InputClosed => self.terminal | self.input_closed,
             Item::Terminal => self.terminal,
         }
@@ -198,12 +206,12 @@ impl Judge {
 
     // ---- what is kept of an item that breaks no rule
 
-    fn left_granted(self, pool: Pool, units: u32) -> [u32; 2]
+    fn left_granted(self, pool: Pool, units: u32) -> [u32; 3]
         requires { is_granted_above self pool units ≡ false }
         ensures { result ≡ left_granted self pool units }
     {
         match self.limits.output_pool(pool) {
-            Ok(i) => pair::put(
+            Ok(i) => row::put(
                 i,
                 added(self.limits.output.size, self.left_at(i), units),
                 self.left,
@@ -218,7 +226,7 @@ impl Judge {
     {
         let i = self.limits.pool_of(stream);
         let cost = cost_of(self.limits.output.unit, length);
-        let left = pair::put(i, self.left_at(i) - cost as u32, self.left);
+        let left = row::put(i, self.left_at(i) - cost as u32, self.left);
         self.left = left;
         self.spoken = true;
     }
@@ -226,7 +234,7 @@ impl Judge {
     fn end(&mut self, stream: Stream)
         ensures { self.new ≡ ended_now self.old stream }
     {
-        let ended = pair::put(stream.index(), true, self.ended);
+        let ended = row::put(stream.index(), true, self.ended);
         self.ended = ended;
         self.spoken = true;
     }

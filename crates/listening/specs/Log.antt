@@ -39,7 +39,7 @@ plain_items =
     ∷ entry (bytes "Terminal") Item.Terminal
     ∷ []
 
--- with one
+-- with one (an Output's word is its stream, and Notes is none: a log names two streams, as a card does)
 abbrev pub input_of : List ℕ → Option Item
 input_of a = option_map Item.Input (u64 a)
 

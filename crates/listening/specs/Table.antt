@@ -56,6 +56,11 @@ bad_lines : (reads "" ≡ bad) × (reads "," ≡ bad) × (reads "Output,Stdout,3
 unfolding reads
 bad_lines = (refl, refl, refl, refl, refl, refl, refl, refl, refl, refl, refl, refl, refl, refl, refl, refl, refl, refl, refl, refl, refl, refl, refl, refl)
 
+-- a log names two streams, as a card does: a line that names Notes, as stream or pool, is a bad one
+notes : (reads "Notes,3" ≡ bad) × (reads "End,Notes" ≡ bad) × (reads "credit,Notes,8" ≡ bad)
+unfolding reads
+notes = (refl, refl, refl)
+
 limits : (reads "limits,4,B,8,F,2,0" ≡ begins (limits_for 4 (bytes_window 8) (frames_window 2) false))
     × (reads "limits,4294967295,F,1,B,4294967295,1" ≡ begins (limits_for 4294967295 (frames_window 1) (bytes_window 4294967295) true))
     × (reads "limits,0,B,0,B,0,0" ≡ begins (limits_for 0 (bytes_window 0) (bytes_window 0) false))
@@ -82,6 +87,7 @@ logs : (log "" ≡ bytes "refused,30,0\n")
     × (log "limits,4,B,8,B,8,0\nCredit,8\ninput,3\nCredit,3\n" ≡ bytes "accepted,3\n")
     × (log "limits,4,B,8,B,8,0\nCredit,8\ninput,3\nCredit,4\n" ≡ bytes "refused,3,3\n")
     × (log "limits,4,B,8,B,8,0\nTerminal\nStdout,0\n" ≡ bytes "refused,45,2\n")
+    × (log "limits,4,B,8,B,8,0\nStarted\nEnd,Notes\n" ≡ bytes "refused,30,2\n")
     × (log "limits,0,B,8,B,8,0\nStarted\n" ≡ bytes "refused,10,0\n")
     × (log "limits,4\nStarted\n" ≡ bytes "refused,30,0\n")
     × (log "limits,4,B,8,B,8,0\nStarted\nlimits" ≡ bytes "accepted,1\nrefused,30,0\n")
@@ -89,7 +95,7 @@ logs : (log "" ≡ bytes "refused,30,0\n")
     × (log "limits,4,B,8,B,8,0\nStarted\n\nStdout,0" ≡ bytes "refused,30,2\n")
     × (log "Started\nlimits,4,B,8,B,8,0\nStarted\nlimits,4,B,8,B,8,0\nStarted\nStarted\nStarted\nlimits" ≡ bytes "refused,30,0\naccepted,1\nrefused,45,2\nrefused,30,0\n")
 unfolding log
-logs = (refl, refl, refl, refl, refl, refl, refl, refl, refl, refl, refl, refl, refl)
+logs = (refl, refl, refl, refl, refl, refl, refl, refl, refl, refl, refl, refl, refl, refl)
 
 -- a line of 255 bytes, and one of 256; limits of 256 are a bad line of the list that stands
 zeros : ℕ → List ℕ
