@@ -126,10 +126,10 @@ taken_inv false b st s a n l m h = h
 taken_inv true b st s a n l m h = input_inv (is_kept s.limits s.input (length b)) b st s a n l m h
 
 -- the bytes of a stream are kept by a store that keeps those of the streams that are open
-spared : (s : Runner) (y : Stream) {st st' : List ℕ}
+spared : (s : Runner) (y : Stream) (st st' : List ℕ)
     → (has s.limits y ≡ true → ring st' (base y s.limits.chunk) s.limits.chunk (out_of y s).start (out_of y s).queued ≡ ring st (base y s.limits.chunk) s.limits.chunk (out_of y s).start (out_of y s).queued)
     → ring st' (place s.limits y) s.limits.chunk (out_of y s).start (out_of y s).queued ≡ ring st (place s.limits y) s.limits.chunk (out_of y s).start (out_of y s).queued
-spared s y {st} {st'} h = by (has s.limits y) refl
+spared s y st st' h = by (has s.limits y) refl
   where
     by : (b : Bool) → has s.limits y ≡ b
         → ring st' (cond b (base y s.limits.chunk) 0) s.limits.chunk (out_of y s).start (out_of y s).queued ≡ ring st (cond b (base y s.limits.chunk) 0) s.limits.chunk (out_of y s).start (out_of y s).queued
@@ -151,7 +151,7 @@ output_inv st x b s a o h =
       on_one_lem (has_notes s.limits) s.outputs (Claim (output_store s x b st) s.limits) s.limits refl x _ _ a.tallies o
           (rw (placed s.limits x o) (taken_by_lem st (base x c) c (is_shut x s) b (out_of x s) (tally_of x a) (or_self_left (out_of x s).closed s.flags.gave_up) g))
           (λ y e. moved st _ (place s.limits y) c (out_of y s) (tally_of y a)
-          (spared s y
+          (spared s y st (output_store s x b st)
           (λ p. let v : Good st (base y c) c (out_of y s) (tally_of y a) = subst (λ (q : ℕ). Good st q c (out_of y s) (tally_of y a)) (placed s.limits y p) (h.1 y) in
           write_other (base x c) c (out_of x s).start (out_of x s).queued b k st g.2 (omega arith) few (omega arith)
           (base y c) c (out_of y s).start (out_of y s).queued v.2 (let z = v.1.inside in omega arith) v.1.within (bases_apart x y c e)))
@@ -218,10 +218,10 @@ unheard : (s : State) (a : Account.Account) (c : Call) → InvS (next s c) a →
 unheard s a c h = either (InvS (next s c)) (is_refused (answer s c)) a a h h
 
 -- a call that names a stream: where that is not open it is refused, and adds nothing
-named : (c : Call) (s : State) {t : State} (a : Account.Account) (x : Stream) (r : Answer) → InvS s a → (has s.runner.limits x ≡ true → InvS t (add a c r))
+named : (c : Call) (s t : State) (a : Account.Account) (x : Stream) (r : Answer) → InvS s a → (has s.runner.limits x ≡ true → InvS t (add a c r))
     → InvS (cond (has s.runner.limits x) t s) (add a c (if_open s x r))
 unfolding add
-named c s {t} a x r h k = by_open (λ (u : State) (q : Answer). InvS u (add a c q)) s t x r k h
+named c s t a x r h k = by_open (λ (u : State) (q : Answer). InvS u (add a c q)) s t x r k h
 
 -- every call, while the runner has not finished
 pub step_inv : (c : Call) (s : State) (a : Account.Account) → s.runner.flags.finished ≡ false → RangedS s → Roomy s → InvS s a → InvS (next s c) (add a c (answer s c))
@@ -240,25 +240,25 @@ step_inv (Call.launched x) s a f r m h =
     along s.bytes (λ (y : Account.Account). Inv s.bytes (launched_if (awaits_launch u) x u) (mk (launch_r y.rep) y.tallies)) u a h
     (launched_inv s.bytes (awaits_launch u) x u a.tallies refl (refl, h.1))
 step_inv (Call.output x b) s a f r m h =
-    named (Call.output x b) s a x (Call.Taken _) h (λ o. output_inv s.bytes x b s.runner a o h)
+    named (Call.output x b) s _ a x (Call.Taken _) h (λ o. output_inv s.bytes x b s.runner a o h)
 step_inv (Call.discarded x n) s a f r m h =
     let u : Runner = s.runner in
-    named (Call.discarded x n) s a x Call.Ok h (λ o.
+    named (Call.discarded x n) s _ a x Call.Ok h (λ o.
     told_inv s.bytes x (lost_out (ltb 0 n)) (marked (ltb 0 n)) u a o refl refl (discarded_by s.bytes (place u.limits x) u.limits.chunk (ltb 0 n) (out_of x u) (tally_of x a) (h.1 x)) h)
 step_inv (Call.output_closed x) s a f r m h =
     let u : Runner = s.runner in
-    named (Call.output_closed x) s a x Call.Ok h (λ o. (
+    named (Call.output_closed x) s _ a x Call.Ok h (λ o. (
       ap (close_r x) h.0 ∙ closed_rep x (closed_out (out_of x u)) u refl refl,
       on_out (has_notes u.limits) u.outputs (λ (y : Stream) (o : Output). Claim s.bytes u.limits y o (tally_of y a)) x (closed_out (out_of x u))
           (closed_by s.bytes (place u.limits x) u.limits.chunk (out_of x u) (tally_of x a) (h.1 x)) h.1,
     ))
 step_inv (Call.output_failed x) s a f r m h =
     let u : Runner = s.runner in
-    named (Call.output_failed x) s a x Call.Ok h (λ o.
+    named (Call.output_failed x) s _ a x Call.Ok h (λ o.
     shut_inv s.bytes x failed_out (marked true) u a o refl refl (failed_by s.bytes (place u.limits x) u.limits.chunk (out_of x u) (tally_of x a) (h.1 x)) h)
 step_inv (Call.output_hung_up x) s a f r m h =
     let u : Runner = s.runner in
-    named (Call.output_hung_up x) s a x Call.Ok h (λ o. (
+    named (Call.output_hung_up x) s _ a x Call.Ok h (λ o. (
       ap (hang_r x) h.0 ∙ hung_rep x u o,
       on_out (has_notes u.limits) u.outputs (λ (y : Stream) (o : Output). Claim s.bytes u.limits y o (tally_of y a)) x (hung_up (out_of x u)) (h.1 x) h.1,
     ))
@@ -300,13 +300,20 @@ output_length x b st s o n f =
     let i = f.inside in let w = f.within in let z = base_behind s.limits x in let p = placed s.limits x o in
     write_length (base x s.limits.chunk) s.limits.chunk (out_of x s).start (out_of x s).queued b (keeps (is_shut x s) (out_of x s).discarding (room x s) (length b)) st (omega arith) (omega arith) has (omega arith)
 
+open_length : (s t : State) (x : Stream) → length t.bytes ≡ length s.bytes → length (cond (has s.runner.limits x) t s).bytes ≡ length s.bytes
+open_length s t x h = either (λ (u : State). length u.bytes ≡ length s.bytes) (has s.runner.limits x) t s h refl
+
 bytes_length : (c : Call) (s : State) → RangedS s → Roomy s → length (next s c).bytes ≡ length s.bytes
 unfolding next input_store
 bytes_length (Call.input k b) s r m =
     let u : Runner = s.runner in let x : (Result Admission Refusal) = admits u.key k in
     taken_length (is_taken x u) b s.bytes u m r.2.1 (kept_room b s r)
 bytes_length (Call.output x b) s r m =
-    by_open (λ (t : State) (q : Answer). length t.bytes ≡ length s.bytes) s _ x (Call.Taken 0) (λ o. output_length x b s.bytes s.runner o m (r.0 x)) refl
+    by_open (λ (t : State) (q : Answer). length t.bytes ≡ length s.bytes) s _ x Call.Ok (λ o. output_length x b s.bytes s.runner o m (r.0 x)) refl
+bytes_length (Call.discarded x n) s r m = open_length s _ x refl
+bytes_length (Call.output_closed x) s r m = open_length s _ x refl
+bytes_length (Call.output_failed x) s r m = open_length s _ x refl
+bytes_length (Call.output_hung_up x) s r m = open_length s _ x refl
 bytes_length _ s r m = refl
 
 pub roomy_next : (c : Call) (s : State) → RangedS s → Roomy s → Roomy (next s c)

@@ -2,7 +2,7 @@
 use Rattle.std.specs.Prelude.{Option, Result, Some, None, Ok}
 use Rattle.exec.specs.declared.Receipt.{Receipt}
 use Rattle.exec.specs.declared.Refusal.{Refusal}
-use mathlib.Core.Bool.{Bool, true, false, true≢false, false≢true, ◌||◌, or-true, or_assoc}
+use mathlib.Core.Bool.{Bool, true, false, true≢false, false≢true, ◌||◌, or-true, or_assoc, cond}
 use mathlib.Core.Path.{◌≡◌, refl, sym, ap, ◌∙◌}
 use mathlib.Core.List.{List, [], ◌∷◌, ◌++◌}
 use Prim.Native.Nat.{ℕ}
@@ -14,7 +14,7 @@ use Rattle.choice.specs.declared.Choice.{Choice}
 use Rattle.runner.specs.declared.runner.Runner.{Runner}
 use Rattle.choice.specs.Order.{if_else, order}
 use Rattle.exec.specs.Key.{admits}
-use Rattle.exec.specs.Limits.{output_pool, has_notes}
+use Rattle.exec.specs.Limits.{output_pool, has_notes, has}
 use Rattle.runner.specs.Calls.{asked_for}
 use Rattle.runner.specs.Life.{close_runner_input, launched_next, settled_next, cancel_answer, outcome_of}
 use Rattle.runner.specs.Streams.{output_next, discarded_next, closed_next, failed_next, hung_up_next, credit_answer, credit_next, input_answer, input_next, end_answer, end_next, written_next}
@@ -22,7 +22,7 @@ use Rattle.runner.specs.Message.{choose, output_paid, output_sent, effect, wish,
 use Rattle.calls.specs.Call as Call
 use Rattle.calls.specs.Call.{Call, Answer}
 use Rattle.account.specs.Step.{State, received_as, asks}
-use Rattle.account.proofs.Plain.{said, next, answer, run, after_all}
+use Rattle.account.proofs.Plain.{said, next, answer, run, after_all, if_open, of_open, by_open}
 use Rattle.account.specs.Claim.{is_message, is_terminal, Silent, any_terminal}
 use Rattle.account.proofs.Timers.{detach_keeps, exited_keeps, launched_keeps}
 use Rattle.runner.specs.SmallestLaws.{input_smallest, end_smallest, written_smallest, close_smallest}
@@ -52,6 +52,9 @@ effect_framed (Choice.Output x n) s b = kept (sent_frame x n s)
 effect_framed Choice.Terminal s b = ended refl refl refl
 effect_framed _ s b = kept refl
 
+open_framed : (x : Stream) (s : State) {t : State} {a : Answer} → frame t.runner ≡ frame s.runner → Framed s.runner (cond (has s.runner.limits x) t s).runner (if_open s x a)
+open_framed x s {t} {a} h = by_open (λ (u : State) (r : Answer). Framed s.runner u.runner r) s t x a (λ o. kept h) (kept refl)
+
 pub framed : (c : Call) (s : State) → Framed s.runner (next s c).runner (answer s c)
 unfolding next answer credit_next input_next end_next launched_next output_next discarded_next closed_next failed_next hung_up_next written_next close_runner_input settled_next
 framed (Call.cancel now k c) s = kept (cancel_frame (admits s.runner.key k) now c s.runner)
@@ -65,6 +68,11 @@ framed (Call.dropped now) s = kept (detach_keeps _ (timed s.runner) now Cause.Dr
 framed (Call.reset now) s = kept (detach_keeps _ (timed s.runner) now Cause.Reset s.runner refl)
 framed (Call.disconnect now) s = kept (detach_keeps _ (timed s.runner) now Cause.Disconnected s.runner refl)
 framed (Call.tick now) s = kept (ticked_frame now s.runner)
+framed (Call.output x b) s = open_framed x s refl
+framed (Call.discarded x n) s = open_framed x s refl
+framed (Call.output_closed x) s = open_framed x s refl
+framed (Call.output_failed x) s = open_framed x s refl
+framed (Call.output_hung_up x) s = open_framed x s refl
 framed Call.next_request s = kept (wished_frame (wish s.runner) s.runner)
 framed (Call.next_message buffer) s = effect_framed (choose s.runner (length buffer)) s.runner s.bytes
 framed _ s = kept refl
@@ -98,6 +106,9 @@ quiet_wish : (w : Option Request) → is_message (asks (asked_for w)) ≡ false
 quiet_wish (Some (Request.Terminate c)) = refl
 quiet_wish _ = refl
 
+open_quiet : (x : Stream) (s : State) (a : Answer) → is_message a ≡ false → is_message (if_open s x a) ≡ false
+open_quiet x s a h = of_open (λ r. is_message r ≡ false) s x a h refl
+
 pub data Kind (s : State) : Call → Type 0 where
   quiet : {c : Call} → is_message (answer s c) ≡ false → Kind s c
   speaks : (buffer : List ℕ) → Kind s (Call.next_message buffer)
@@ -108,6 +119,12 @@ kind (Call.credit k p u) s = quiet (quiet_received (credit_answer (admits s.runn
 kind (Call.input k b) s = quiet (quiet_received (input_answer (admits s.runner.key k) s.runner (length b)))
 kind (Call.end_input k) s = quiet (quiet_received (end_answer (admits s.runner.key k) s.runner))
 kind (Call.cancel now k c) s = quiet (quiet_received (cancel_answer (admits s.runner.key k) s.runner now))
+kind (Call.output x b) s = quiet (open_quiet x s _ refl)
+kind (Call.discarded x n) s = quiet (open_quiet x s _ refl)
+kind (Call.output_closed x) s = quiet (open_quiet x s _ refl)
+kind (Call.output_failed x) s = quiet (open_quiet x s _ refl)
+kind (Call.output_hung_up x) s = quiet (open_quiet x s _ refl)
+kind (Call.read_allowance x) s = quiet (open_quiet x s _ refl)
 kind Call.next_request s = quiet (quiet_wish (wish s.runner))
 kind (Call.next_message n) s = speaks n
 kind _ s = quiet refl

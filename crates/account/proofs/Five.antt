@@ -1,6 +1,6 @@
 -- The fourth part: Terminal by the fifth message after the late tick.
 use Rattle.output.specs.Outputs.{notes}
-use Rattle.output.specs.Output.{over as over_output}
+use Rattle.output.specs.Output.{over as over_output, ended_out}
 use Rattle.std.specs.Prelude.{Option, Result, Some, None, Ok, Err}
 use Rattle.exec.specs.declared.Admission.TheVariants.{Own, Stale}
 use Rattle.exec.specs.declared.Admission.{Admission}

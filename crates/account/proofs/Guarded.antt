@@ -183,9 +183,8 @@ unfolding said
 said_calm (Choice.End x) r bytes = refl
 said_calm _ r bytes = refl
 
-closed_calm : (b : Bool) (a : Answer) → is_stop a ≡ false → is_stop (cond b a (Call.Refused 2)) ≡ false
-closed_calm true a h = h
-closed_calm false a h = refl
+open_calm : (s : State) (x : Stream) (a : Answer) → is_stop a ≡ false → is_stop (Plain.if_open s x a) ≡ false
+open_calm s x a h = Plain.of_open (λ r. is_stop r ≡ false) s x a h refl
 
 calm : (s : State) (c : Call) → is_stop (Plain.answer s c) ≡ false
 unfolding Plain.answer
@@ -193,12 +192,12 @@ calm s (Call.credit k p u) = credit_calm (admits s.runner.key k) (output_pool s.
 calm s (Call.input k b) = input_calm (admits s.runner.key k) s.runner (length b) (admits_calm s.runner.key k)
 calm s (Call.end_input k) = end_calm (admits s.runner.key k) s.runner (admits_calm s.runner.key k)
 calm s (Call.cancel now k c) = cancel_calm (admits s.runner.key k) s.runner now (admits_calm s.runner.key k)
-calm s (Call.output x b) = closed_calm (has s.runner.limits x) _ refl
-calm s (Call.discarded x n) = closed_calm (has s.runner.limits x) _ refl
-calm s (Call.output_closed x) = closed_calm (has s.runner.limits x) _ refl
-calm s (Call.output_failed x) = closed_calm (has s.runner.limits x) _ refl
-calm s (Call.output_hung_up x) = closed_calm (has s.runner.limits x) _ refl
-calm s (Call.read_allowance x) = closed_calm (has s.runner.limits x) _ refl
+calm s (Call.output x b) = open_calm s x _ refl
+calm s (Call.discarded x n) = open_calm s x _ refl
+calm s (Call.output_closed x) = open_calm s x _ refl
+calm s (Call.output_failed x) = open_calm s x _ refl
+calm s (Call.output_hung_up x) = open_calm s x _ refl
+calm s (Call.read_allowance x) = open_calm s x _ refl
 calm s Call.next_request = wish_calm (wish s.runner)
 calm s (Call.next_message buffer) = said_calm (choose s.runner (length buffer)) s.runner s.bytes
 calm s _ = refl

@@ -1,4 +1,5 @@
 -- The replay keeps step with the runner's life cycle, and each stream with its account, at every stage of a call.
+use Rattle.exec.specs.declared.Stream.TheVariants.{Notes}
 use Rattle.std.specs.Prelude.{Option, Result, None, Ok}
 use Rattle.exec.specs.declared.Admission.TheVariants.{Own}
 use Rattle.exec.specs.declared.Admission.{Admission}
@@ -162,7 +163,7 @@ module _ (st : List ℕ) where
   pub grace_inv : (b : Bool) (s : Runner) (a : Account) → Inv st s a → Inv st (grace_if b s) a
   unfolding end_grace
   grace_inv false s a h = h
-  grace_inv true s a h = (h.0, λ x. rw (out_each (has_notes s.limits) s.outputs grace_ended refl x) (end_grace_lem st (place s.limits x) s.limits.chunk (out_of x s) (tally_of x a) (h.1 x)))
+  grace_inv true s a h = (h.0 ∙ rw (out_each (has_notes s.limits) s.outputs grace_ended refl Notes) refl, λ x. rw (out_each (has_notes s.limits) s.outputs grace_ended refl x) (end_grace_lem st (place s.limits x) s.limits.chunk (out_of x s) (tally_of x a) (h.1 x)))
 
   terminate_if_inv : (b : Bool) (now : ℕ) (c : Cause) (s : Runner) (a : Account) → Inv st s a → Inv st (terminate_if b now c s) (mk (begin_if b now a.rep) a.tallies)
   unfolding begin_termination pass_grace begin_if
@@ -192,7 +193,7 @@ module _ (st : List ℕ) where
   give_up_if_inv false c s a h = at_home s a h
   give_up_if_inv true true s a h = (refl, h.1)
   give_up_if_inv true false s a h = (
-    rw (given_exit s.life.exit) refl,
+    rw (given_exit s.life.exit, out_each (has_notes s.limits) s.outputs given_up refl Notes) refl,
     λ x. rw (out_each (has_notes s.limits) s.outputs given_up refl x, one_both marked_unless (rep s).closed a.tallies x, one_per (λ (y : Stream). (out_of y s).closed) x) (given_up_lem st (place s.limits x) s.limits.chunk (out_of x s) (tally_of x a) (h.1 x)),
   )
 
@@ -217,7 +218,7 @@ module _ (st : List ℕ) where
   unfolding abandon_open_streams abandon_streams_a
   streams_inv false s a h = at_home s a h
   streams_inv true s a h = (
-    refl,
+    rw (out_each (has_notes s.limits) s.outputs abandoned refl Notes) refl,
     λ x. rw (out_each (has_notes s.limits) s.outputs abandoned refl x, one_both marked_unless (both ◌||◌ (rep s).closed (rep s).hung) a.tallies x, one_both ◌||◌ (rep s).closed (rep s).hung x, one_per (λ (y : Stream). (out_of y s).closed) x, one_per (λ (y : Stream). (out_of y s).hung_up) x) (abandoned_by st (place s.limits x) s.limits.chunk (out_of x s) (tally_of x a) (h.1 x)),
   )
 
@@ -268,7 +269,7 @@ module _ (st : List ℕ) where
   detach_if_inv false false now c s a ff h =
       let t : Runner = terminate s now c in
       let g : Inv st t (mk (begin now a.rep) a.tallies) = terminate_inv now c s a h in
-      (ap (detached_r now) g.0, λ x. rw (out_each (has_notes t.limits) t.outputs grace_ended refl x) (end_grace_lem st (place t.limits x) t.limits.chunk (out_of x t) (tally_of x a) (g.1 x)))
+      (ap (detached_r now) g.0 ∙ rw (out_each (has_notes t.limits) t.outputs grace_ended refl Notes) refl, λ x. rw (out_each (has_notes t.limits) t.outputs grace_ended refl x) (end_grace_lem st (place t.limits x) t.limits.chunk (out_of x t) (tally_of x a) (g.1 x)))
 
   pub detach_inv : (now : ℕ) (c : Cause) (s : Runner) (a : Account) → s.flags.finished ≡ false → Inv st s a → Inv st (detach_next s now c) (detach_a now a)
   unfolding detach_next cut_off_once cut_off detach_a

@@ -65,8 +65,8 @@ module _ (P : Stream → Output → Type 0) (h : Stands P) where
   }
 
   -- a call that names a stream: where that is not open, nothing changes
-  named : (x : Stream) (s : State) {t : State} → All P s.runner → All P t.runner → All P (cond (has s.runner.limits x) t s).runner
-  named x s p q = either (λ (u : State). All P u.runner) (has s.runner.limits x) _ _ q p
+  named : (x : Stream) (s t : State) → All P s.runner → All P t.runner → All P (cond (has s.runner.limits x) t s).runner
+  named x s t p q = either (λ (u : State). All P u.runner) (has s.runner.limits x) t s q p
 
   wished_keeps : (w : Option Request) (r : Runner) → All P r → All P (wish_effect w r)
   unfolding wish_effect
@@ -86,9 +86,9 @@ module _ (P : Stream → Output → Type 0) (h : Stands P) where
   quiet_keeps Call.next_request s e p = wished_keeps (wish s.runner) s.runner p
   quiet_keeps (Call.output x b) s e p =
       let r : Runner = s.runner in
-      named x s p (on x (intake (is_shut x r) (out_of x r).discarding (room x r) (length b)) r (h.takes x r.flags.gave_up (out_of x r).discarding (room x r) (length b) (out_of x r)) p)
-  quiet_keeps (Call.discarded x n) s e p = named x s p (on x (lost_out (ltb 0 n)) s.runner (h.loses x (ltb 0 n) (out_of x s.runner)) p)
-  quiet_keeps (Call.output_closed x) s e p = named x s p (on x closed_out s.runner (h.closes x (out_of x s.runner)) p)
-  quiet_keeps (Call.output_failed x) s e p = named x s p (on x failed_out s.runner (h.fails x (out_of x s.runner)) p)
-  quiet_keeps (Call.output_hung_up x) s e p = named x s p (on x hung_up s.runner (h.hangs x (out_of x s.runner)) p)
+      named x s _ p (on x (intake (is_shut x r) (out_of x r).discarding (room x r) (length b)) r (h.takes x r.flags.gave_up (out_of x r).discarding (room x r) (length b) (out_of x r)) p)
+  quiet_keeps (Call.discarded x n) s e p = named x s _ p (on x (lost_out (ltb 0 n)) s.runner (h.loses x (ltb 0 n) (out_of x s.runner)) p)
+  quiet_keeps (Call.output_closed x) s e p = named x s _ p (on x closed_out s.runner (h.closes x (out_of x s.runner)) p)
+  quiet_keeps (Call.output_failed x) s e p = named x s _ p (on x failed_out s.runner (h.fails x (out_of x s.runner)) p)
+  quiet_keeps (Call.output_hung_up x) s e p = named x s _ p (on x hung_up s.runner (h.hangs x (out_of x s.runner)) p)
   quiet_keeps _ s e p = p

@@ -106,6 +106,14 @@ answer s Call.memory_bound = Call.Value (byte_need s.runner.limits)
 answer s Call.key = Call.IsKey s.runner.key
 answer s Call.limits = Call.AreLimits s.runner.limits
 
+-- what holds of both answers
+pub of_open : (P : Answer → Type 0) (s : State) (x : Stream) (a : Answer) → P a → P (Call.Refused 2) → P (if_open s x a)
+of_open P s x a h k = by (has s.runner.limits x)
+  where
+    by : (b : Bool) → P (cond b a (Call.Refused 2))
+    by true = h
+    by false = k
+
 -- what holds of both ways that such a call may go
 pub by_open : (P : State → Answer → Type 0) (s t : State) (x : Stream) (a : Answer) → (has s.runner.limits x ≡ true → P t a) → P s (Call.Refused 2)
     → P (cond (has s.runner.limits x) t s) (if_open s x a)

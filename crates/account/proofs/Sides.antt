@@ -161,14 +161,14 @@ module _ (b : Bool) (os : List Output) where
       row h k l = rw (h, k, l) refl
 
   -- one put back: the third is read where it is open
-  third : (P : Output → Type 0) (o : Output) → P o → P (read Notes) → P (output_in Notes (seen b (put_output Notes o os)))
+  pub third : (P : Output → Type 0) (o : Output) → P o → P (read Notes) → P (output_in Notes (seen b (put_output Notes o os)))
   third P o p q = by b q
     where
       by : (b : Bool) → P (cond b (notes os) over) → P (cond b o over)
       by true q = p
       by false q = q
 
-  third_or : (P : Output → Type 0) (o : Output) → P o → P over → P (output_in Notes (seen b (put_output Notes o os)))
+  pub third_or : (P : Output → Type 0) (o : Output) → P o → P over → P (output_in Notes (seen b (put_output Notes o os)))
   third_or P o p q = by b
     where
       by : (b : Bool) → P (cond b o over)

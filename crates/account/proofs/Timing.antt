@@ -26,7 +26,7 @@ use Rattle.exec.specs.Key.{admits}
 use Rattle.lifecycle.specs.Life.{exit_known, is_fenced}
 use Rattle.lifecycle.specs.Setters.{set_timeout_at}
 use Rattle.input.specs.Input.{close_input, close_when_taken, pop_in, end_input, receive_input, written_input}
-use Rattle.output.specs.Output.{abandoned, closed_out, failed_out, hung_up, lost_out, ended_out, asked_out, sent_out}
+use Rattle.output.specs.Output.{grace_ended, given_up, abandoned, closed_out, failed_out, hung_up, lost_out, ended_out, asked_out, sent_out}
 use Rattle.output.specs.Outputs.{put_output}
 use Rattle.runner.specs.State.{with_clocks, with_input, with_outputs, with_flow, out_of, at}
 use Rattle.runner.specs.Life as Life
@@ -59,7 +59,7 @@ module _ (P : Option ℕ → Type 0) (lower : (d e : Option ℕ) → P d → P (
   low_grace false s h = same h
   low_grace true s h = record {
     hold = (h.0, h.1, right (dry_grace s), on_right (known_grace s) h.3);
-    less = λ n. le_refl (left_over s);
+    less = λ n. rw (out_each (has_notes s.limits) s.outputs grace_ended refl Notes) (le_refl (left_over s));
   }
 
   pub low_terminate : (now : ℕ) (c : Cause) (s : Runner) → Phase P s → Low s (terminate s now c)
@@ -80,7 +80,7 @@ module _ (P : Option ℕ → Type 0) (lower : (d e : Option ℕ) → P d → P (
   unfolding give_up
   low_give_up false c s e h = same h
   low_give_up true true s e h = record { hold = (h.0, h.1, h.2, right (cleaned_known s e)); less = λ n. le_refl (left_over s) }
-  low_give_up true false s e h = record { hold = (h.0, h.1, right (dry_given s), right (known_given s)); less = λ n. le_refl (left_over s) }
+  low_give_up true false s e h = record { hold = (h.0, h.1, right (dry_given s), right (known_given s)); less = λ n. rw (out_each (has_notes s.limits) s.outputs given_up refl Notes) (le_refl (left_over s)) }
 
   low_left_if : (b : Bool) (s : Runner) → awaits_launch s ≡ b → Phase P s → Low s (drop_launch_if b s)
   unfolding abandon_launch
@@ -101,7 +101,7 @@ module _ (P : Option ℕ → Type 0) (lower : (d e : Option ℕ) → P d → P (
       on_right (λ d x. rw (out_each (has_notes s.limits) s.outputs abandoned refl x) (record { none = (d x).none; stop = wider (out_of x s).closed (out_of x s).hung_up (out_of x s).discarding (d x).stop })) h.2,
       on_right (λ d. record { launch = d.launch; exit = d.exit; closed = λ x. ap (λ (o : Output). o.closed) (out_each (has_notes s.limits) s.outputs abandoned refl x) ∙ or_left (out_of x s).closed _ (d.closed x); settled = d.settled }) h.3,
     );
-    less = λ n. le_refl (left_over s);
+    less = λ n. rw (out_each (has_notes s.limits) s.outputs abandoned refl Notes) (le_refl (left_over s));
   }
 
   pub low_abandon : (b : Bool) (s : Runner) → Phase P s → Low s (abandon_if b s)
@@ -137,7 +137,7 @@ module _ (P : Option ℕ → Type 0) (lower : (d e : Option ℕ) → P d → P (
   unfolding end_grace silenced give_up_soon
   low_detached_now now s h = record {
     hold = (h.0, h.1, right (dry_grace s), go h.3);
-    less = λ n. omega arith;
+    less = λ n. rw (out_each (has_notes s.limits) s.outputs grace_ended refl Notes) (omega arith);
   }
     where
       go : Either (P s.clocks.give_up_at) (AllKnown s) → Either (P (detached_now now s).clocks.give_up_at) (AllKnown (detached_now now s))
@@ -250,8 +250,8 @@ module _ (P : Option ℕ → Type 0) (lower : (d e : Option ℕ) → P d → P (
   low_effect _ s h = record { hold = h; less = λ n. le_refl (left_over s) }
 
   -- a call that names a stream: where that is not open, nothing changes
-  named : (x : Stream) (s : State) {t : State} → Phase P s.runner → Low s.runner t.runner → Low s.runner (cond (has s.runner.limits x) t s).runner
-  named x s h q = either (λ (u : State). Low s.runner u.runner) (has s.runner.limits x) _ _ q (same h)
+  named : (x : Stream) (s t : State) → Phase P s.runner → Low s.runner t.runner → Low s.runner (cond (has s.runner.limits x) t s).runner
+  named x s t h q = either (λ (u : State). Low s.runner u.runner) (has s.runner.limits x) t s q (same h)
 
   -- every call keeps the phase, and after give-up lets the messages left be no more
   pub low_next : (c : Call) (s : State) → Phase P s.runner → Low s.runner (next s c).runner
@@ -270,11 +270,11 @@ module _ (P : Option ℕ → Type 0) (lower : (d e : Option ℕ) → P d → P (
   low_next (Call.launched x) s h = low_launched_if (awaits_launch s.runner) x s.runner refl h
   low_next (Call.output x b) s h =
       let r : Runner = s.runner in
-      named x s h (low_high r (output_filled r x (length b)) _ (low_out x r _ (kept_intake r.flags.gave_up (room x r) (length b) (out_of x r)) h))
-  low_next (Call.discarded x n) s h = named x s h (low_at x (lost_out (ltb 0 n)) s.runner (kept_discard (ltb 0 n)) h)
-  low_next (Call.output_closed x) s h = named x s h (low_at x closed_out s.runner kept_close h)
-  low_next (Call.output_failed x) s h = named x s h (low_at x failed_out s.runner kept_fail h)
-  low_next (Call.output_hung_up x) s h = named x s h (low_at x hung_up s.runner kept_hang h)
+      named x s _ h (low_high r (output_filled r x (length b)) _ (low_out x r _ (kept_intake r.flags.gave_up (room x r) (length b) (out_of x r)) h))
+  low_next (Call.discarded x n) s h = named x s _ h (low_at x (lost_out (ltb 0 n)) s.runner (kept_discard (ltb 0 n)) h)
+  low_next (Call.output_closed x) s h = named x s _ h (low_at x closed_out s.runner kept_close h)
+  low_next (Call.output_failed x) s h = named x s _ h (low_at x failed_out s.runner kept_fail h)
+  low_next (Call.output_hung_up x) s h = named x s _ h (low_at x hung_up s.runner kept_hang h)
   low_next (Call.input_written n) s h =
       let r : Runner = s.runner in
       low_input r _ (kept_written r.input.closed r.input (close_when_taken (pop_in r.limits n s.lengths r.input)) refl h.0) h
