@@ -71,7 +71,10 @@ unfolding payload output_sent output_paid
 sent_inv st x n s a k l h = (
   h.0 ∙ sym (rep_at x (sent_out s.limits.chunk n (out_of x s)) s refl refl),
   on_one_lem (has_notes s.limits) s.outputs (Claim st s.limits) s.limits refl x (sent_out s.limits.chunk n (out_of x s)) (sent_by (payload_of x)) a.tallies k
-      (rw (placed s.limits x k) (sent_by_lem st (place s.limits x) s.limits.chunk n (out_of x s) (tally_of x a) l (h.1 x))) (λ y e. h.1 y),
+      (subst⁻¹ (λ (p : ℕ). Good st p s.limits.chunk (sent_out s.limits.chunk n (out_of x s)) (sent_by (payload_of x) (tally_of x a))) (placed s.limits x k)
+      (sent_by_lem st (base x s.limits.chunk) s.limits.chunk n (out_of x s) (tally_of x a) l
+      (subst (λ (p : ℕ). Good st p s.limits.chunk (out_of x s) (tally_of x a)) (placed s.limits x k) (h.1 x))))
+      (λ y e. h.1 y),
 )
   where
     payload_of : Stream → List ℕ
@@ -273,6 +276,7 @@ step_inv (Call.tick now) s a f r m h = tick_inv s.bytes now s.runner a f h
 step_inv Call.next_request s a f r m h = unheard s a Call.next_request (handed_inv s.bytes (wish s.runner) s.runner a h)
 step_inv (Call.next_message b) s a f r m h =
     effect_inv s.bytes (choose s.runner (length b)) s.runner a (chosen_open s.runner (length b)) (chosen_queued s.runner (length b)) h
+step_inv (Call.read_allowance x) s a f r m h = unheard s a (Call.read_allowance x) h
 step_inv _ s a f r m h = h
 
 -- ---- no call changes the length of the byte store

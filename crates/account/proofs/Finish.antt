@@ -52,8 +52,8 @@ effect_framed (Choice.Output x n) s b = kept (sent_frame x n s)
 effect_framed Choice.Terminal s b = ended refl refl refl
 effect_framed _ s b = kept refl
 
-open_framed : (x : Stream) (s : State) {t : State} {a : Answer} → frame t.runner ≡ frame s.runner → Framed s.runner (cond (has s.runner.limits x) t s).runner (if_open s x a)
-open_framed x s {t} {a} h = by_open (λ (u : State) (r : Answer). Framed s.runner u.runner r) s t x a (λ o. kept h) (kept refl)
+open_framed : (x : Stream) (s t : State) (a : Answer) → frame t.runner ≡ frame s.runner → Framed s.runner (cond (has s.runner.limits x) t s).runner (if_open s x a)
+open_framed x s t a h = by_open (λ (u : State) (r : Answer). Framed s.runner u.runner r) s t x a (λ o. kept h) (kept refl)
 
 pub framed : (c : Call) (s : State) → Framed s.runner (next s c).runner (answer s c)
 unfolding next answer credit_next input_next end_next launched_next output_next discarded_next closed_next failed_next hung_up_next written_next close_runner_input settled_next
@@ -68,11 +68,11 @@ framed (Call.dropped now) s = kept (detach_keeps _ (timed s.runner) now Cause.Dr
 framed (Call.reset now) s = kept (detach_keeps _ (timed s.runner) now Cause.Reset s.runner refl)
 framed (Call.disconnect now) s = kept (detach_keeps _ (timed s.runner) now Cause.Disconnected s.runner refl)
 framed (Call.tick now) s = kept (ticked_frame now s.runner)
-framed (Call.output x b) s = open_framed x s refl
-framed (Call.discarded x n) s = open_framed x s refl
-framed (Call.output_closed x) s = open_framed x s refl
-framed (Call.output_failed x) s = open_framed x s refl
-framed (Call.output_hung_up x) s = open_framed x s refl
+framed (Call.output x b) s = open_framed x s _ _ refl
+framed (Call.discarded x n) s = open_framed x s _ _ refl
+framed (Call.output_closed x) s = open_framed x s _ _ refl
+framed (Call.output_failed x) s = open_framed x s _ _ refl
+framed (Call.output_hung_up x) s = open_framed x s _ _ refl
 framed Call.next_request s = kept (wished_frame (wish s.runner) s.runner)
 framed (Call.next_message buffer) s = effect_framed (choose s.runner (length buffer)) s.runner s.bytes
 framed _ s = kept refl
