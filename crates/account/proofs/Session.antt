@@ -13,7 +13,7 @@ use Rattle.exec.specs.declared.Outcome.{Outcome}
 use Rattle.exec.specs.declared.Pool.TheVariants as Pool
 use Rattle.exec.specs.declared.Stream.TheVariants.{Stdout, Stderr}
 use Rattle.exec.specs.Key.{admits}
-use Rattle.exec.specs.Limits.{cost, bytes_with, bytes_window, limits_for}
+use Rattle.exec.specs.Limits.{cost, bytes_with, bytes_window, limits_for, has_notes}
 use Rattle.ring.specs.Ring.{wrap, ring_read, ring_from, ring_write}
 use Rattle.ring.specs.Runs.{copied}
 use Rattle.output.specs.Output.{taken_in, sent}
@@ -92,7 +92,7 @@ answers_of ds = map (λ (d : Done). d.answer) ds
 -- only the first four bytes of the store are written
 computed : (a0 a1 a2 a3 : ℕ) (rest lengths : List ℕ)
     → answers_of (run (begun conf 0 (a0 ∷ a1 ∷ a2 ∷ a3 ∷ rest) lengths) calls) ≡ answers
-unfolding next answer said admits cost wrap ring_read ring_from ring_write copied taken_in sent if_else close_runner_input end_grace give_up abandon_launch abandon_open_streams begin_termination pass_grace terminate pass_timeout pass_settlement give_up_unless_clean pass_give_up drop_launch drop_streams pass_abandonment fire ticked cancelled cancel_answer cancel_next note_started note_launch launched_next is_ready outcome_of sendable_of order choose output_paid output_sent effect payload fresh output_taken output_next output_store output_took credit_in credit_answer credit_next
+unfolding next answer said admits cost wrap ring_read ring_from ring_write copied taken_in sent if_else close_runner_input end_grace give_up abandon_launch abandon_open_streams begin_termination pass_grace terminate pass_timeout pass_settlement give_up_unless_clean pass_give_up drop_launch drop_streams pass_abandonment fire ticked cancelled cancel_answer cancel_next note_started note_launch launched_next is_ready outcome_of sendable_of order choose output_paid output_sent effect payload fresh output_taken output_next output_store output_took credit_in credit_answer credit_next has_notes
 computed a0 a1 a2 a3 rest lengths = refl
 
 -- what holds of every store whose first four bytes are named holds of every one that open takes
@@ -106,7 +106,7 @@ plain bytes lengths h =
 
 -- line 1: open is answered ok
 pub open_ok : (bytes lengths : List ℕ) → 16 ≤ length bytes → Opens conf 0 bytes lengths
-unfolding Calls.«open» bytes_with
+unfolding Calls.«open» bytes_with has_notes
 open_ok bytes lengths h = rw (le-leb 16 (length bytes) h, le-leb 0 (length lengths) (omega arith)) refl
 
 -- lines 2 to 14

@@ -142,23 +142,25 @@ module _ (b : Bool) (os : List Output) where
   abbrev read : Stream → Output
   read x = output_in x (seen b os)
 
-  pub out_each : (f : Output → Output) → f over ≡ over → (x : Stream) → output_in x (seen b (each_output f os)) ≡ f (read x)
+  pub out_each : (f : Output → Output) → f over ≡ over → (x : Stream) → output_in x (seen b (each_output b f os)) ≡ f (read x)
   out_each f h Stdout = refl
   out_each f h Stderr = refl
   out_each f h Notes = by b
     where
-      by : (b : Bool) → cond b (f (notes os)) over ≡ f (cond b (notes os) over)
+      by : (b : Bool) → cond b (cond b (f (notes os)) (notes os)) over ≡ f (cond b (notes os) over)
       by true = refl
       by false = sym h
 
-  -- each changed alike by two that agree on it
-  pub each_same : (f g : Output → Output) → f over ≡ over → g over ≡ over → ((x : Stream) → f (read x) ≡ g (read x))
-      → seen b (each_output f os) ≡ seen b (each_output g os)
-  each_same f g hf hg h =
-      row (out_each f hf Stdout ∙ h Stdout) (out_each f hf Stderr ∙ h Stderr) (out_each f hf Notes ∙ h Notes ∙ sym (out_each g hg Notes))
+  -- a change that changes none of those that are open
+  pub each_kept : (f : Output → Output) → ((x : Stream) → f (read x) ≡ read x) → each_output b f os ≡ output_in Stdout os ∷ output_in Stderr os ∷ output_in Notes os ∷ []
+  each_kept f h = row (h Stdout) (h Stderr) (by b (h Notes))
     where
       row : {m n o p q r : Output} → m ≡ n → o ≡ p → q ≡ r → ◌≡◌ {A = List Output} (m ∷ o ∷ q ∷ []) (n ∷ p ∷ r ∷ [])
       row h k l = rw (h, k, l) refl
+
+      by : (b : Bool) → f (cond b (notes os) over) ≡ cond b (notes os) over → cond b (f (notes os)) (notes os) ≡ notes os
+      by true h = h
+      by false h = refl
 
   -- one put back: the third is read where it is open
   pub third : (P : Output → Type 0) (o : Output) → P o → P (read Notes) → P (output_in Notes (seen b (put_output Notes o os)))

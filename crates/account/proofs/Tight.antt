@@ -1,4 +1,5 @@
 -- Five is tight: a list on which the fifth next_message after the tick is Terminal and the four before it are other messages.
+use Rattle.exec.specs.Limits.{has_notes}
 use Rattle.std.specs.Prelude.{Ok}
 use mathlib.Core.Bool.{false}
 use mathlib.Core.Path.{◌≡◌, refl, ap, ◌∙◌}
@@ -41,11 +42,11 @@ answers = Call.Says (Call.Credit 8)
     ∷ []
 
 computed : (bytes lengths : List ℕ) → answers_of (run (begun conf 0 bytes lengths) (before ++ (four ++ (message ∷ [])))) ≡ answers
-unfolding next answer said admits if_else close_runner_input end_grace give_up abandon_launch abandon_open_streams begin_termination pass_grace terminate pass_timeout pass_settlement give_up_unless_clean pass_give_up drop_launch drop_streams pass_abandonment fire ticked cancelled cancel_answer cancel_next note_started note_launch launched_next is_ready outcome_of sendable_of order choose output_paid output_sent effect payload fresh sent
+unfolding next answer said admits if_else close_runner_input end_grace give_up abandon_launch abandon_open_streams begin_termination pass_grace terminate pass_timeout pass_settlement give_up_unless_clean pass_give_up drop_launch drop_streams pass_abandonment fire ticked cancelled cancel_answer cancel_next note_started note_launch launched_next is_ready outcome_of sendable_of order choose output_paid output_sent effect payload fresh sent has_notes
 computed bytes lengths = refl
 
 none : (bytes lengths : List ℕ) → any_terminal (run (begun conf 0 bytes lengths) (before ++ four)) ≡ false
-unfolding next answer said admits if_else close_runner_input end_grace give_up abandon_launch abandon_open_streams begin_termination pass_grace terminate pass_timeout pass_settlement give_up_unless_clean pass_give_up drop_launch drop_streams pass_abandonment fire ticked cancelled cancel_answer cancel_next note_started note_launch launched_next is_ready outcome_of sendable_of order choose output_paid output_sent effect payload fresh sent
+unfolding next answer said admits if_else close_runner_input end_grace give_up abandon_launch abandon_open_streams begin_termination pass_grace terminate pass_timeout pass_settlement give_up_unless_clean pass_give_up drop_launch drop_streams pass_abandonment fire ticked cancelled cancel_answer cancel_next note_started note_launch launched_next is_ready outcome_of sendable_of order choose output_paid output_sent effect payload fresh sent has_notes
 none bytes lengths = refl
 
 -- the answers: Terminal is the fifth message after the tick

@@ -1,5 +1,6 @@
 -- A claim on a runner that six changes keep is kept by all that the timers do, and so by a launch and by every call that ticks. The six:
 -- clocks, life and flags set (none of which finishes the runner), the input closed, its message told, and the three changes of every output.
+use Rattle.exec.specs.Limits.{has_notes}
 use Rattle.std.specs.Prelude.{Option, Result, None, Ok, Err}
 use Rattle.exec.specs.declared.Admission.TheVariants.{Own}
 use Rattle.exec.specs.declared.Admission.{Admission}
@@ -28,16 +29,16 @@ pub record Kept (P : Runner → Type 0) : Type 0 where
   pub moves : (r : Runner) (c : Clocks) (l : Life) (f : Flags) → f.finished ≡ r.flags.finished → P r → P (with c l f r.input r.outputs r)
   pub closes : (r : Runner) → P r → P (close_runner_input r)
   pub tells : (r : Runner) → P r → P (with_input (message_told r.input) r)
-  pub grace : (r : Runner) → P r → P (with_outputs (each_output grace_ended r.outputs) r)
-  pub gives : (r : Runner) → P r → P (with_outputs (each_output given_up r.outputs) r)
-  pub abandons : (r : Runner) → P r → P (with_outputs (each_output abandoned r.outputs) r)
+  pub grace : (r : Runner) → P r → P (with_outputs (each_output (has_notes r.limits) grace_ended r.outputs) r)
+  pub gives : (r : Runner) → P r → P (with_outputs (each_output (has_notes r.limits) given_up r.outputs) r)
+  pub abandons : (r : Runner) → P r → P (with_outputs (each_output (has_notes r.limits) abandoned r.outputs) r)
 
 module _ (P : Runner → Type 0) (k : Kept P) where
   -- ---- the timers
 
   grace_keeps : (r : Runner) → P r → P (end_grace r)
   unfolding end_grace
-  grace_keeps r p = k.moves (with_outputs (each_output grace_ended r.outputs) r) _ _ _ refl (k.grace r p)
+  grace_keeps r p = k.moves (with_outputs (each_output (has_notes r.limits) grace_ended r.outputs) r) _ _ _ refl (k.grace r p)
 
   pass_grace_lem : (now : ℕ) (r : Runner) → P r → P (pass_grace r now)
   unfolding pass_grace
@@ -63,7 +64,7 @@ module _ (P : Runner → Type 0) (k : Kept P) where
   unfolding pass_give_up give_up_unless_clean give_up
   give_up_keeps now r p =
       either P (due r.clocks.give_up_at now) _ r
-      (either P (is_cleaned_up r) _ (give_up r) (k.moves r _ _ _ refl p) (k.moves (with_outputs (each_output given_up r.outputs) r) _ _ _ refl (k.gives r p))) p
+      (either P (is_cleaned_up r) _ (give_up r) (k.moves r _ _ _ refl p) (k.moves (with_outputs (each_output (has_notes r.limits) given_up r.outputs) r) _ _ _ refl (k.gives r p))) p
 
   launch_keeps : (r : Runner) → P r → P (drop_launch r)
   unfolding drop_launch abandon_launch
@@ -72,7 +73,7 @@ module _ (P : Runner → Type 0) (k : Kept P) where
   streams_keeps : (r : Runner) → P r → P (drop_streams r)
   unfolding drop_streams abandon_open_streams
   streams_keeps r p =
-      either P (is_fenced r.life.settling) (abandon_open_streams r) r (k.moves (with_outputs (each_output abandoned r.outputs) r) _ _ _ refl (k.abandons r p)) p
+      either P (is_fenced r.life.settling) (abandon_open_streams r) r (k.moves (with_outputs (each_output (has_notes r.limits) abandoned r.outputs) r) _ _ _ refl (k.abandons r p)) p
 
   abandonment_keeps : (now : ℕ) (r : Runner) → P r → P (pass_abandonment r now)
   unfolding pass_abandonment

@@ -20,7 +20,7 @@ use Rattle.exec.specs.declared.Settlement.TheVariants as Settlement
 use Rattle.exec.specs.declared.Stream.{Stream}
 use Rattle.exec.specs.declared.Stream.TheVariants.{Stdout, Stderr}
 use Rattle.exec.specs.Key.{admits}
-use Rattle.exec.specs.Limits.{cost, bytes_with, bytes_window, limits_for}
+use Rattle.exec.specs.Limits.{cost, bytes_with, bytes_window, limits_for, has_notes}
 use Rattle.ring.specs.Ring.{wrap, ring_read, ring_from, ring_write}
 use Rattle.ring.specs.Runs.{copied}
 use Rattle.runner.specs.Calls as Calls
@@ -116,7 +116,7 @@ Comes bytes lengths =
 
 -- only the first four bytes of the store are written
 computed : (a0 a1 a2 a3 : ℕ) (rest lengths : List ℕ) → Comes (a0 ∷ a1 ∷ a2 ∷ a3 ∷ rest) lengths
-unfolding next answer said admits cost wrap ring_read ring_from ring_write copied if_else close_runner_input pass_grace pass_timeout pass_settlement pass_give_up pass_abandonment fire ticked note_started note_launch launched_next note_exit note_exit_once exited_next settled_next is_ready outcome_of sendable_of order choose output_paid output_sent effect payload fresh output_taken output_next output_store credit_in credit_answer credit_next closed_next timeout_r give_up_a abandon_a tick_a exit_r exit_a adds add start
+unfolding next answer said admits cost wrap ring_read ring_from ring_write copied if_else close_runner_input pass_grace pass_timeout pass_settlement pass_give_up pass_abandonment fire ticked note_started note_launch launched_next note_exit note_exit_once exited_next settled_next is_ready outcome_of sendable_of order choose output_paid output_sent effect payload fresh output_taken output_next output_store credit_in credit_answer credit_next closed_next timeout_r give_up_a abandon_a tick_a exit_r exit_a adds add start has_notes
 computed a0 a1 a2 a3 rest lengths = (refl, refl)
 
 plain : (bytes lengths : List ℕ) → 16 ≤ length bytes → Comes bytes lengths
@@ -256,7 +256,7 @@ ChannelComes status bytes lengths =
 
 -- only the first eight bytes of the store are written
 channel_computed : (status : Option Status) (a0 a1 a2 a3 a4 a5 a6 a7 : ℕ) (rest lengths : List ℕ) → ChannelComes status (a0 ∷ a1 ∷ a2 ∷ a3 ∷ a4 ∷ a5 ∷ a6 ∷ a7 ∷ rest) lengths
-unfolding next answer said admits cost wrap ring_read ring_from ring_write copied if_else close_runner_input pass_grace pass_timeout pass_settlement pass_give_up pass_abandonment fire ticked note_started note_launch launched_next note_exit note_exit_once exited_next settled_next is_ready outcome_of sendable_of order choose output_paid output_sent effect payload fresh output_taken output_next output_store credit_in credit_answer credit_next closed_next
+unfolding next answer said admits cost wrap ring_read ring_from ring_write copied if_else close_runner_input pass_grace pass_timeout pass_settlement pass_give_up pass_abandonment fire ticked note_started note_launch launched_next note_exit note_exit_once exited_next settled_next is_ready outcome_of sendable_of order choose output_paid output_sent effect payload fresh output_taken output_next output_store credit_in credit_answer credit_next closed_next has_notes
 channel_computed status a0 a1 a2 a3 a4 a5 a6 a7 rest lengths = (refl, refl, refl)
 
 named_eight : (P : List ℕ → Type 0) → ((a0 a1 a2 a3 a4 a5 a6 a7 : ℕ) (rest : List ℕ) → P (a0 ∷ a1 ∷ a2 ∷ a3 ∷ a4 ∷ a5 ∷ a6 ∷ a7 ∷ rest))
@@ -317,7 +317,7 @@ closes_by s status b met w _ m u g c o k = absurd (false≢true m)
 
 module _ (status : Option Status) (bytes lengths : List ℕ) (h : 16 ≤ length bytes) where
   pub channel_opens : Opens channel 0 bytes lengths
-  unfolding Calls.«open» bytes_with
+  unfolding Calls.«open» bytes_with has_notes
   channel_opens = rw (le-leb 16 (length bytes) h, le-leb 0 (length lengths) (omega arith)) refl
 
   abbrev begins : State

@@ -3,7 +3,7 @@ use Rattle.std.specs.Prelude.{◌≡◌, refl, true, false, List, [], ◌∷◌,
 use Rattle.exec.specs.declared.Limits.{Limits}
 use Rattle.exec.specs.declared.Key.{Key}
 use Rattle.exec.specs.Key.{new_key, admits}
-use Rattle.exec.specs.Limits.{no_limits, bytes_window, frames_window, limits_for, cost, bytes_with}
+use Rattle.exec.specs.Limits.{no_limits, bytes_window, frames_window, limits_for, cost, bytes_with, has_notes}
 use Rattle.ring.specs.Frames.{pop_from, rest_of}
 use Rattle.ring.specs.Ring.{wrap, ring_from, ring_write}
 use Rattle.ring.specs.Runs.{copied}
@@ -44,7 +44,7 @@ store = 0 ∷ 0 ∷ 0 ∷ 0 ∷ 0 ∷ 0 ∷ 0 ∷ 0 ∷ 0 ∷ 0 ∷ 0 ∷ 0 ∷ 
 
 -- opened at 0
 begins : Conf → State
-unfolding Calls.«open» Range.fresh bytes_with
+unfolding Calls.«open» Range.fresh bytes_with has_notes
 begins conf = opened conf 0 store (0 ∷ 0 ∷ 0 ∷ 0 ∷ [])
 
 -- Credit is told, and then these calls
@@ -53,7 +53,7 @@ list cs = map call (Call.next_message [] ∷ cs)
 
 -- a list's calls, with their answers; and those alone
 done : Conf → List Call → List Done
-unfolding begins next_entry answer_entry made next answer Calls.next_message Calls.input Calls.input_written Calls.input_closed Range.stop Range.in_range output_fits bytes_with admits Message.choose order if_else Message.effect Message.said_for Message.buffer_after Streams.received Streams.input_answer Streams.input_next Streams.input_store Streams.input_lengths Input.receive_answer Input.receive_input Input.receive_bytes Input.receive_lengths cost ring_write ring_from copied wrap Streams.written_next Streams.written_came Streams.written_lengths Input.written_input Input.written_came Input.written_lengths pop_from Life.close_runner_input
+unfolding begins next_entry answer_entry made next answer Calls.next_message Calls.input Calls.input_written Calls.input_closed Range.stop Range.in_range output_fits bytes_with admits Message.choose order if_else Message.effect Message.said_for Message.buffer_after Streams.received Streams.input_answer Streams.input_next Streams.input_store Streams.input_lengths Input.receive_answer Input.receive_input Input.receive_bytes Input.receive_lengths cost ring_write ring_from copied wrap Streams.written_next Streams.written_came Streams.written_lengths Input.written_input Input.written_came Input.written_lengths pop_from Life.close_runner_input has_notes
 done conf cs = dones_of conf (run_entries (begins conf) (list cs))
 
 abbrev answers : Conf → List Call → List Answer
@@ -147,5 +147,5 @@ refused = (refl, refl, refl)
 
 -- open is answered ok, so that the claims are not of runners that cannot be
 opens : (Opens in_frames 0 store (0 ∷ 0 ∷ 0 ∷ 0 ∷ [])) × (Opens in_bytes 0 store (0 ∷ 0 ∷ 0 ∷ 0 ∷ []))
-unfolding Calls.«open» bytes_with
+unfolding Calls.«open» bytes_with has_notes
 opens = (refl, refl)

@@ -1,5 +1,6 @@
 -- Two cards, computed. Of one the times fall: opened at 1000 by one counter, it is cancelled at 20 and ticked at 19 and at 35 by another.
 -- On the other the turn is taken.
+use Rattle.exec.specs.Limits.{has_notes}
 use Rattle.std.specs.Prelude.{Some, None, Ok}
 use mathlib.Core.Path.{◌≡◌, refl, sym, ap, ◌∙◌}
 use mathlib.Core.List.{List, [], ◌∷◌, ◌++◌, map}
@@ -87,7 +88,7 @@ answers = Call.Says (Call.Credit 8)
     ∷ []
 
 computed : (bs lengths : List ℕ) → Session.answers_of (run (begun (timed None) 1000 bs lengths) made) ≡ answers
-unfolding next answer said admits if_else close_runner_input end_grace give_up abandon_launch abandon_open_streams begin_termination pass_grace terminate pass_timeout pass_settlement give_up_unless_clean pass_give_up drop_launch drop_streams pass_abandonment fire ticked cancelled cancel_answer cancel_next note_started note_launch launched_next is_ready outcome_of deadline_of sendable_of order choose output_paid output_sent effect payload fresh sent
+unfolding next answer said admits if_else close_runner_input end_grace give_up abandon_launch abandon_open_streams begin_termination pass_grace terminate pass_timeout pass_settlement give_up_unless_clean pass_give_up drop_launch drop_streams pass_abandonment fire ticked cancelled cancel_answer cancel_next note_started note_launch launched_next is_ready outcome_of deadline_of sendable_of order choose output_paid output_sent effect payload fresh sent has_notes
 computed bs lengths = refl
 
 abbrev opening : Opening

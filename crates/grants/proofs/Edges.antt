@@ -5,7 +5,7 @@ use Rattle.exec.specs.declared.Key.{Key}
 use Rattle.exec.specs.declared.Limits.{Limits}
 use Rattle.exec.specs.declared.Refusal.{Refusal}
 use Rattle.exec.specs.declared.Timers.{Timers}
-use Rattle.exec.specs.Limits.{bytes_window, frames_window, bytes_with, limits_for, no_limits}
+use Rattle.exec.specs.Limits.{bytes_window, frames_window, bytes_with, limits_for, no_limits, has_notes}
 use Rattle.exec.specs.Refusal.{number}
 use Rattle.output.specs.Output.{output_fits}
 use Rattle.runner.specs.declared.runner.Runner.{Runner}
@@ -35,7 +35,7 @@ store = 0 ∷ 0 ∷ 0 ∷ 0 ∷ 0 ∷ 0 ∷ 0 ∷ 0 ∷ 0 ∷ 0 ∷ 0 ∷ 0 ∷ 
 
 -- with the smallest grant g, and stores for a chunk of 4
 opens : Limits → (g : ℕ) → Result (Unit {0}) Refusal
-unfolding Calls.«open» bytes_with
+unfolding Calls.«open» bytes_with has_notes
 opens l g = (Calls.«open» own l timers g 0 store (0 ∷ 0 ∷ [])).answer
 
 -- "a g of 0 or above the input size", in the window's own unit
@@ -63,7 +63,7 @@ handed_back = refl
 -- ---- every other call: of a runner whose smallest grant is g, though open gave none such
 
 foreign : (g : ℕ) → Runner
-unfolding Range.fresh
+unfolding Range.fresh has_notes
 foreign g = Range.fresh own in_bytes timers g 0
 
 -- the stop of a call that is lent stores that do, or not; of a turn that is none
@@ -79,5 +79,5 @@ calls : (Calls.tick (foreign 0) 5 ≡ record { runner = foreign 0; answer = Err 
     × (Calls.pending_input (foreign 1) [] ≡ Err Refusal.StoreShort)
     × (Calls.is_finished (beyond 0 2) ≡ Err Refusal.StateOutOfRange)
     × (Calls.is_finished (beyond 0 1) ≡ Err Refusal.SmallestGrant)
-unfolding beyond Calls.tick Calls.is_finished Calls.pending_input Range.stop Range.in_range output_fits bytes_with
+unfolding beyond Calls.tick Calls.is_finished Calls.pending_input Range.stop Range.in_range output_fits bytes_with has_notes
 calls = (refl, refl, refl, refl, refl, refl, refl, refl)

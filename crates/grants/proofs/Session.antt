@@ -6,7 +6,7 @@ use Rattle.exec.specs.declared.Limits.{Limits}
 use Rattle.exec.specs.Key.{admits}
 use Rattle.exec.specs.declared.Pool.TheVariants as Pool
 use Rattle.exec.specs.declared.Stream.TheVariants.{Stdout}
-use Rattle.exec.specs.Limits.{bytes_window, frames_window, bytes_with, limits_for, cost}
+use Rattle.exec.specs.Limits.{bytes_window, frames_window, bytes_with, limits_for, cost, has_notes}
 use Rattle.ring.specs.Runs.{copied}
 use Rattle.ring.specs.Ring.{ring_read, ring_write, ring_from, wrap}
 use Rattle.ring.specs.Frames.{pop_from}
@@ -140,7 +140,7 @@ pub record Computed : Type 0 where
       ≡ Call.Ok ∷ credit 8 ∷ Call.Says Call.Started ∷ Call.Applied ∷ Call.Taken 4 ∷ Call.Says (Call.Output Stdout (97 ∷ 98 ∷ 99 ∷ 100 ∷ [])) ∷ []
 
 pub computed : Computed
-unfolding ring_read Streams.credit_in Calls.credit Calls.output Streams.credit_answer Streams.credit_next Streams.output_took Streams.output_next Streams.output_taken Streams.output_store Message.output_sent Message.output_paid Message.payload Calls.end_input Streams.end_answer Streams.end_next Input.end_answer Input.end_input Step.next Step.answer next_entry answer_entry Calls.«open» Calls.launched Calls.input Calls.input_written Calls.input_closed Calls.pending_input Calls.tick Calls.deadline Calls.next_message Range.fresh Range.stop Range.in_range output_fits bytes_with admits cost wrap ring_write ring_from copied pop_from if_else order Life.close_runner_input Life.note_started Life.note_launch Life.launched_next Life.pass_grace Life.pass_timeout Life.pass_settlement Life.pass_give_up Life.pass_abandonment Life.fire Life.ticked Life.deadline_of Life.is_ready Message.sendable_of Message.choose Message.effect Message.said_for Message.buffer_after Streams.received Streams.input_answer Streams.input_next Streams.input_store Streams.input_lengths Streams.written_next Streams.written_came Streams.written_lengths Streams.pending_of Input.receive_answer Input.receive_input Input.receive_bytes Input.receive_lengths Input.written_input Input.written_came Input.written_lengths Input.pending_input front
+unfolding ring_read Streams.credit_in Calls.credit Calls.output Streams.credit_answer Streams.credit_next Streams.output_took Streams.output_next Streams.output_taken Streams.output_store Message.output_sent Message.output_paid Message.payload Calls.end_input Streams.end_answer Streams.end_next Input.end_answer Input.end_input Step.next Step.answer next_entry answer_entry Calls.«open» Calls.launched Calls.input Calls.input_written Calls.input_closed Calls.pending_input Calls.tick Calls.deadline Calls.next_message Range.fresh Range.stop Range.stop_at Range.in_range output_fits bytes_with admits cost wrap ring_write ring_from copied pop_from if_else order Life.close_runner_input Life.note_started Life.note_launch Life.launched_next Life.pass_grace Life.pass_timeout Life.pass_settlement Life.pass_give_up Life.pass_abandonment Life.fire Life.ticked Life.deadline_of Life.is_ready Message.sendable_of Message.choose Message.effect Message.said_for Message.buffer_after Streams.received Streams.input_answer Streams.input_next Streams.input_store Streams.input_lengths Streams.written_next Streams.written_came Streams.written_lengths Streams.pending_of Input.receive_answer Input.receive_input Input.receive_bytes Input.receive_lengths Input.written_input Input.written_came Input.written_lengths Input.pending_input front has_notes
 computed = record {
   four = refl;
   one = refl;

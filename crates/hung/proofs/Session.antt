@@ -10,7 +10,7 @@ use Prim.Native.Nat.{ℕ, ◌≤◌}
 use native.Mathlib.Omega.{arith}
 use Rattle.exec.specs.declared.Outcome.{Outcome}
 use Rattle.exec.specs.declared.Stream.TheVariants.{Stdout, Stderr}
-use Rattle.exec.specs.Limits.{bytes_with, bytes_window, limits_for}
+use Rattle.exec.specs.Limits.{bytes_with, bytes_window, limits_for, has_notes}
 use Rattle.choice.specs.Order.{if_else, order}
 use Rattle.output.specs.Output.{output_fits}
 use Rattle.runner.specs.Calls as Calls
@@ -93,7 +93,7 @@ pub record Computed : Type 0 where
   pub not_beyond : any_terminal_in (run_entries (begins (with_grace 18446744073709551615)) (list_of running 10 18446744073709551628 five)) ≡ false
 
 pub computed : Computed
-unfolding Step.next Step.answer next_entry answer_entry Calls.«open» Calls.tick Calls.deadline Calls.next_request Calls.next_message Calls.launched Calls.exited Calls.output_hung_up Range.fresh Range.stop Range.in_range output_fits bytes_with if_else order Life.close_runner_input Life.end_grace Life.give_up Life.abandon_launch Life.abandon_open_streams Life.begin_termination Life.terminate Life.pass_grace Life.pass_timeout Life.pass_settlement Life.give_up_unless_clean Life.pass_give_up Life.drop_launch Life.drop_streams Life.pass_abandonment Life.fire Life.ticked Life.deadline_of Life.note_started Life.note_launch Life.launched_next Life.note_exit Life.note_exit_once Life.exited_next Life.is_ready Life.outcome_of Streams.hung_up_next Message.sendable_of Message.choose Message.output_paid Message.output_sent Message.effect Message.payload Message.buffer_after Message.said_for Message.wish_for Message.wish Message.wish_effect
+unfolding Step.next Step.answer next_entry answer_entry Calls.«open» Calls.tick Calls.deadline Calls.next_request Calls.next_message Calls.launched Calls.exited Calls.output_hung_up Range.fresh Range.stop Range.stop_at Range.in_range output_fits bytes_with if_else order Life.close_runner_input Life.end_grace Life.give_up Life.abandon_launch Life.abandon_open_streams Life.begin_termination Life.terminate Life.pass_grace Life.pass_timeout Life.pass_settlement Life.give_up_unless_clean Life.pass_give_up Life.drop_launch Life.drop_streams Life.pass_abandonment Life.fire Life.ticked Life.deadline_of Life.note_started Life.note_launch Life.launched_next Life.note_exit Life.note_exit_once Life.exited_next Life.is_ready Life.outcome_of Streams.hung_up_next Message.sendable_of Message.choose Message.output_paid Message.output_sent Message.effect Message.payload Message.buffer_after Message.said_for Message.wish_for Message.wish Message.wish_effect has_notes
 computed = record {
   answers = refl;
   not_four = refl;
@@ -115,5 +115,5 @@ unended = (
 
 -- so Terminal comes in it by the claim alone, too
 pub ends : any_terminal_in (run_entries (begins conf) (list_of running 10 18 five)) ≡ true
-unfolding made Calls.«open» bytes_with
+unfolding made Calls.«open» bytes_with has_notes
 ends = hung conf 0 (0 ∷ 0 ∷ 0 ∷ []) [] refl running asked five 10 10 18 refl (omega arith) unended (omega arith) (omega arith) (omega arith)

@@ -223,10 +223,10 @@ module _ (s : State) where
   wished (Err z) = getting (Call.Refused _)
 
 pub call_sees : (c : Call) (s : State) → Alike (next (calm_s s) c) (answer (calm_s s) c) (next s c) (answer s c)
-unfolding next answer stop in_range Calls.key Calls.limits Calls.credit Calls.input Calls.end_input Calls.cancel Calls.launched Calls.read_allowance Calls.output Calls.discarded Calls.output_closed Calls.output_failed Calls.output_hung_up Calls.pending_input Calls.input_written Calls.input_closed Calls.exited Calls.settled Calls.dropped Calls.reset Calls.disconnect Calls.tick Calls.deadline Calls.next_request Calls.next_message Calls.is_finished Calls.is_detached Calls.awaits_settlement Calls.memory_bound Calls.buffered Calls.high_water read_allowance_of discarded_next closed_next failed_next hung_up_next close_runner_input
+unfolding next answer stop stop_at in_range Calls.key Calls.limits Calls.credit Calls.input Calls.end_input Calls.cancel Calls.launched Calls.read_allowance Calls.output Calls.discarded Calls.output_closed Calls.output_failed Calls.output_hung_up Calls.pending_input Calls.input_written Calls.input_closed Calls.exited Calls.settled Calls.dropped Calls.reset Calls.disconnect Calls.tick Calls.deadline Calls.next_request Calls.next_message Calls.is_finished Calls.is_detached Calls.awaits_settlement Calls.memory_bound Calls.buffered Calls.high_water read_allowance_of discarded_next closed_next failed_next hung_up_next close_runner_input
 call_sees (Call.credit k p u) s =
     let r : Runner = s.runner in
-    let a : (Result Admission Refusal) = admits r.key k in let q : (Result ℕ Refusal) = output_pool r.limits.shared p in
+    let a : (Result Admission Refusal) = admits r.key k in let q : (Result ℕ Refusal) = output_pool r.limits.shared (has_notes r.limits) p in
     heard s (stop r true) (credit_answer a q (calm r) u) (credit_answer a q r u) (credit_next a q (calm r) u) (credit_next a q r u) (credit_shows a q u r) (credit_sees a q u r)
 call_sees (Call.input k b) s = inputted s (stop s.runner (stores_do s.runner s.bytes s.lengths)) (admits s.runner.key k) b
 call_sees (Call.end_input k) s =
@@ -238,11 +238,11 @@ call_sees (Call.cancel now k c) s =
     let a : (Result Admission Refusal) = admits r.key k in
     heard s (stop r true) (cancel_answer a (calm r) now) (cancel_answer a r now) (cancel_next a (calm r) now c) (cancel_next a r now c) (cancel_shows a now r) (cancel_sees a now c r)
 call_sees (Call.launched x) s = noted s (stop s.runner true) _ _ (launched_sees x s.runner)
-call_sees (Call.output x b) s = taken s (stop s.runner (bytes_do s.runner.limits s.bytes)) x b
-call_sees (Call.discarded x n) s = noted s (stop s.runner true) _ _ (at_sees x (lost_out (ltb 0 n)) s.runner (λ e. e) (λ e. e))
-call_sees (Call.output_closed x) s = noted s (stop s.runner true) _ _ (at_sees x closed_out s.runner (λ e. refl) (λ e. refl))
-call_sees (Call.output_failed x) s = noted s (stop s.runner true) _ _ (at_sees x failed_out s.runner (λ e. refl) (λ e. refl))
-call_sees (Call.output_hung_up x) s = noted s (stop s.runner true) _ _ (at_sees x hung_up s.runner (λ e. e) (λ e. and_right (not (out_of x s.runner).closed) false refl))
+call_sees (Call.output x b) s = taken s (stop_at s.runner x (bytes_do s.runner.limits s.bytes)) x b
+call_sees (Call.discarded x n) s = noted s (stop_at s.runner x true) _ _ (at_sees x (lost_out (ltb 0 n)) s.runner (λ e. e) (λ e. e))
+call_sees (Call.output_closed x) s = noted s (stop_at s.runner x true) _ _ (at_sees x closed_out s.runner (λ e. refl) (λ e. refl))
+call_sees (Call.output_failed x) s = noted s (stop_at s.runner x true) _ _ (at_sees x failed_out s.runner (λ e. refl) (λ e. refl))
+call_sees (Call.output_hung_up x) s = noted s (stop_at s.runner x true) _ _ (at_sees x hung_up s.runner (λ e. e) (λ e. and_right (not (out_of x s.runner).closed) false refl))
 call_sees Call.pending_input s = waiting s (stop s.runner (bytes_do s.runner.limits s.bytes))
 call_sees (Call.input_written n) s = handed_over s (stop s.runner (lengths_do s.runner.limits s.lengths)) n
 call_sees Call.input_closed s = noted s (stop s.runner true) _ _ (plain s.runner (close_runner_input s.runner) refl refl (λ e. e) (λ e. e))

@@ -4,17 +4,20 @@ use Rattle.std.specs.Prelude.{Option, None, ℕ}
 use mathlib.Core.Bool.{Bool, true, false, cond, not, ◌&&◌, false≢true}
 use mathlib.Core.Path.{◌≡◌, refl, sym, ◌∙◌, ap}
 use Rattle.exec.specs.declared.Stream.{Stream}
+use Rattle.exec.specs.declared.Stream.TheVariants.{Stdout, Stderr, Notes}
+use Rattle.exec.specs.Limits.{has_notes}
 use Rattle.exec.specs.Stream.{every_stream_lem}
+use mathlib.Core.List.{[], ◌∷◌}
 use Rattle.lifecycle.specs.declared.life.Settling.{Settling}
 use Rattle.lifecycle.specs.declared.life.Settling.TheVariants.{Settled, Fenced}
 use Rattle.lifecycle.specs.Life.{launch_known, exit_known, is_fenced, is_settled}
 use Rattle.lifecycle.specs.Setters.{set_give_up_at, set_abandon_at, set_settling}
 use Rattle.output.specs.declared.Output.{Output}
 use Rattle.output.specs.Output.{is_held}
-use Rattle.output.specs.Outputs.{put_output, each_output, all_closed, any_held}
+use Rattle.output.specs.Outputs.{output_in, put_output, all_closed, any_held}
 use Rattle.runner.specs.declared.runner.Runner.{Runner}
 use Rattle.runner.specs.Life.{awaits_launch, is_cleaned_up}
-use Rattle.runner.specs.State.{with, with_life, with_outputs, out_of}
+use Rattle.runner.specs.State.{with, with_life, with_outputs, outputs_of, out_of}
 use Rattle.account.specs.Step.{State, on_runner}
 use Rattle.std.proofs.lemmas.Bool.{and_from, not-true, not_from_false}
 use Rattle.account.proofs.Phase.{no_wait}
@@ -23,12 +26,12 @@ use Rattle.account.proofs.Sides.{of_every, on_out, none_of, of_none}
 
 -- abandonment has nothing to do, nor will it: no launch is awaited, settling is fenced, and no stream is held open
 abbrev pub is_moot : Runner → Bool
-is_moot r = (not (awaits_launch r) && is_fenced r.life.settling) && not (any_held r.outputs)
+is_moot r = (not (awaits_launch r) && is_fenced r.life.settling) && not (any_held (outputs_of r))
 
 -- with these times of give-up and abandonment
 abbrev pub swap : (give_up abandon : Option ℕ) → Runner → Runner
 swap g b r =
-    with (set_give_up_at g (set_abandon_at b r.clocks)) r.life r.flags r.input (each_output (λ (o : Output). o) r.outputs) r
+    with (set_give_up_at g (set_abandon_at b r.clocks)) r.life r.flags r.input (output_in Stdout r.outputs ∷ output_in Stderr r.outputs ∷ output_in Notes r.outputs ∷ []) r
 
 abbrev pub unless : Bool → Option ℕ → Option ℕ
 unless b d = cond b None d
@@ -89,10 +92,10 @@ module _ (r : Runner) (e : is_cleaned_up r ≡ true) where
   reports = launch_known r.life.launch && exit_known r.life.exit
 
   pub clean_settled : is_settled r.life.settling ≡ true
-  clean_settled = and_r (reports && all_closed r.outputs) _ e
+  clean_settled = and_r (reports && all_closed (outputs_of r)) _ e
 
-  pub clean_closed : (reports && all_closed r.outputs) ≡ true
-  clean_closed = and_l (reports && all_closed r.outputs) _ e
+  pub clean_closed : (reports && all_closed (outputs_of r)) ≡ true
+  clean_closed = and_l (reports && all_closed (outputs_of r)) _ e
 
   pub clean_exit : exit_known r.life.exit ≡ true
   clean_exit = and_r (launch_known r.life.launch) _ (and_l reports _ clean_closed)
@@ -114,7 +117,7 @@ module _ (r : Runner) (e : is_moot r ≡ true) where
   moot_fenced = and_r (not (awaits_launch r)) _ moot_given
 
   pub moot_held : (x : Stream) → is_held (out_of x r) ≡ false
-  moot_held = none_of (λ (x : Stream). is_held (out_of x r)) (not-true (any_held r.outputs) (and_r given _ e))
+  moot_held = none_of (λ (x : Stream). is_held (out_of x r)) (not-true (any_held (outputs_of r)) (and_r given _ e))
 
 -- settling is not Settled and Fenced at once
 pub unsettled : (s : Settling) → is_fenced s ≡ true → is_settled s ≡ true → ⊥
@@ -129,14 +132,14 @@ module _ (x : Stream) (o : Output) (r : Runner) where
       let k = every_stream_lem (λ (y : Stream). (out_of y r).closed) (and_r (reports r e) _ (clean_closed r e)) in
       and_from _ _
       (and_from (reports r e) _ (and_l (reports r e) _ (clean_closed r e))
-      (of_every _ (on_out (λ (y : Stream) (p : Output). p.closed ≡ true) x o r.outputs (h (k x)) (λ y d. k y))))
+      (of_every _ (on_out (has_notes r.limits) r.outputs (λ (y : Stream) (p : Output). p.closed ≡ true) x o (h (k x)) k)))
       (clean_settled r e)
 
   pub put_moot : (is_held (out_of x r) ≡ false → is_held o ≡ false) → is_moot r ≡ true → is_moot (with_outputs (put_output x o r.outputs) r) ≡ true
   put_moot h e =
       let k = moot_held r e in
       and_from _ _ (moot_given r e)
-      (not_from_false _ (of_none _ (on_out (λ (y : Stream) (p : Output). is_held p ≡ false) x o r.outputs (h (k x)) (λ y d. k y))))
+      (not_from_false _ (of_none _ (on_out (has_notes r.limits) r.outputs (λ (y : Stream) (p : Output). is_held p ≡ false) x o (h (k x)) k)))
 
 -- ---- a change of settling that leaves Settled and Fenced
 

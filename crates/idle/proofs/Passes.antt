@@ -14,19 +14,23 @@ use Rattle.exec.specs.Time.{after, earliest, due}
 use Rattle.lifecycle.specs.Life.{launch_known, exit_known, is_fenced, expired}
 use Rattle.lifecycle.specs.Setters.{set_give_up_at, set_abandon_at}
 use Rattle.output.specs.declared.Output.{Output}
-use Rattle.output.specs.Output.{abandoned}
+use Rattle.output.specs.Output.{grace_ended, given_up, abandoned}
+use Rattle.exec.specs.declared.Stream.TheVariants.{Notes}
+use Rattle.exec.specs.Limits.{has_notes}
 use Rattle.runner.specs.declared.runner.Runner.{Runner}
 use Rattle.runner.specs.Life.{awaits_launch, is_cleaned_up, close_runner_input, end_grace, give_up, abandon_launch, abandon_open_streams, begin_termination, pass_grace, terminate, pass_timeout, pass_settlement, give_up_unless_clean, pass_give_up, drop_launch, drop_streams, pass_abandonment, fire, ticked, is_late, cancel_answer, cancel_next, note_exit, is_over, note_exit_once, timeout_cleared, exited_next, silenced, give_up_soon, cut_off, cut_off_once, detach_next}
 use Rattle.runner.specs.State.{with, with_clocks, out_of}
 use Rattle.std.proofs.lemmas.Bool.{or_left}
-use Rattle.account.proofs.Sides.{each_same}
+use Rattle.account.proofs.Sides.{out_each, each_kept}
 use Rattle.idle.proofs.Calm.{Sees, is_moot, swap, unless, give_up_shown, abandon_shown, calm, kept, anew, plain, still, on, branch, clean_settled, clean_exit, clean_awaits, moot_awaits, moot_fenced, moot_held, unsettled, settle_sees}
 
 -- ---- timeout, grace and settlement
 
 pub grace_sees : Sees end_grace
 unfolding end_grace
-grace_sees r = plain r (end_grace r) refl refl (λ e. e) (λ e. e)
+grace_sees r =
+    let third = out_each (has_notes r.limits) r.outputs grace_ended refl Notes in
+    plain r (end_grace r) refl refl (λ e. rw third e) (λ e. rw third e)
 
 pass_grace_lem : (now : ℕ) → Sees (λ (x : Runner). pass_grace x now)
 unfolding pass_grace
@@ -66,7 +70,7 @@ given_clean false r e = refl
 -- and there is nothing to abandon after it
 give_up_sees : Sees give_up
 unfolding give_up
-give_up_sees r = anew r (give_up r) refl (λ e. moot (not (launch_known r.life.launch)))
+give_up_sees r = anew r (give_up r) refl (λ e. rw (out_each (has_notes r.limits) r.outputs given_up refl Notes) (moot (not (launch_known r.life.launch))))
   where
     moot : (l : Bool) → ((not ((l && false) && not r.flags.launch_abandoned) && true) && true) ≡ true
     moot true = refl
@@ -117,7 +121,7 @@ moot_streams : (r : Runner) → is_moot r ≡ true → calm (abandon_open_stream
 unfolding abandon_open_streams
 moot_streams r m =
     ap (λ (os : List Output). calm (with (set_abandon_at None r.clocks) r.life r.flags r.input os r))
-    (each_same abandoned (λ (o : Output). o) r.outputs (λ x. unheld (out_of x r) (out_of x r).closed (out_of x r).hung_up refl refl (moot_held r m x)))
+    (each_kept (has_notes r.limits) r.outputs abandoned (λ x. unheld (out_of x r) (out_of x r).closed (out_of x r).hung_up refl refl (moot_held r m x)))
     ∙ ap (λ (d : (Option ℕ)). swap (give_up_shown r) d r) (hidden (is_moot r) m)
   where
     hidden : (b : Bool) → b ≡ true → unless b None ≡ unless b r.clocks.abandon_at

@@ -10,7 +10,7 @@ use Rattle.exec.specs.declared.Settlement as Settlements
 use Rattle.exec.specs.declared.Settlement.TheVariants as Settlement
 use Rattle.exec.specs.declared.Stream.TheVariants.{Stdout, Stderr}
 use Rattle.exec.specs.Key.{admits}
-use Rattle.exec.specs.Limits.{cost, bytes_with, bytes_window, limits_for}
+use Rattle.exec.specs.Limits.{cost, bytes_with, bytes_window, limits_for, has_notes}
 use Rattle.ring.specs.Ring.{wrap, ring_read, ring_from, ring_write}
 use Rattle.ring.specs.Runs.{copied}
 use Rattle.octets.specs.Bytes.{number_at, be32_at, be24_at}
@@ -77,7 +77,7 @@ between = idle 0
 
 pub between_idle : AllIdle (begins short) between
     × (answers_of (amid (begins short) between) ≡ Call.Ok ∷ Call.Taken 1 ∷ Call.Time (Some 10) ∷ Call.Value 1 ∷ [])
-unfolding Step.next Step.answer next_entry answer_entry Calls.«open» Calls.launched Calls.output Calls.tick Calls.deadline Calls.buffered Range.fresh Range.stop Range.in_range output_fits bytes_with wrap ring_write copied Life.pass_grace Life.pass_timeout Life.pass_settlement Life.pass_give_up Life.pass_abandonment Life.fire Life.ticked Life.deadline_of Life.note_started Life.note_launch Life.launched_next Streams.output_taken Streams.output_next Streams.output_store Streams.output_took
+unfolding Step.next Step.answer next_entry answer_entry Calls.«open» Calls.launched Calls.output Calls.tick Calls.deadline Calls.buffered Range.fresh Range.stop Range.stop_at Range.in_range output_fits bytes_with wrap ring_write copied Life.pass_grace Life.pass_timeout Life.pass_settlement Life.pass_give_up Life.pass_abandonment Life.fire Life.ticked Life.deadline_of Life.note_started Life.note_launch Life.launched_next Streams.output_taken Streams.output_next Streams.output_store Streams.output_took has_notes
 between_idle = ((refl, (refl, (refl, (refl, tt)))), refl)
 
 -- and the first run, without them
@@ -90,7 +90,7 @@ at_last = idle 18446744073709551615 ∷ made (call (Call.tick 184467440737095516
 
 pub none_idle : (AllIdle (begins none) at_last × (answers_of (amid (begins none) at_last) ≡ Call.Ok ∷ Call.Time None ∷ []))
     × (AllIdle (Step.opened short 0 [] []) at_last × (answers_of (amid (Step.opened short 0 [] []) at_last) ≡ Call.Refused 10 ∷ Call.Refused 10 ∷ []))
-unfolding Step.next Step.answer next_entry answer_entry Calls.«open» Calls.tick Calls.deadline Range.fresh Range.stop Range.in_range output_fits bytes_with Life.pass_grace Life.pass_timeout Life.pass_settlement Life.pass_give_up Life.pass_abandonment Life.fire Life.ticked Life.deadline_of
+unfolding Step.next Step.answer next_entry answer_entry Calls.«open» Calls.tick Calls.deadline Range.fresh Range.stop Range.in_range output_fits bytes_with Life.pass_grace Life.pass_timeout Life.pass_settlement Life.pass_give_up Life.pass_abandonment Life.fire Life.ticked Life.deadline_of has_notes
 none_idle = (((refl, tt), refl), ((refl, tt), refl))
 
 -- the same on a channel: a record read, and three written into 43 bytes; no deadline is reported
@@ -109,7 +109,7 @@ on_channel = made (call (Call.launched (Ok tt)))
 pub channel_idle : AllIdle (Step.opened channel 0 (zeros 16) []) on_channel
     × (answers_of (amid (Step.opened channel 0 (zeros 16) []) on_channel)
     ≡ Call.Ok ∷ Call.Applied ∷ Call.Taken 3 ∷ Call.Says (Call.Credit 8) ∷ Call.Says Call.Started ∷ Call.Says (Call.Output Stdout (97 ∷ 98 ∷ 99 ∷ [])) ∷ [])
-unfolding Step.next Step.answer next_entry answer_entry Calls.«open» Calls.launched Calls.output Calls.tick Calls.deadline Calls.next_message Calls.credit Range.fresh Range.stop Range.in_range output_fits bytes_with admits cost wrap ring_read ring_from ring_write copied if_else order Life.pass_grace Life.pass_timeout Life.pass_settlement Life.pass_give_up Life.pass_abandonment Life.fire Life.ticked Life.deadline_of Life.note_started Life.note_launch Life.launched_next Life.is_ready Life.outcome_of Message.sendable_of Message.choose Message.output_paid Message.output_sent Message.effect Message.payload Message.buffer_after Message.said_for Streams.output_taken Streams.output_next Streams.output_store Streams.output_took Streams.credit_in Streams.credit_answer Streams.credit_next number_at be32_at Carrier.admitted Carrier.accepted Carrier.readied Carrier.written Carrier.asked Carrier.wrote Carrier.wrote_buffer Carrier.told Carrier.sent Carrier.write Channel.made Channel.parsed_read Channel.read_record Channel.sent_as Channel.sent_buffer Channel.is_left Channel.write_record Codec.header Codec.bytes_of Codec.laid_record Codec.kinded Codec.fitting Codec.checked Codec.read
+unfolding Step.next Step.answer next_entry answer_entry Calls.«open» Calls.launched Calls.output Calls.tick Calls.deadline Calls.next_message Calls.credit Range.fresh Range.stop Range.stop_at Range.in_range output_fits bytes_with admits cost wrap ring_read ring_from ring_write copied if_else order Life.pass_grace Life.pass_timeout Life.pass_settlement Life.pass_give_up Life.pass_abandonment Life.fire Life.ticked Life.deadline_of Life.note_started Life.note_launch Life.launched_next Life.is_ready Life.outcome_of Message.sendable_of Message.choose Message.output_paid Message.output_sent Message.effect Message.payload Message.buffer_after Message.said_for Streams.output_taken Streams.output_next Streams.output_store Streams.output_took Streams.credit_in Streams.credit_answer Streams.credit_next number_at be32_at Carrier.admitted Carrier.accepted Carrier.readied Carrier.written Carrier.asked Carrier.wrote Carrier.wrote_buffer Carrier.told Carrier.sent Carrier.write Channel.made Channel.parsed_read Channel.read_record Channel.sent_as Channel.sent_buffer Channel.is_left Channel.write_record Codec.header Codec.bytes_of Codec.laid_record Codec.kinded Codec.fitting Codec.checked Codec.read has_notes
 channel_idle = ((refl, (refl, (refl, tt))), refl)
 
 -- and as frames on the streams 1 and 3: WINDOW_UPDATE of a byte, DATA on stderr's stream, and RST_STREAM read, and what is written into
@@ -151,7 +151,7 @@ in_frames_heard = Call.Ok ∷ Call.Applied ∷ Call.Taken 1 ∷ Call.Says (Call.
 pub frames_idle : AllIdle (begins short) in_frames
     × (answers_of (amid (begins short) in_frames) ≡ in_frames_heard)
     × (answers_of (run_entries (begins short) (alone in_frames)) ≡ in_frames_heard)
-unfolding Step.next Step.answer next_entry answer_entry Calls.«open» Calls.launched Calls.output Calls.tick Calls.deadline Calls.next_message Calls.credit Range.fresh Range.stop Range.in_range output_fits bytes_with admits cost wrap ring_read ring_from ring_write copied if_else order Life.pass_grace Life.pass_timeout Life.pass_settlement Life.pass_give_up Life.pass_abandonment Life.fire Life.ticked Life.deadline_of Life.note_started Life.note_launch Life.launched_next Life.is_ready Message.sendable_of Message.choose Message.output_paid Message.output_sent Message.effect Message.payload Message.buffer_after Message.said_for Streams.output_taken Streams.output_next Streams.output_store Streams.output_took Streams.credit_in Streams.credit_answer Streams.credit_next number_at be32_at Carrier.admitted Carrier.accepted Carrier.readied Carrier.written Carrier.asked Carrier.wrote Carrier.wrote_buffer Carrier.told Carrier.sent Carrier.write Calls.next_request Calls.reset Life.end_grace Life.begin_termination Life.terminate Life.silenced Life.give_up_soon Life.cut_off Life.cut_off_once Life.detach_next Message.wish_for Message.wish Message.wish_effect be24_at Framing.number31_at Framing.is_whole Framing.stream_of Framing.data_in Framing.of_four Framing.kinded Framing.on_stream Framing.read Framing.header Framing.bytes_of Frames.made Frames.parsed_read Frames.read_frame Frames.sent_as Frames.laid Frames.write_frame
+unfolding Step.next Step.answer next_entry answer_entry Calls.«open» Calls.launched Calls.output Calls.tick Calls.deadline Calls.next_message Calls.credit Range.fresh Range.stop Range.stop_at Range.in_range output_fits bytes_with admits cost wrap ring_read ring_from ring_write copied if_else order Life.pass_grace Life.pass_timeout Life.pass_settlement Life.pass_give_up Life.pass_abandonment Life.fire Life.ticked Life.deadline_of Life.note_started Life.note_launch Life.launched_next Life.is_ready Message.sendable_of Message.choose Message.output_paid Message.output_sent Message.effect Message.payload Message.buffer_after Message.said_for Streams.output_taken Streams.output_next Streams.output_store Streams.output_took Streams.credit_in Streams.credit_answer Streams.credit_next number_at be32_at Carrier.admitted Carrier.accepted Carrier.readied Carrier.written Carrier.asked Carrier.wrote Carrier.wrote_buffer Carrier.told Carrier.sent Carrier.write Calls.next_request Calls.reset Life.end_grace Life.begin_termination Life.terminate Life.silenced Life.give_up_soon Life.cut_off Life.cut_off_once Life.detach_next Message.wish_for Message.wish Message.wish_effect be24_at Framing.number31_at Framing.is_whole Framing.stream_of Framing.data_in Framing.of_four Framing.kinded Framing.on_stream Framing.read Framing.header Framing.bytes_of Frames.made Frames.parsed_read Frames.read_frame Frames.sent_as Frames.laid Frames.write_frame has_notes
 frames_idle =
     let a : AllIdle (begins short) in_frames = (refl, (refl, (refl, tt))) in (a, refl, ap answers_of (sym ((idle_ticks short 0 (0 ∷ 0 ∷ 0 ∷ []) []).answers in_frames a)))
 
@@ -174,7 +174,7 @@ ending_data = made (call (Call.launched (Ok tt)))
 pub data_idle : AllIdle (begins short) ending_data
     × (answers_of (amid (begins short) ending_data)
     ≡ Call.Ok ∷ Call.Says (Call.Credit 1) ∷ Call.Applied ∷ Call.Refused 6 ∷ Call.Came 0 ∷ Call.Says Call.Started ∷ [])
-unfolding Step.next Step.answer next_entry answer_entry Calls.«open» Calls.launched Calls.tick Calls.deadline Calls.next_message Range.fresh Range.stop Range.in_range output_fits bytes_with admits cost wrap ring_read ring_from ring_write copied if_else order Life.pass_grace Life.pass_timeout Life.pass_settlement Life.pass_give_up Life.pass_abandonment Life.fire Life.ticked Life.deadline_of Life.note_started Life.note_launch Life.launched_next Life.is_ready Message.sendable_of Message.choose Message.effect Message.said_for number_at be32_at Carrier.admitted Carrier.accepted Carrier.readied Carrier.written Carrier.asked Carrier.wrote Carrier.told Carrier.sent Carrier.write be24_at Framing.number31_at Framing.is_whole Framing.stream_of Framing.data_in Framing.kinded Framing.on_stream Framing.read Frames.made Frames.parsed_read Frames.read_frame Frames.sent_as Frames.write_frame Calls.input Calls.end_input Calls.input_written Streams.received Streams.input_answer Streams.input_next Streams.input_store Streams.input_lengths Streams.end_answer Streams.end_next Streams.written_next Streams.written_came Streams.written_lengths Input.receive_answer Input.receive_input Input.receive_bytes Input.receive_lengths Input.end_answer Input.end_input Input.written_input Input.written_came Frames.then_end Frames.data_made
+unfolding Step.next Step.answer next_entry answer_entry Calls.«open» Calls.launched Calls.tick Calls.deadline Calls.next_message Range.fresh Range.stop Range.in_range output_fits bytes_with admits cost wrap ring_read ring_from ring_write copied if_else order Life.pass_grace Life.pass_timeout Life.pass_settlement Life.pass_give_up Life.pass_abandonment Life.fire Life.ticked Life.deadline_of Life.note_started Life.note_launch Life.launched_next Life.is_ready Message.sendable_of Message.choose Message.effect Message.said_for number_at be32_at Carrier.admitted Carrier.accepted Carrier.readied Carrier.written Carrier.asked Carrier.wrote Carrier.told Carrier.sent Carrier.write be24_at Framing.number31_at Framing.is_whole Framing.stream_of Framing.data_in Framing.kinded Framing.on_stream Framing.read Frames.made Frames.parsed_read Frames.read_frame Frames.sent_as Frames.write_frame Calls.input Calls.end_input Calls.input_written Streams.received Streams.input_answer Streams.input_next Streams.input_store Streams.input_lengths Streams.end_answer Streams.end_next Streams.written_next Streams.written_came Streams.written_lengths Input.receive_answer Input.receive_input Input.receive_bytes Input.receive_lengths Input.end_answer Input.end_input Input.written_input Input.written_came Frames.then_end Frames.data_made has_notes
 data_idle = ((refl, (refl, (refl, tt))), refl)
 
 -- ---- what a tick put in may move: two timers that no answer shows, so that the two runs do not end in the same state
@@ -207,7 +207,7 @@ pub told_idle : AllIdle (begins none) told_in_frames
     × (answers_of (amid (begins none) told_in_frames)
     ≡ Call.Ok ∷ Call.Ok ∷ Call.Ok ∷ Call.Ok ∷ Call.Ok
     ∷ Call.Says Call.Started ∷ Call.Says Call.InputClosed ∷ Call.Says (Call.End Stdout) ∷ Call.Says (Call.End Stderr) ∷ Call.Says (Call.Terminal whole) ∷ Call.Late ∷ [])
-unfolding Step.next Step.answer next_entry answer_entry Calls.«open» Calls.launched Calls.tick Calls.deadline Calls.next_message Range.fresh Range.stop Range.in_range output_fits bytes_with admits if_else order Life.pass_grace Life.pass_timeout Life.pass_settlement Life.pass_give_up Life.pass_abandonment Life.fire Life.ticked Life.deadline_of Life.note_started Life.note_launch Life.launched_next Life.is_ready Life.outcome_of Message.sendable_of Message.choose Message.effect Message.said_for number_at be32_at Carrier.admitted Carrier.accepted Carrier.readied Carrier.written Carrier.asked Carrier.wrote Carrier.told Carrier.sent Carrier.write Life.close_runner_input be24_at Framing.number31_at Framing.is_whole Framing.stream_of Framing.data_in Framing.kinded Framing.on_stream Framing.read Frames.made Frames.parsed_read Frames.read_frame Frames.sent_as Frames.write_frame Calls.exited Calls.settled Calls.output_closed Calls.input Calls.end_input Life.drop_launch Life.drop_streams Life.note_exit Life.note_exit_once Life.exited_next Life.settled_next Streams.closed_next Streams.received Streams.input_answer Streams.input_next Streams.end_answer Frames.then_end Frames.data_made
+unfolding Step.next Step.answer next_entry answer_entry Calls.«open» Calls.launched Calls.tick Calls.deadline Calls.next_message Range.fresh Range.stop Range.stop_at Range.in_range output_fits bytes_with admits if_else order Life.pass_grace Life.pass_timeout Life.pass_settlement Life.pass_give_up Life.pass_abandonment Life.fire Life.ticked Life.deadline_of Life.note_started Life.note_launch Life.launched_next Life.is_ready Life.outcome_of Message.sendable_of Message.choose Message.effect Message.said_for number_at be32_at Carrier.admitted Carrier.accepted Carrier.readied Carrier.written Carrier.asked Carrier.wrote Carrier.told Carrier.sent Carrier.write Life.close_runner_input be24_at Framing.number31_at Framing.is_whole Framing.stream_of Framing.data_in Framing.kinded Framing.on_stream Framing.read Frames.made Frames.parsed_read Frames.read_frame Frames.sent_as Frames.write_frame Calls.exited Calls.settled Calls.output_closed Calls.input Calls.end_input Life.drop_launch Life.drop_streams Life.note_exit Life.note_exit_once Life.exited_next Life.settled_next Streams.closed_next Streams.received Streams.input_answer Streams.input_next Streams.end_answer Frames.then_end Frames.data_made has_notes
 told_idle = ((refl, (refl, (refl, tt))), refl)
 
 -- an abandonment that finds nothing to abandon
@@ -224,7 +224,7 @@ unseen : (AllIdle (begins none) fenced
     × (AllIdle (begins none) clean
     × ((after_entries (begins none) (alone clean)).runner.clocks.give_up_at ≡ Some 0)
     × ((after_entries (begins none) (woven clean)).runner.clocks.give_up_at ≡ None))
-unfolding Step.next Step.answer next_entry Calls.«open» Calls.launched Calls.exited Calls.settled Calls.output_closed Calls.cancel Calls.tick Calls.deadline Range.fresh Range.stop Range.in_range output_fits bytes_with admits Life.close_runner_input Life.end_grace Life.begin_termination Life.terminate Life.abandon_open_streams Life.pass_grace Life.pass_timeout Life.pass_settlement Life.give_up_unless_clean Life.pass_give_up Life.drop_launch Life.drop_streams Life.pass_abandonment Life.fire Life.ticked Life.deadline_of Life.cancel_next Life.note_started Life.note_launch Life.launched_next Life.note_exit Life.note_exit_once Life.exited_next Life.settled_next Streams.closed_next
+unfolding Step.next Step.answer next_entry Calls.«open» Calls.launched Calls.exited Calls.settled Calls.output_closed Calls.cancel Calls.tick Calls.deadline Range.fresh Range.stop Range.stop_at Range.in_range output_fits bytes_with admits Life.close_runner_input Life.end_grace Life.begin_termination Life.terminate Life.abandon_open_streams Life.pass_grace Life.pass_timeout Life.pass_settlement Life.give_up_unless_clean Life.pass_give_up Life.drop_launch Life.drop_streams Life.pass_abandonment Life.fire Life.ticked Life.deadline_of Life.cancel_next Life.note_started Life.note_launch Life.launched_next Life.note_exit Life.note_exit_once Life.exited_next Life.settled_next Streams.closed_next has_notes
 unseen = (((refl, tt), refl, refl), ((refl, tt), refl, refl))
 
 abbrev is_never : Option ℕ → Bool
@@ -304,7 +304,7 @@ pub record Computed : Type 0 where
   pub late : (lately (13 ∷ 17 ∷ 20 ∷ []) ≡ Call.Nothing) × (lately (20 ∷ []) ≡ Call.Asks (Call.Discard Stdout))
 
 pub computed : Computed
-unfolding Step.next Step.answer next_entry answer_entry Calls.«open» Calls.tick Calls.deadline Calls.next_request Calls.launched Calls.exited Calls.cancel Calls.awaits_settlement Calls.read_allowance Range.fresh Range.stop Range.in_range output_fits bytes_with admits Life.close_runner_input Life.end_grace Life.give_up Life.abandon_launch Life.abandon_open_streams Life.begin_termination Life.terminate Life.pass_grace Life.pass_timeout Life.pass_settlement Life.give_up_unless_clean Life.pass_give_up Life.drop_launch Life.drop_streams Life.pass_abandonment Life.fire Life.ticked Life.deadline_of Life.cancel_next Life.note_started Life.note_launch Life.launched_next Life.note_exit Life.note_exit_once Life.exited_next Streams.read_allowance_of Message.wish_for Message.wish Message.wish_effect
+unfolding Step.next Step.answer next_entry answer_entry Calls.«open» Calls.tick Calls.deadline Calls.next_request Calls.launched Calls.exited Calls.cancel Calls.awaits_settlement Calls.read_allowance Range.fresh Range.stop Range.stop_at Range.in_range output_fits bytes_with admits Life.close_runner_input Life.end_grace Life.give_up Life.abandon_launch Life.abandon_open_streams Life.begin_termination Life.terminate Life.pass_grace Life.pass_timeout Life.pass_settlement Life.give_up_unless_clean Life.pass_give_up Life.drop_launch Life.drop_streams Life.pass_abandonment Life.fire Life.ticked Life.deadline_of Life.cancel_next Life.note_started Life.note_launch Life.launched_next Life.note_exit Life.note_exit_once Life.exited_next Streams.read_allowance_of Message.wish_for Message.wish Message.wish_effect has_notes
 computed = record {
   before_it = (refl, refl, refl);
   after_it = (refl, refl, refl);
@@ -328,5 +328,5 @@ abbrev cut : List ℕ → List Beat
 cut ticks = record { ticks = []; clock = 4; entry = read_frame 4 1 reset } ∷ record { ticks = ticks; clock = 100; entry = framed } ∷ []
 
 pub cut_due : at_deadlines (begins short) (cut []) ≡ cut (7 ∷ [])
-unfolding Step.next Step.answer next_entry Calls.«open» Calls.tick Calls.deadline Calls.reset Range.fresh Range.stop Range.in_range output_fits bytes_with Life.end_grace Life.give_up Life.begin_termination Life.terminate Life.pass_grace Life.pass_timeout Life.pass_settlement Life.give_up_unless_clean Life.pass_give_up Life.pass_abandonment Life.fire Life.ticked Life.deadline_of Life.silenced Life.give_up_soon Life.cut_off Life.cut_off_once Life.detach_next number_at be32_at be24_at Carrier.admitted Carrier.accepted Framing.number31_at Framing.is_whole Framing.stream_of Framing.of_four Framing.kinded Framing.on_stream Framing.read Frames.made Frames.parsed_read Frames.read_frame
+unfolding Step.next Step.answer next_entry Calls.«open» Calls.tick Calls.deadline Calls.reset Range.fresh Range.stop Range.in_range output_fits bytes_with Life.end_grace Life.give_up Life.begin_termination Life.terminate Life.pass_grace Life.pass_timeout Life.pass_settlement Life.give_up_unless_clean Life.pass_give_up Life.pass_abandonment Life.fire Life.ticked Life.deadline_of Life.silenced Life.give_up_soon Life.cut_off Life.cut_off_once Life.detach_next number_at be32_at be24_at Carrier.admitted Carrier.accepted Framing.number31_at Framing.is_whole Framing.stream_of Framing.of_four Framing.kinded Framing.on_stream Framing.read Frames.made Frames.parsed_read Frames.read_frame has_notes
 cut_due = refl

@@ -27,19 +27,19 @@ put_output x o os = cond (is_stdout x) o (stdout os) ∷ cond (is_stderr x) o (s
 abbrev pub seen : (third : Bool) → List Output → List Output
 seen third os = stdout os ∷ stderr os ∷ cond third (notes os) over ∷ []
 
--- each changed alike
-abbrev pub each_output : (Output → Output) → List Output → List Output
-each_output f os = f (output_in Stdout os) ∷ f (output_in Stderr os) ∷ f (output_in Notes os) ∷ []
+-- each that is open changed alike
+abbrev pub each_output : (third : Bool) → (Output → Output) → List Output → List Output
+each_output third f os = f (stdout os) ∷ f (stderr os) ∷ cond third (f (notes os)) (notes os) ∷ []
 
 -- the same, where After says what each may become
-abbrev pub Changes : (After : Output → Output → Type 0) → (os changed : List Output) → Type 0
-Changes After os changed =
-    (a b c : Output) × After (output_in Stdout os) a × After (output_in Stderr os) b × After (output_in Notes os) c × (changed ≡ a ∷ b ∷ c ∷ [])
+abbrev pub Changes : (third : Bool) → (After : Output → Output → Type 0) → (os changed : List Output) → Type 0
+Changes third After os changed =
+    (a b c : Output) × After (stdout os) a × After (stderr os) b × After (notes os) c × (changed ≡ a ∷ b ∷ cond third c (notes os) ∷ [])
 
 -- whether every one passes a test, where After says what the test may answer of each
 abbrev pub Passes : (After : Output → Bool → Type 0) → List Output → Bool → Type 0
 Passes After os passes =
-    (a b c : Bool) × After (output_in Stdout os) a × After (output_in Stderr os) b × After (output_in Notes os) c × (passes ≡ ((a && b) && c))
+    (a b c : Bool) × After (stdout os) a × After (stderr os) b × After (notes os) c × (passes ≡ ((a && b) && c))
 
 abbrev pub all_closed : List Output → Bool
 all_closed os = every_stream (λ (x : Stream). (output_in x os).closed)

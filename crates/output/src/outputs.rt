@@ -38,12 +38,21 @@ pub fn seen(notes: bool, outputs: [Output; 3]) -> [Output; 3]
     [outputs[0], outputs[1], third]
 }
 
-// Each changed alike.
-pub fn each<F: Fn(Output) -> Output>(outputs: [Output; 3], change: F) -> [Output; 3]
+// Each that is open changed alike, given whether Notes is.
+pub fn each<F: Fn(Output) -> Output>(
+    notes: bool,
+    outputs: [Output; 3],
+    change: F,
+) -> [Output; 3]
     requires { F.IsAlwaysCallable change }
-    ensures { Changes (F.post change) outputs result }
+    ensures { Changes notes (F.post change) outputs result }
 {
-    [change(outputs[0]), change(outputs[1]), change(outputs[2])]
+    let third = change(outputs[2]);
+    [
+        change(outputs[0]),
+        change(outputs[1]),
+        if notes { third } else { outputs[2] },
+    ]
 }
 
 // Whether every one passes. Without a branch between them: calls of every turn ask it.

@@ -10,7 +10,7 @@ use Rattle.exec.specs.declared.Settlement.TheVariants as Settlement
 use Rattle.exec.specs.declared.Stream.{Stream}
 use Rattle.exec.specs.declared.Stream.TheVariants.{Stdout, Stderr}
 use Rattle.exec.specs.Key.{admits}
-use Rattle.exec.specs.Limits.{cost, bytes_with}
+use Rattle.exec.specs.Limits.{cost, bytes_with, has_notes}
 use Rattle.ring.specs.Ring.{wrap, ring_read, ring_from, ring_write}
 use Rattle.ring.specs.Runs.{copied}
 use Rattle.octets.specs.Bytes.{number_at, be32_at, be24_at}
@@ -147,7 +147,7 @@ computed : (wire on_wire begins entries ≡ bytes)
     × (wire on_wire begins broken ≡ broken_bytes)
     × (any terminal_message (said conf 0 (zeros 16) [] broken) ≡ true)
     × (wire on_wire begins half ≡ half_bytes)
-unfolding next_entry on_wire Step.next Step.answer Calls.«open» Calls.launched Calls.output Calls.output_closed Calls.exited Calls.settled Calls.reset Calls.next_message Calls.credit Range.fresh Range.stop Range.in_range output_fits bytes_with admits cost wrap ring_read ring_from ring_write copied if_else order Life.close_runner_input Life.end_grace Life.give_up Life.begin_termination Life.pass_grace Life.terminate Life.pass_timeout Life.pass_settlement Life.give_up_unless_clean Life.pass_give_up Life.drop_launch Life.drop_streams Life.pass_abandonment Life.fire Life.ticked Life.note_started Life.note_launch Life.launched_next Life.note_exit Life.note_exit_once Life.exited_next Life.settled_next Life.silenced Life.give_up_soon Life.cut_off Life.cut_off_once Life.detach_next Life.is_ready Life.outcome_of Message.sendable_of Message.choose Message.output_paid Message.output_sent Message.effect Message.payload Message.buffer_after Message.said_for Streams.output_taken Streams.output_next Streams.output_store Streams.output_took Streams.closed_next Streams.credit_in Streams.credit_answer Streams.credit_next number_at be32_at be24_at Carrier.admitted Carrier.accepted Carrier.wrote Carrier.wrote_buffer Carrier.told Carrier.asked Carrier.sent Carrier.readied Carrier.written Carrier.write Frames.made Frames.parsed_read Frames.read_frame Frames.sent_as Frames.laid Frames.write_frame Framing.header Framing.bytes_of Framing.is_whole Framing.number31_at Framing.stream_of Framing.data_in Framing.of_four Framing.kinded Framing.on_stream Framing.read answer_entry Calls.discarded Streams.discarded_next
+unfolding next_entry on_wire Step.next Step.answer Calls.«open» Calls.launched Calls.output Calls.output_closed Calls.exited Calls.settled Calls.reset Calls.next_message Calls.credit Range.fresh Range.stop Range.stop_at Range.in_range output_fits bytes_with admits cost wrap ring_read ring_from ring_write copied if_else order Life.close_runner_input Life.end_grace Life.give_up Life.begin_termination Life.pass_grace Life.terminate Life.pass_timeout Life.pass_settlement Life.give_up_unless_clean Life.pass_give_up Life.drop_launch Life.drop_streams Life.pass_abandonment Life.fire Life.ticked Life.note_started Life.note_launch Life.launched_next Life.note_exit Life.note_exit_once Life.exited_next Life.settled_next Life.silenced Life.give_up_soon Life.cut_off Life.cut_off_once Life.detach_next Life.is_ready Life.outcome_of Message.sendable_of Message.choose Message.output_paid Message.output_sent Message.effect Message.payload Message.buffer_after Message.said_for Streams.output_taken Streams.output_next Streams.output_store Streams.output_took Streams.closed_next Streams.credit_in Streams.credit_answer Streams.credit_next number_at be32_at be24_at Carrier.admitted Carrier.accepted Carrier.wrote Carrier.wrote_buffer Carrier.told Carrier.asked Carrier.sent Carrier.readied Carrier.written Carrier.write Frames.made Frames.parsed_read Frames.read_frame Frames.sent_as Frames.laid Frames.write_frame Framing.header Framing.bytes_of Framing.is_whole Framing.number31_at Framing.stream_of Framing.data_in Framing.of_four Framing.kinded Framing.on_stream Framing.read answer_entry Calls.discarded Streams.discarded_next has_notes
 computed = (refl, refl, refl, refl, refl, refl, refl, refl)
 
 pub session : (wire on_wire begins entries ≡ bytes) × (wire on_wire begins (entries ++ (written ∷ [])) ≡ bytes)

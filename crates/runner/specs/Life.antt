@@ -13,6 +13,7 @@ use Rattle.exec.specs.declared.Outcome.{Outcome}
 use Rattle.exec.specs.declared.Receipt.TheVariants.{Applied, Stale, Late}
 use Rattle.exec.specs.declared.Settlement.{Settlement}
 use Rattle.exec.specs.declared.Stream.TheVariants.{Stdout, Stderr, Notes}
+use Rattle.exec.specs.Limits.{has_notes}
 use Rattle.exec.specs.Time.{after, then, due}
 use Rattle.lifecycle.specs.declared.life.Launch.TheVariants as Launch
 use Rattle.lifecycle.specs.declared.life.Settling.TheVariants.{Fenced}
@@ -46,14 +47,14 @@ close_runner_input r =
 -- ended grace drops every queue, and asks to discard each stream that is still open
 unfoldable pub end_grace : Runner → Runner
 end_grace r =
-    with (set_grace_until None r.clocks) r.life r.flags r.input (each_output grace_ended r.outputs) r
+    with (set_grace_until None r.clocks) r.life r.flags r.input (each_output (has_notes r.limits) grace_ended r.outputs) r
 
 -- drops every queue, closes and marks each stream still open, sets a missing exit to no status, and fences settling
 unfoldable pub give_up : Runner → Runner
 give_up r =
     with (stop_waiting r.clocks) (life_given_up r.life)
     (flags_of r.flags.started_message false true r.flags.launch_abandoned r.flags.detached r.flags.credited r.flags.finished)
-    r.input (each_output given_up r.outputs) r
+    r.input (each_output (has_notes r.limits) given_up r.outputs) r
 
 -- ends the wait for a launch, fencing settling
 unfoldable pub abandon_launch : Runner → Runner
@@ -65,7 +66,7 @@ abandon_launch r =
 -- closes and marks each stream neither closed nor hung up
 unfoldable pub abandon_open_streams : Runner → Runner
 abandon_open_streams r =
-    with (set_abandon_at None r.clocks) r.life r.flags r.input (each_output abandoned r.outputs) r
+    with (set_abandon_at None r.clocks) r.life r.flags r.input (each_output (has_notes r.limits) abandoned r.outputs) r
 
 -- ---- a termination
 

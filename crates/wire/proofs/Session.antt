@@ -12,7 +12,7 @@ use Rattle.exec.specs.declared.Outcome.{Outcome}
 use Rattle.exec.specs.declared.Status.TheVariants as Status
 use Rattle.exec.specs.declared.Stream.TheVariants.{Stdout, Stderr}
 use Rattle.exec.specs.Key.{admits}
-use Rattle.exec.specs.Limits.{cost, bytes_with}
+use Rattle.exec.specs.Limits.{cost, bytes_with, has_notes}
 use Rattle.ring.specs.Ring.{wrap, ring_read, ring_from, ring_write}
 use Rattle.ring.specs.Runs.{copied}
 use Rattle.octets.specs.Bytes.{number_at, be32_at}
@@ -70,7 +70,7 @@ cut = record {
 computed : (wire on_wire (Step.opened channel 0 (zeros 16) []) entries ≡ packets)
     × (wire on_wire (Step.opened channel 0 (zeros 16) []) (lossy ++ (written ∷ [])) ≡ packets)
     × (answer_entry (after_entries (Step.opened channel 0 (zeros 16) []) lossy) written ≡ Call.Says (Call.Terminal cut))
-unfolding next_entry on_wire Step.next Calls.«open» Calls.launched Calls.output Calls.output_closed Calls.exited Calls.settled Calls.next_message Calls.credit Range.fresh Range.stop Range.in_range output_fits bytes_with admits cost wrap ring_read ring_from ring_write copied if_else order Life.close_runner_input Life.pass_grace Life.pass_timeout Life.pass_settlement Life.pass_give_up Life.pass_abandonment Life.fire Life.ticked Life.note_started Life.note_launch Life.launched_next Life.note_exit Life.note_exit_once Life.exited_next Life.settled_next Life.is_ready Life.outcome_of Message.sendable_of Message.choose Message.output_paid Message.output_sent Message.effect Message.payload Message.buffer_after Message.said_for Streams.output_taken Streams.output_next Streams.output_store Streams.output_took Streams.closed_next Streams.credit_in Streams.credit_answer Streams.credit_next number_at be32_at Carrier.admitted Channel.made Channel.parsed_read Carrier.accepted Channel.read_record Channel.sent_as Channel.sent_buffer Carrier.wrote Carrier.wrote_buffer Carrier.told Carrier.asked Channel.is_left Carrier.sent Carrier.readied Carrier.written Carrier.write Channel.write_record Codec.header Codec.bytes_of Codec.laid_record Codec.kinded Codec.fitting Codec.checked Codec.read Exits.ending Exits.request Exits.is_untold Exits.is_told Text.bytes answer_entry Calls.discarded Streams.discarded_next
+unfolding next_entry on_wire Step.next Calls.«open» Calls.launched Calls.output Calls.output_closed Calls.exited Calls.settled Calls.next_message Calls.credit Range.fresh Range.stop Range.stop_at Range.in_range output_fits bytes_with admits cost wrap ring_read ring_from ring_write copied if_else order Life.close_runner_input Life.pass_grace Life.pass_timeout Life.pass_settlement Life.pass_give_up Life.pass_abandonment Life.fire Life.ticked Life.note_started Life.note_launch Life.launched_next Life.note_exit Life.note_exit_once Life.exited_next Life.settled_next Life.is_ready Life.outcome_of Message.sendable_of Message.choose Message.output_paid Message.output_sent Message.effect Message.payload Message.buffer_after Message.said_for Streams.output_taken Streams.output_next Streams.output_store Streams.output_took Streams.closed_next Streams.credit_in Streams.credit_answer Streams.credit_next number_at be32_at Carrier.admitted Channel.made Channel.parsed_read Carrier.accepted Channel.read_record Channel.sent_as Channel.sent_buffer Carrier.wrote Carrier.wrote_buffer Carrier.told Carrier.asked Channel.is_left Carrier.sent Carrier.readied Carrier.written Carrier.write Channel.write_record Codec.header Codec.bytes_of Codec.laid_record Codec.kinded Codec.fitting Codec.checked Codec.read Exits.ending Exits.request Exits.is_untold Exits.is_told Text.bytes answer_entry Calls.discarded Streams.discarded_next has_notes
 computed = (refl, refl, refl)
 
 pub session : wire on_wire (Step.opened channel 0 (zeros 16) []) entries ≡ packets
