@@ -4,7 +4,7 @@ use Rattle.std.specs.Prelude.{Result, Ok}
 use Rattle.exec.specs.declared.Admission.TheVariants.{Own}
 use Rattle.exec.specs.declared.Admission.{Admission}
 use Rattle.exec.specs.declared.Refusal.{Refusal}
-use mathlib.Core.Bool.{Bool, true, false, not, ◌||◌}
+use mathlib.Core.Bool.{Bool, true, false, not, ◌||◌, cond}
 use mathlib.Core.Path.{◌≡◌, refl, subst⁻¹}
 use mathlib.Core.List.{List}
 use Prim.Native.Nat.{ℕ}
@@ -29,7 +29,7 @@ pub record Stands (P : Stream → Bool → Tally → Type 0) (c : Call) (r : Ans
   -- the runner closes it
   pub lost : (x : Stream) (k : Bool) (t : Tally) → P x k t → P x true (marked true t)
   pub fails : (x : Stream) (k : Bool) (t : Tally) → c ≡ Call.output_failed x → P x k t → P x true (marked true t)
-  pub closes : (x : Stream) (k : Bool) (t : Tally) → c ≡ Call.output_closed x → P x k t → P x true t
+  pub closes : (x : Stream) (k : Bool) (t : Tally) → c ≡ Call.output_closed x → is_refused r ≡ false → P x k t → P x true t
   pub takes : (x : Stream) (b : List ℕ) (k : Bool) (t : Tally) → c ≡ Call.output x b → P x k t → P x k (taken_by (take (count r) b) t)
   pub sends : (x : Stream) (b : List ℕ) (k : Bool) (t : Tally) → r ≡ Call.Says (Call.Output x b) → P x k t → P x k (sent_by b t)
 
@@ -125,25 +125,29 @@ module _ (P : Stream → Bool → Tally → Type 0) (c : Call) (r : Answer) (h :
   hear_keeps (Call.Says m) a e p = heard_keeps m a e p
   hear_keeps _ a e p = p
 
-  adds_keeps : (d : Call) (a : Account) → c ≡ d → All P a → All P (adds a d r)
+  adds_keeps : (d : Call) (a : Account) → c ≡ d → is_refused r ≡ false → All P a → All P (adds a d r)
   unfolding adds
-  adds_keeps (Call.cancel now k y) a e p = cancel_keeps (admits a.rep.key k) now a p
-  adds_keeps (Call.output x b) a e p =
+  adds_keeps (Call.cancel now k y) a e f p = cancel_keeps (admits a.rep.key k) now a p
+  adds_keeps (Call.output x b) a e f p =
       on_each (λ (y : Stream) (t : Tally). P y (one y a.rep.closed) t) x (taken_by (take (count r) b)) a.tallies (h.takes x b _ _ e (p x)) (λ y d. p y)
-  adds_keeps (Call.discarded x n) a e p =
+  adds_keeps (Call.discarded x n) a e f p =
       on_each (λ (y : Stream) (t : Tally). P y (one y a.rep.closed) t) x (marked (ltb 0 n)) a.tallies (h.marks x (ltb 0 n) _ _ (p x)) (λ y d. p y)
-  adds_keeps (Call.output_closed x) a e p =
-      on_each (λ (y : Stream) (k : Bool). P y k (tally_of y a)) x (λ (k : Bool). true) a.rep.closed (h.closes x _ _ e (p x)) (λ y d. p y)
-  adds_keeps (Call.output_failed x) a e p = on_two P x (λ (k : Bool). true) (marked true) a.rep.closed a.tallies (h.fails x _ _ e (p x)) (λ y d. p y)
-  adds_keeps (Call.exited now y) a e p = exit_keeps now a p
-  adds_keeps (Call.dropped now) a e p = detach_keeps now a p
-  adds_keeps (Call.reset now) a e p = detach_keeps now a p
-  adds_keeps (Call.disconnect now) a e p = detach_keeps now a p
-  adds_keeps (Call.tick now) a e p = tick_keeps now a p
-  adds_keeps (Call.next_message b) a e p = hear_keeps r a refl p
-  adds_keeps (Call.output_hung_up x) a e p = p
-  adds_keeps _ a e p = p
+  adds_keeps (Call.output_closed x) a e f p =
+      on_each (λ (y : Stream) (k : Bool). P y k (tally_of y a)) x (λ (k : Bool). true) a.rep.closed (h.closes x _ _ e f (p x)) (λ y d. p y)
+  adds_keeps (Call.output_failed x) a e f p = on_two P x (λ (k : Bool). true) (marked true) a.rep.closed a.tallies (h.fails x _ _ e (p x)) (λ y d. p y)
+  adds_keeps (Call.exited now y) a e f p = exit_keeps now a p
+  adds_keeps (Call.dropped now) a e f p = detach_keeps now a p
+  adds_keeps (Call.reset now) a e f p = detach_keeps now a p
+  adds_keeps (Call.disconnect now) a e f p = detach_keeps now a p
+  adds_keeps (Call.tick now) a e f p = tick_keeps now a p
+  adds_keeps (Call.next_message b) a e f p = hear_keeps r a refl p
+  adds_keeps (Call.output_hung_up x) a e f p = p
+  adds_keeps _ a e f p = p
 
   pub add_keeps : (a : Account) → All P a → All P (add a c r)
   unfolding add
-  add_keeps a p = either (All P) (is_refused r) a (adds a c r) p (adds_keeps c a refl p)
+  add_keeps a p = by (is_refused r) refl
+    where
+      by : (b : Bool) → is_refused r ≡ b → All P (cond b a (adds a c r))
+      by true f = p
+      by false f = adds_keeps c a refl f p

@@ -47,7 +47,7 @@ add_pre c r a e h = add_keeps (λ (x : Stream) (k : Bool) (t : Tally). IsPrefix 
   marks = λ x b k t p. p;
   lost = λ x k t p. p;
   fails = λ x k t d p. p;
-  closes = λ x k t d p. p;
+  closes = λ x k t d f p. p;
   takes = λ x b k t d p. longer t.sent t.taken (take (count r) b) p;
   sends = λ x b k t d p. absurd (true≢false (sym (ap is_message d) ∙ e));
 }) a h

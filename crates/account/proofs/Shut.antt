@@ -1,7 +1,9 @@
 -- Of what the turn needs: a stream that is closed and not marked was closed by the program, and one of a runner that has finished
 -- stays closed.
-use mathlib.Core.Bool.{Bool, true, false, true≢false, false≢true}
-use mathlib.Core.Path.{◌≡◌, refl, sym, ◌∙◌}
+use Rattle.exec.specs.declared.Limits.{Limits}
+use Rattle.exec.specs.Limits.{has}
+use mathlib.Core.Bool.{Bool, true, false, true≢false, false≢true, not, cond}
+use mathlib.Core.Path.{◌≡◌, refl, sym, ◌∙◌, ap}
 use mathlib.Core.List.{List, [], ◌∷◌}
 use mathlib.Core.Logic.{inl, inr}
 use Prim.Native.Nat.{ℕ}
@@ -9,7 +11,7 @@ use Rattle.exec.specs.declared.Stream.{Stream}
 use Rattle.runner.specs.declared.runner.Runner.{Runner}
 use Rattle.runner.specs.State.{out_of}
 use Rattle.calls.specs.Call as Call
-use Rattle.calls.specs.Call.{Conf, Call, Answer, Done, count}
+use Rattle.calls.specs.Call.{Conf, Call, Answer, Done, count, is_refused}
 use Rattle.account.specs.Step.{State}
 use Rattle.account.specs.Account.{Account, Tally, add, account, start}
 use Rattle.account.specs.TurnClaim.{Has}
@@ -26,31 +28,35 @@ use Rattle.account.proofs.Outs.{Stands, quiet_keeps}
 abbrev pub closing_call : Stream → Done
 closing_call x = record { call = Call.output_closed x; answer = Call.Ok }
 
-closed_now : (x : Stream) (c : Call) (s : State) → c ≡ Call.output_closed x → closing_call x ≡ record { call = c; answer = answer s c }
+closed_now : (x : Stream) (c : Call) (s : State) → c ≡ Call.output_closed x → is_refused (answer s c) ≡ false → closing_call x ≡ record { call = c; answer = answer s c }
 unfolding answer
-closed_now x c s e = rw e refl
+closed_now x c s e f = rw e (by (has s.runner.limits x) (rw e at f))
+  where
+    by : (b : Bool) → is_refused (cond b Call.Ok (Call.Refused 2)) ≡ false → closing_call x ≡ record { call = Call.output_closed x; answer = cond b Call.Ok (Call.Refused 2) }
+    by true f = refl
+    by false f = absurd (true≢false f)
 
--- G x: that the program closed x
-module _ (G : Stream → Type 0) where
+-- G x: that the program closed x, which is open
+module _ (l : Limits) (G : Stream → Type 0) where
   abbrev pub Owns : Stream → Bool → Tally → Type 0
-  Owns x k t = k ≡ true → t.mark ≡ false → G x
+  Owns x k t = has l x ≡ true → k ≡ true → t.mark ≡ false → G x
 
   pub list_own : (cs : List Call) (s : State) (a : Account) → ((x : Stream) → Has (closing_call x) (run s cs) → G x) → All Owns a → All Owns (account a (run s cs))
   list_own [] s a g h = h
   list_own (c ∷ cs) s a g h =
       list_own cs (next s c) (add a c (answer s c)) (λ x m. g x (inr m))
       (add_keeps Owns c (answer s c) (record {
-        marks = λ x b k t p e m. p e (or_parts b t.mark m).1;
-        lost = λ x k t p e m. absurd (true≢false m);
-        fails = λ x k t d p e m. absurd (true≢false m);
-        closes = λ x k t d p e m. g x (inl (closed_now x c s d));
+        marks = λ x b k t p o e m. p o e (or_parts b t.mark m).1;
+        lost = λ x k t p o e m. absurd (true≢false m);
+        fails = λ x k t d p o e m. absurd (true≢false m);
+        closes = λ x k t d f p o e m. g x (inl (closed_now x c s d f));
         takes = λ x b k t d p. p;
         sends = λ x b k t d p. p;
       }) a h)
 
-pub start_own : (G : Stream → Type 0) (conf : Conf) (now : ℕ) → All (Owns G) (start conf now)
+pub start_own : (G : Stream → Type 0) (conf : Conf) (now : ℕ) → All (Owns conf.limits G) (start conf now)
 unfolding start
-start_own G conf now x e m = absurd (false≢true (sym (one_per (λ (y : Stream). false) x) ∙ e))
+start_own G conf now x o e m = absurd (false≢true (sym (ap not o) ∙ sym (one_per (λ (y : Stream). not (has conf.limits y)) x) ∙ e))
 
 -- ---- final: a runner that has finished has its streams closed, and takes and says no more
 

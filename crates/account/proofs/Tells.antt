@@ -35,7 +35,7 @@ module _ (z : Account) where
     marks = λ x b k t p. p;
     lost = λ x k t p. p;
     fails = λ x k t d p. p;
-    closes = λ x k t d p. p;
+    closes = λ x k t d f p. p;
     takes = λ x b k t d p. (ap (λ (l : List ℕ). t.taken ++ l) (g x b d) ∙ append-nil t.taken ∙ p.0, p.1);
     sends = λ x b k t d p. absurd (m x b d);
   }) a h

@@ -25,7 +25,7 @@ use Rattle.account.specs.Account.{Account, Replay, Tally, add, account, start, t
 use Rattle.account.specs.Claim.{Opens, IsPrefix, is_message, is_terminal}
 use Rattle.account.specs.Records.{Entry, EntryDone, call, next_entry, after_entries, made, calls_of, alike, dones_of, run_entries, entry_account, Whole}
 use Rattle.account.specs.TurnClaim.{Has, closing, answer_after, Turn}
-use Rattle.account.proofs.Plain.{next, answer, after_all, run, begun}
+use Rattle.account.proofs.Plain.{next, answer, after_all, run, begun, of_open}
 use Rattle.account.proofs.Sides.{one_per}
 use Rattle.account.proofs.Keeps.{All}
 use Rattle.account.proofs.Finish.{Ends, ends, ends_fin, ends_answer, no_more, fin_stays}
@@ -65,7 +65,7 @@ unmarked t e = (or_parts (ltb (length t.sent) (length t.taken)) t.mark e).1
 
 shut_takes : (c : Call) (s : State) → Shut s.runner → (x : Stream) (b : List ℕ) → c ≡ Call.output x b → count (answer s c) ≡ 0
 unfolding answer output_taken
-shut_takes c s h x b e = rw (e, h x) refl
+shut_takes c s h x b e = rw e (of_open (λ r. count r ≡ 0) s x (Call.Taken (output_taken s.runner x (length b))) (rw (h x) refl) refl)
 
 -- Terminal comes where each stream is closed
 delivered_closed : (d : Bool) (o : Output) → (is_done o && (o.ended || d)) ≡ true → o.closed ≡ true
@@ -151,9 +151,9 @@ module _ (conf : Conf) (now : ℕ) (bytes lengths : List ℕ) (op : Opens conf n
       let q = at_terminal conf now bytes lengths op es e h in
       (q.0, q.3, sym (ap is_terminal (q.2 ∙ same_answer conf now bytes lengths op (made_of es) q.0)) ∙ h)
 
-  own_at : (es : List Entry) (x : Stream) → one x (plain es).rep.closed ≡ true → (tally_of x (plain es)).mark ≡ false → Has (closing x) (run_entries (Step.opened conf now bytes lengths) es)
+  own_at : (es : List Entry) (x : Stream) → has conf.limits x ≡ true → one x (plain es).rep.closed ≡ true → (tally_of x (plain es)).mark ≡ false → Has (closing x) (run_entries (Step.opened conf now bytes lengths) es)
   own_at es x =
-      list_own (λ (y : Stream). Has (closing y) (run_entries (Step.opened conf now bytes lengths) es)) (made_of es) (begun conf now bytes lengths) (start conf now)
+      list_own conf.limits (λ (y : Stream). Has (closing y) (run_entries (Step.opened conf now bytes lengths) es)) (made_of es) (begun conf now bytes lengths) (start conf now)
       (λ y m. closing_in conf y (run_entries (Step.opened conf now bytes lengths) es)
       (subst⁻¹ (Has (closing_call y)) (same_dones conf es (Step.opened conf now bytes lengths) (good_open conf now bytes lengths op) ∙ same_run conf now bytes lengths op (made_of es)) m))
       (start_own _ conf now) x
@@ -174,12 +174,12 @@ module _ (conf : Conf) (now : ℕ) (bytes lengths : List ℕ) (op : Opens conf n
     rows = λ es e o x h u.
         sym (sent_told conf now bytes lengths op es x) ∙ uncut_sent (tallied conf now bytes lengths es x) (w.joined es x) (uncut es e o x h u)
         ∙ taken_told conf now bytes lengths op es x;
-    own = λ es e o x h u. (let q = terminal_call es e (ap is_terminal h) in
+    own = λ es e o x i h u. (let q = terminal_call es e (ap is_terminal h) in
         let course = open_course conf now bytes lengths (lent_open conf now bytes lengths op) (made_of es) in
-        own_at es x (replay_shut x (state es) (plain es) q.0 course q.2)
+        own_at es x i (replay_shut x (state es) (plain es) q.0 course q.2)
         (subst (λ (a : Account). (tally_of x a).mark ≡ false) (to_plain es) (unmarked (tallied conf now bytes lengths es x) (uncut es e o x h u))));
-    undropped = λ es e o x n h u l. spared conf now bytes lengths op es e o x (Call.discarded x n) (dropped_marks x n l) h u;
-    unfailed = λ es e o x h u. spared conf now bytes lengths op es e o x (Call.output_failed x) (failed_marks x) h u;
+    undropped = λ es e o x n i h u l. spared conf now bytes lengths op es e o x (Call.discarded x n) (dropped_marks x conf.limits i n l) h u;
+    unfailed = λ es e o x i h u. spared conf now bytes lengths op es e o x (Call.output_failed x) (failed_marks x conf.limits i) h u;
     final = λ es e ds x h. (let q = terminal_call es e h in
         let p : Same (plain es) x true (tallied conf now bytes lengths (es ++ (e ∷ ds)) x) = rw (to_plain (es ++ (e ∷ ds))) (final_at es e ds q.0 q.1 q.2 x) in (
           sym (taken_told conf now bytes lengths op (es ++ (e ∷ ds)) x) ∙ p.0 ∙ ap (λ (a : Account). (tally_of x a).taken) (sym (to_plain es)) ∙ taken_told conf now bytes lengths op es x,

@@ -6,6 +6,7 @@ use Rattle.std.specs.Prelude.{true, false, cond, ◌≡◌, List, [], ◌∷◌,
 use Rattle.exec.specs.declared.Outcome.{Outcome}
 use Rattle.exec.specs.declared.Stream.{Stream}
 use Rattle.exec.specs.Outcome.{is_truncated}
+use Rattle.exec.specs.Limits.{has}
 use Rattle.exec.specs.Stream.{same_stream}
 use Rattle.calls.specs.Call as Call
 use Rattle.calls.specs.Call.{Conf, Call, Answer, Message, count}
@@ -113,13 +114,13 @@ pub record Turn (conf : Conf) (now : ℕ) (bytes lengths : List ℕ) : Type 0 wh
   -- Terminal reports a stream untruncated: the bytes sent of it are the bytes taken of it, all of them
   pub rows : (es : List Entry) (e : Entry) (o : Outcome) (x : Stream) → answer_after conf now bytes lengths es e ≡ Call.Says (Call.Terminal o) → is_truncated o x ≡ false
       → sent_in x (run_entries (opened conf now bytes lengths) es) ≡ taken_in x (run_entries (opened conf now bytes lengths) es)
-  -- and the program itself closed it before
-  pub own : (es : List Entry) (e : Entry) (o : Outcome) (x : Stream) → answer_after conf now bytes lengths es e ≡ Call.Says (Call.Terminal o) → is_truncated o x ≡ false
+  -- and, if it is open, the program itself closed it before
+  pub own : (es : List Entry) (e : Entry) (o : Outcome) (x : Stream) → has conf.limits x ≡ true → answer_after conf now bytes lengths es e ≡ Call.Says (Call.Terminal o) → is_truncated o x ≡ false
       → Has (closing x) (run_entries (opened conf now bytes lengths) es)
   -- and it reported no byte of it discarded, and no failure to read it, whatever that was answered
-  pub undropped : (es : List Entry) (e : Entry) (o : Outcome) (x : Stream) (n : ℕ) → answer_after conf now bytes lengths es e ≡ Call.Says (Call.Terminal o) → is_truncated o x ≡ false
+  pub undropped : (es : List Entry) (e : Entry) (o : Outcome) (x : Stream) (n : ℕ) → has conf.limits x ≡ true → answer_after conf now bytes lengths es e ≡ Call.Says (Call.Terminal o) → is_truncated o x ≡ false
       → 0 < n → Has (call (Call.discarded x n)) es → ⊥
-  pub unfailed : (es : List Entry) (e : Entry) (o : Outcome) (x : Stream) → answer_after conf now bytes lengths es e ≡ Call.Says (Call.Terminal o) → is_truncated o x ≡ false
+  pub unfailed : (es : List Entry) (e : Entry) (o : Outcome) (x : Stream) → has conf.limits x ≡ true → answer_after conf now bytes lengths es e ≡ Call.Says (Call.Terminal o) → is_truncated o x ≡ false
       → Has (call (Call.output_failed x)) es → ⊥
   -- after Terminal no call and no record adds to the bytes taken or sent of any stream
   pub final : (es : List Entry) (e : Entry) (ds : List Entry) (x : Stream) → is_terminal (answer_after conf now bytes lengths es e) ≡ true
