@@ -1,11 +1,12 @@
 -- Laws of what carriers share: what is met first, by the runner's own limits, and the part of the buffer that a message is asked for in.
-use Rattle.std.specs.Prelude.{Bool, true, false, cond, not, List, ◌++◌, ◌≡◌, refl, ℕ, ◌+◌, ◌-◌, ◌≤◌, leb, length, take, drop, Option, Result, Ok, Err}
+use Rattle.std.specs.Prelude.{Bool, true, false, cond, not, ◌&&◌, List, ◌++◌, ◌≡◌, refl, ℕ, ◌+◌, ◌-◌, ◌≤◌, leb, length, take, drop, Option, Result, Ok, Err}
 use Rattle.std.proofs.Common.{sym, ap, ◌∙◌, arith, leb-true, append_assoc, length-append, length-drop, length-take-le, take-append-drop, drop_at, drop-drop}
 use Rattle.std.proofs.lemmas.List.{take-append-le}
 use Rattle.exec.specs.declared.Refusal.{Refusal}
 use Rattle.exec.specs.declared.Limits.{Limits}
 use Rattle.exec.specs.declared.Refusal.TheVariants.{NoLimits, StoreShort, StateOutOfRange, SmallestGrant, BufferShort}
 use Rattle.exec.specs.Limits.{is_valid}
+use Rattle.inbox.specs.Need.{need_fits}
 use Rattle.runner.specs.declared.answer.After.{After}
 use Rattle.runner.specs.declared.answer.Message.{Message}
 use Rattle.runner.specs.declared.runner.Runner.{Runner}
@@ -24,24 +25,25 @@ admitted_by (Ok l) enough carries own = carried (cond enough (Ok tt) (Err StoreS
 admitted_by (Err x) enough carries own = Err x
 
 -- by the tests
-abbrev met : (range valid grants stores : Bool) → Result (Unit {0}) Refusal
-met range valid grants stores =
+abbrev met : (range valid grants need stores : Bool) → Result (Unit {0}) Refusal
+met range valid grants need stores =
     cond (not range) (Err StateOutOfRange)
-    (cond (not valid) (Err NoLimits) (cond (not grants) (Err SmallestGrant) (cond (not stores) (Err StoreShort) (Ok tt))))
+    (cond (not valid) (Err NoLimits) (cond (not grants) (Err SmallestGrant) (cond (not (need && stores)) (Err StoreShort) (Ok tt))))
 
--- the runner's limits tell whether it is in range, has limits, and grants as it may
-admitted_as : (range valid grants enough carries : Bool) (own : Refusal) (l : Limits)
-    → admitted_by (unless (met range valid grants true) l) enough carries own ≡ carried (met range valid grants enough) carries own
+-- the runner's limits tell whether it is in range, has limits, grants as it may, and has a need that a store can have
+admitted_as : (range valid grants need enough carries : Bool) (own : Refusal) (l : Limits)
+    → admitted_by (unless (met range valid grants need true) l) enough carries own ≡ carried (met range valid grants need enough) carries own
 unfolding admitted_by
-admitted_as true true true true carries own l = refl
-admitted_as true true true false carries own l = refl
-admitted_as true true false enough carries own l = refl
-admitted_as true false grants enough carries own l = refl
-admitted_as false valid grants enough carries own l = refl
+admitted_as true true true true true carries own l = refl
+admitted_as true true true true false carries own l = refl
+admitted_as true true true false enough carries own l = refl
+admitted_as true true false need enough carries own l = refl
+admitted_as true false grants need enough carries own l = refl
+admitted_as false valid grants need enough carries own l = refl
 
 pub admitted_by_lem : (r : Runner) (enough carries : Bool) (own : Refusal) → admitted r enough carries own ≡ admitted_by (Calls.limits r) enough carries own
 unfolding Calls.limits stop admitted
-admitted_by_lem r enough carries own = sym (admitted_as (in_range r) (is_valid r.limits) (grants r) enough carries own r.limits)
+admitted_by_lem r enough carries own = sym (admitted_as (in_range r) (is_valid r.limits) (grants r) (need_fits r.limits) enough carries own r.limits)
 
 -- of a runner in range with its stores
 pub admitted_so : (r : Runner) (stores carries : Bool) (own : Refusal) → stop r stores ≡ Ok tt → admitted r stores carries own ≡ cond carries (Ok tt) (Err own)

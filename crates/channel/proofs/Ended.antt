@@ -1,5 +1,5 @@
 -- What the record of a Terminal tells, that a Terminal that is left stays with the runner, and what a write keeps of the buffer.
-use Rattle.std.specs.Prelude.{Bool, List, ℕ, ◌+◌, ◌-◌, ◌^◌, ◌≤◌, ◌<◌, eqb, length, take, drop, ◌++◌, Option, Result, Some, None, Ok, Err}
+use Rattle.std.specs.Prelude.{Bool, cond, List, ℕ, ◌+◌, ◌-◌, ◌^◌, ◌≤◌, ◌<◌, eqb, length, take, drop, ◌++◌, Option, Result, Some, None, Ok, Err}
 use Rattle.std.proofs.Math.Bool.{true, false}
 use Rattle.std.proofs.lemmas.Bool.{false≢true}
 use Rattle.std.proofs.Math.Path.{◌≡◌, refl, sym, ap, subst⁻¹}
@@ -10,7 +10,7 @@ use Rattle.exec.specs.declared.Refusal.TheVariants.{NoLimits, StoreShort, StateO
 use Rattle.exec.specs.declared.Outcome.{Outcome}
 use Rattle.exec.specs.declared.Status.{Status}
 use Rattle.exec.specs.declared.Stream.{Stream}
-use Rattle.exec.specs.declared.Stream.TheVariants.{Stdout, Stderr}
+use Rattle.exec.specs.declared.Stream.TheVariants.{Stdout, Stderr, Notes}
 use Rattle.exec.specs.Refusal.{number}
 use Rattle.choice.specs.declared.Choice.{Choice}
 use Rattle.runner.specs.declared.answer.Message.{Message}
@@ -20,6 +20,7 @@ use Rattle.runner.specs.Life.{outcome_of}
 use Rattle.runner.specs.Message.{choose, said_for}
 use Rattle.runner.specs.Range.{bytes_do, stop}
 use Rattle.runner.specs.RangeLaws.{stop_ends}
+use Rattle.runner.specs.State.{outputs_of}
 use Rattle.runner.specs.TerminalLaws.{still}
 use Rattle.codec.specs.declared.Record.{Record}
 use Rattle.codec.specs.declared.Record.TheVariants.{Adjust, Data, Extended, Eof}
@@ -33,7 +34,8 @@ use Rattle.carrier.specs.CarrierLaws.{beyond}
 use Rattle.carrier.specs.SaidLaws.{Within, Keeps, Pays}
 use Rattle.carrier.specs.Writes as Writes
 use Rattle.carrier.specs.Writes.{Writes, elsewhere, short, left, taken, writes, stopped}
-use Rattle.channel.specs.Calls.{has_ended, output_record, sent_as, sent_buffer, laying, is_left, carriage, write_record}
+use Rattle.channel.specs.declared.calls.Sending.{Sending}
+use Rattle.channel.specs.Calls.{output_record, last_end, sent_as, sent_buffer, laying, is_left, carriage, write_record}
 use Rattle.channel.specs.Ended.{number_of, Still, Ending, EndsAs}
 
 -- ---- a Terminal that is left
@@ -50,21 +52,21 @@ choice_left (Choice.Output x n) r e = absurd (false≢true e)
 choice_left Choice.Terminal r e = (refl, e)
 
 -- what is told is no refusal
-said_number : (c : Choice) (r : Runner) (channel : ℕ) (ended : Bool) → number_of (wrote (laying channel ended) (said_for c r)) ≡ 0
+said_number : (c : Choice) (r : Runner) (channel : ℕ) (last : Stream → Bool) → number_of (wrote (laying channel last) (said_for c r)) ≡ 0
 unfolding said_for wrote
-said_number Choice.None r channel ended = refl
-said_number Choice.Credit r channel ended = refl
-said_number Choice.Started r channel ended = refl
-said_number Choice.InputClosed r channel ended = refl
-said_number (Choice.End x) r channel ended = refl
-said_number (Choice.Output x n) r channel ended = refl
-said_number Choice.Terminal r channel ended = refl
+said_number Choice.None r channel last = refl
+said_number Choice.Credit r channel last = refl
+said_number Choice.Started r channel last = refl
+said_number Choice.InputClosed r channel last = refl
+said_number (Choice.End x) r channel last = refl
+said_number (Choice.Output x n) r channel last = refl
+said_number Choice.Terminal r channel last = refl
 
 -- what a call meets ahead of it is no 40
 stop_number : (r : Runner) (stores : Bool) (x : Refusal) → stop r stores ≡ Err x → number x ≡ 40 → ⊥
 stop_number r stores =
     stop_ends (λ m. (x : Refusal) → m ≡ Err x → number x ≡ 40 → ⊥) (other NoLimits refl) (other SmallestGrant refl) (other StoreShort refl) r stores
-    (other StateOutOfRange refl) (λ i v g s x e n. (let z : ◌≡◌ {A = ℕ} 0 1 = cc in absurd (omega arith)))
+    (other StateOutOfRange refl) (λ i v g n s x e z. (let z : ◌≡◌ {A = ℕ} 0 1 = cc in absurd (omega arith)))
   where
     other : (y : Refusal) → eqb (number y) 40 ≡ false → (x : Refusal) → ◌≡◌ {A = Result (Unit {0}) Refusal} (Err y) (Err x) → number x ≡ 40 → ⊥
     other y f x e n = let q : number y ≡ number x = cc in true≢false (sym (eq-eqb (number y) 40 (q ∙ n)) ∙ f)
@@ -87,7 +89,7 @@ module _ (r : Runner) (channel : ℕ) (store b : List ℕ) where
   by_writes g met w (short c l) e h = absurd (omega arith)
   by_writes g met w (left u) e h = still_left g u e
   by_writes g met w (taken u l) e h =
-      let z : ◌≡◌ {A = ℕ} 0 40 = sym (said_number (choose r (length (take r.limits.chunk (drop 13 b)))) r channel (has_ended r)) ∙ (rw g at h) in
+      let z : ◌≡◌ {A = ℕ} 0 40 = sym (said_number (choose r (length (take r.limits.chunk (drop 13 b)))) r channel (last_end (outputs_of r))) ∙ (rw g at h) in
       absurd (omega arith)
 
   -- A WRITE REFUSED BY 40 CHANGES NOTHING, AND NEXT_MESSAGE STILL GIVES THE TERMINAL
@@ -107,26 +109,26 @@ module _ (r : Runner) (channel : ℕ) (store b : List ℕ) where
 -- ---- a Terminal that is told
 
 module _ (r : Runner) (channel : ℕ) (known : channel < 2 ^ 32) where
-  said_ends : (ended : Bool) (b : List ℕ) (said : Result (Option Message) Refusal) → is_left said ≡ false
-      → EndsAs channel (wrote_buffer (laying channel ended) said b) (wrote (laying channel ended) said)
+  said_ends : (last : Stream → Bool) (b : List ℕ) (said : Result (Option Message) Refusal) → is_left said ≡ false
+      → EndsAs channel (wrote_buffer (laying channel last) said b) (wrote (laying channel last) said)
   unfolding is_left wrote wrote_buffer sent_as sent_buffer
-  said_ends ended b (Ok (Some (Message.Terminal o))) u =
+  said_ends last b (Ok (Some (Message.Terminal o))) u =
       let q = ended_reads channel o.status (drop (length (ending channel o.status)) b) known u in
       record { told = u; size = refl; tells = q.0; closes = q.1 }
-  said_ends ended b (Ok (Some (Message.Credit units))) u = tt
-  said_ends ended b (Ok (Some Message.Started)) u = tt
-  said_ends ended b (Ok (Some (Message.Output x n))) u = tt
-  said_ends ended b (Ok (Some (Message.End x))) u = tt
-  said_ends ended b (Ok (Some Message.InputClosed)) u = tt
-  said_ends ended b (Ok None) u = tt
-  said_ends ended b (Err x) u = tt
+  said_ends last b (Ok (Some (Message.Credit units))) u = tt
+  said_ends last b (Ok (Some Message.Started)) u = tt
+  said_ends last b (Ok (Some (Message.Output x n))) u = tt
+  said_ends last b (Ok (Some (Message.End x))) u = tt
+  said_ends last b (Ok (Some Message.InputClosed)) u = tt
+  said_ends last b (Ok None) u = tt
+  said_ends last b (Err x) u = tt
 
   ends : (store b : List ℕ) (met : Bool) (w : WriteAfter) → Writes (carriage r channel store b) r store b met w → EndsAs channel w.buffer w.writing.answer
   unfolding told
   ends store b met w (elsewhere c) = tt
   ends store b met w (short c l) = tt
   ends store b met w (left u) = tt
-  ends store b met w (taken u l) = said_ends (has_ended r) (asked 13 r store b).buffer (asked 13 r store b).saying.answer u
+  ends store b met w (taken u l) = said_ends (last_end (outputs_of r)) (asked 13 r store b).buffer (asked 13 r store b).saying.answer u
 
   ends_so : (store b : List ℕ) → EndsAs channel (write_record r channel store b).buffer (write_record r channel store b).writing.answer
   unfolding write_record
@@ -156,22 +158,26 @@ ending_beyond : (l : Limits) (channel : ℕ) (status : Option Status) (b : List 
     → drop (room l) (ending channel status ++ drop (length (ending channel status)) b) ≡ drop (room l) b
 ending_beyond l channel status b = beyond (ending channel status) b (length (ending channel status)) (room l) refl (omega (arith, ending_bound channel status))
 
-keeps : (l : Limits) (channel : ℕ) (ended : Bool) → Keeps l (laying channel ended) (room l) (room l)
+keeps : (l : Limits) (channel : ℕ) (last : Stream → Bool) → Keeps l (laying channel last) (room l) (room l)
 unfolding Keeps Within sent_as sent_buffer
-keeps l channel ended (Message.Credit units) b k h = record_beyond l channel (Adjust units) b h (omega arith)
-keeps l channel ended Message.Started b k h = refl
-keeps l channel ended (Message.Output Stdout n) b k h = record_beyond l channel (Data n) b h k
-keeps l channel ended (Message.Output Stderr n) b k h = record_beyond l channel (Extended n) b h k
-keeps l channel true (Message.End x) b k h = record_beyond l channel Eof b h (omega arith)
-keeps l channel false (Message.End x) b k h = refl
-keeps l channel ended Message.InputClosed b k h = refl
-keeps l channel ended (Message.Terminal o) b k h = ending_beyond l channel o.status b
+keeps l channel last (Message.Credit units) b k h = record_beyond l channel (Adjust units) b h (omega arith)
+keeps l channel last Message.Started b k h = refl
+keeps l channel last (Message.Output Stdout n) b k h = record_beyond l channel (Data n) b h k.1
+keeps l channel last (Message.Output Stderr n) b k h = record_beyond l channel (Extended n) b h k.1
+keeps l channel last (Message.Output Notes n) b k h = record_beyond l channel (Record.Notes n) b h k.1
+keeps l channel last (Message.End x) b k h = end (last x)
+  where
+    end : (e : Bool) → drop (room l) (sent_buffer channel (cond e (Sending.Record Eof) Sending.Nothing) b) ≡ drop (room l) b
+    end true = record_beyond l channel Eof b h (omega arith)
+    end false = refl
+keeps l channel last Message.InputClosed b k h = refl
+keeps l channel last (Message.Terminal o) b k h = ending_beyond l channel o.status b
 
 -- ---- the payload of an Output is the last of its record
 
-pub pays : (channel : ℕ) (ended : Bool) → Pays 13 (laying channel ended)
+pub pays : (channel : ℕ) (last : Stream → Bool) → Pays 13 (laying channel last)
 unfolding Pays sent_as sent_buffer
-pays channel ended x n b h = by x
+pays channel last x n b h = by x
   where
     record_pays : (rec : Record) → size rec ≡ n → drop (start rec + n - n) (take (start rec + n) (laid_record channel rec b)) ≡ take n (drop 13 b)
     record_pays rec e =
@@ -182,6 +188,7 @@ pays channel ended x n b h = by x
     by : (x : Stream) → drop (start (output_record x n) + size (output_record x n) - n) (take (start (output_record x n) + size (output_record x n)) (laid_record channel (output_record x n) b)) ≡ take n (drop 13 b)
     by Stdout = record_pays (Data n) refl
     by Stderr = record_pays (Extended n) refl
+    by Notes = record_pays (Record.Notes n) refl
 
 module _ (r : Runner) (channel : ℕ) (store b : List ℕ) where
   -- WHERE NO MESSAGE WAITS, THE WHOLE RECORD BUFFER IS KEPT
@@ -192,4 +199,4 @@ module _ (r : Runner) (channel : ℕ) (store b : List ℕ) where
   -- ALL BYTES BEHIND max(chunk + 13, 43) ARE KEPT, WHATEVER IS WRITTEN
   pub beyond_kept : drop (room r.limits) (write_record r channel store b).buffer ≡ drop (room r.limits) b
   unfolding write_record
-  beyond_kept = Writes.beyond_kept (carriage r channel store b) r store b (omega arith) (keeps r.limits channel (has_ended r))
+  beyond_kept = Writes.beyond_kept (carriage r channel store b) r store b (omega arith) (keeps r.limits channel (last_end (outputs_of r)))

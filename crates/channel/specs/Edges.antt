@@ -1,6 +1,6 @@
 -- The twelve edges of 01 as one table, each computed from the definitions: (1) to (10) on the runner's calls, from open on, and
 -- (11) and (12) on the records. An edge's own words stand above it.
-use Rattle.std.specs.Prelude.{◌≡◌, refl, true, false, List, [], ◌∷◌, ℕ, zero, suc, ◌-◌, ◌^◌, Option, Result, Some, None, Ok, Err}
+use Rattle.std.specs.Prelude.{◌≡◌, refl, true, false, List, [], ◌∷◌, ◌++◌, ℕ, zero, suc, ◌-◌, ◌^◌, take, Option, Result, Some, None, Ok, Err}
 use Rattle.std.proofs.Common.{arith}
 use Rattle.runner.specs.declared.answer.Message.{Message}
 use Rattle.exec.specs.declared.Receipt.{Receipt}
@@ -12,8 +12,9 @@ use Rattle.exec.specs.declared.Pool.TheVariants.{Stdout, Output}
 use Rattle.exec.specs.declared.Receipt.TheVariants.{Applied, Stale, Late}
 use Rattle.exec.specs.declared.Refusal.{Refusal}
 use Rattle.exec.specs.declared.Timers.{Timers}
+use Rattle.exec.specs.declared.Stream.{Stream}
 use Rattle.exec.specs.Key.{new_key, admits}
-use Rattle.exec.specs.Limits.{bytes_window, frames_window, limits_for, shared_output, cost, bytes_with}
+use Rattle.exec.specs.Limits.{bytes_window, frames_window, limits_for, shared_output, has_notes, cost, bytes_with}
 use Rattle.exec.specs.Refusal.{number}
 use Rattle.exec.specs.Time.{new_timers, with_timeout}
 use Rattle.ring.specs.Frames.{pop_from}
@@ -36,9 +37,9 @@ use Rattle.runner.specs.Streams.{InputAfter, input_after}
 use Rattle.codec.specs.declared.Record.TheVariants.{Adjust, Data}
 use Rattle.channel.specs.Calls as Channel
 use Rattle.carrier.specs.Carrier as Carrier
-use Rattle.carrier.specs.Carrier.{room}
+use Rattle.carrier.specs.Carrier.{WriteAfter, room}
 use Rattle.octets.specs.Bytes.{be32_at, number_at}
-use Rattle.codec.specs.Codec.{header, bytes_of, kinded, fitting, checked, read}
+use Rattle.codec.specs.Codec.{header, bytes_of, laid_record, kinded, fitting, checked, read}
 use Rattle.codec.specs.Edges.{kind_over}
 
 -- ---- the runners of the table
@@ -65,7 +66,7 @@ in_frames = limits_for 4 (frames_window 2) (bytes_window 8) false
 
 -- a runner as open returns it
 opened : Limits → Runner
-unfolding Calls.«open» Range.fresh Range.stop Range.in_range output_fits bytes_with admits
+unfolding Calls.«open» Range.fresh Range.stop Range.in_range output_fits has_notes bytes_with admits
 opened l = (Calls.«open» own l timers 1 0 (zeros 16) (zeros 2)).runner
 
 -- and after its first message, Credit: the input's window is open
@@ -187,7 +188,7 @@ edge9 = (refl, refl)
 
 -- (10) "Chunk 4, Frames 2: 16 bytes and 2 lengths do, 15 give 11"; so does one length
 opened_with : (bytes lengths : ℕ) → Result (Unit {0}) Refusal
-unfolding Calls.«open» bytes_with
+unfolding Calls.«open» has_notes bytes_with
 opened_with bytes lengths = (Calls.«open» own in_frames timers 1 0 (zeros bytes) (zeros lengths)).answer
 
 edge10 : (opened_with 16 2 ≡ Ok tt)
@@ -281,3 +282,52 @@ taken_in bytes = (Channel.read_record (Channel.write_record (opened on_channel) 
 payload : taken_in (94 ∷ 0 ∷ 0 ∷ 0 ∷ 5 ∷ 0 ∷ 0 ∷ 0 ∷ 2 ∷ 104 ∷ 105 ∷ []) ≡ 0 ∷ 0 ∷ 0 ∷ 0 ∷ 0 ∷ 0 ∷ 0 ∷ 0 ∷ 104 ∷ 105 ∷ zeros 6
 unfolding taken_in
 payload = refl
+
+-- ---- 01: the End that comes last writes 96; with two streams the second, whichever it is
+
+-- the same runner from open, once Credit and Started are told
+started : Runner
+unfolding wrotes granted Calls.launched Life.launched_next Life.note_launch Life.note_started
+started = (Calls.next_message (Calls.launched (granted on_channel) (Ok tt)).runner (zeros 16) []).saying.runner
+
+-- a stream closed, and the message that comes then: its End
+closes : Runner → Stream → WriteAfter
+unfolding started Calls.output_closed Streams.closed_next Range.stop_at Message.buffer_after Carrier.wrote_buffer Channel.sent_buffer laid_record bytes_of header
+closes r x = Channel.write_record (Calls.output_closed r x).runner 5 (zeros 16) (zeros 43)
+
+-- both, and the number of bytes of each End's record, with these bytes
+both : Stream → Stream → Result (Option (Message × ℕ)) Refusal × List ℕ × Result (Option (Message × ℕ)) Refusal × List ℕ
+unfolding closes
+both x y =
+    let first = closes started x in
+    let second = closes first.writing.runner y in
+    (first.writing.answer, first.buffer, second.writing.answer, take 5 second.buffer)
+
+eof : List ℕ
+eof = 96 ∷ 0 ∷ 0 ∷ 0 ∷ 5 ∷ []
+
+ends : (both Stream.Stdout Stream.Stderr ≡ (Ok (Some (Messages.End Stream.Stdout, 0)), zeros 43, Ok (Some (Messages.End Stream.Stderr, 5)), eof))
+    × (both Stream.Stderr Stream.Stdout ≡ (Ok (Some (Messages.End Stream.Stderr, 0)), zeros 43, Ok (Some (Messages.End Stream.Stdout, 5)), eof))
+unfolding both eof
+ends = (refl, refl)
+
+-- ---- 02, A10: an Output of Notes is a 95 of type 0xFE000000, "kn" for channel 5; none is taken that arrives, as none of type 1 is (24)
+
+extended : (a b c d : ℕ) → List ℕ
+extended a b c d = 95 ∷ 0 ∷ 0 ∷ 0 ∷ 5 ∷ a ∷ b ∷ c ∷ d ∷ 0 ∷ 0 ∷ 0 ∷ 2 ∷ 107 ∷ 110 ∷ []
+
+laid : Stream → List ℕ
+unfolding Channel.sent_as Channel.sent_buffer laid_record bytes_of header
+laid x = Channel.sent_buffer 5 (Channel.sent_as (λ (y : Stream). false) (Messages.Output x 2)) (zeros 13 ++ (107 ∷ 110 ∷ []))
+
+arrives : List ℕ → Result (Option Receipt) Refusal
+unfolding taken_in
+arrives bytes = (Channel.read_record (opened on_channel) 0 5 bytes (zeros 16) []).reading.answer
+
+typed : (laid Stream.Stderr ≡ extended 0 0 0 1)
+    × (laid Stream.Notes ≡ extended 254 0 0 0)
+    × (arrives (extended 0 0 0 1) ≡ Err Refusal.NotInbound)
+    × (arrives (extended 254 0 0 0) ≡ Err Refusal.NotInbound)
+    × (number Refusal.NotInbound ≡ 24)
+unfolding extended laid arrives
+typed = (refl, refl, refl, refl, refl)

@@ -7,7 +7,7 @@ ghost use Rattle.channel.specs.Calls.{
   read_record,
   output_record,
   sent_as,
-  has_ended,
+  last_end,
   length_of,
   sent_buffer,
   laying,
@@ -22,6 +22,8 @@ use carrier::{accept, admit, ask, read_as, ready, room};
 use codec::Record;
 use exec::{Limits, Pool, Receipt, Refusal, Status, Stream, Unit};
 use inbox::need;
+use output::Output;
+use output::outputs::seen;
 use runner::answer::{After, Message};
 use runner::runner::Runner;
 
@@ -58,8 +60,7 @@ pub fn read_record(
     ensures { read_after result store.new lengths.new ≡ read_record runner at channel bytes.now store.old lengths.old }
 {
     let limits = runner.limits;
-    let enough = (need::byte_need(limits) <= store.len())
-        & (need::length_need(limits) <= lengths.len());
+    let enough = need::bytes_do(limits, store.len()) & (need::length_need(limits) <= lengths.len());
     let admitted = admit(
         runner.limits(),
         enough,
@@ -91,7 +92,7 @@ fn make(
     match rec {
         Record::Adjust(units) => read_as(runner.credit(runner.key, Pool::Output, units), Some),
         Record::Data(_) => read_as(runner.input(runner.key, store, lengths, &bytes[9..]), Some),
-        Record::Extended(_) => After {
+        Record::Extended(_) | Record::Notes(_) => After {
             runner,
             answer: Err(Refusal::NotInbound),
         },
@@ -114,7 +115,7 @@ pub fn write_record(
     ensures { write_after result buffer.new ≡ write_record runner channel store.now buffer.old }
 {
     let limits = runner.limits;
-    let enough = need::byte_need(limits) <= store.len();
+    let enough = need::bytes_do(limits, store.len());
     let roomy = room(limits) <= buffer.len();
     let admitted = admit(
         runner.limits(),
@@ -142,7 +143,7 @@ fn send(
     requires { room runner.limits ≤ length buffer.old }
     ensures { write_after result buffer.new ≡ sent (carriage runner channel store.now buffer.old) runner store.now buffer.old }
 {
-    let ended = has_ended(runner);
+    let outputs = seen(runner.limits.has_notes(), runner.outputs);
     let saying = ask(runner, 13, store, buffer);
     if is_left(saying.answer) {
         return After {
@@ -152,7 +153,7 @@ fn send(
     }
     After {
         runner: saying.runner,
-        answer: tell(saying.answer, ended, channel, buffer),
+        answer: tell(saying.answer, outputs, channel, buffer),
     }
 }
 
@@ -166,41 +167,46 @@ fn is_left(said: Result<Option<Message>, Refusal>) -> bool
     }
 }
 
-// Whether an End has come.
-fn has_ended(runner: Runner) -> bool
-    ensures { result ≡ has_ended runner }
+// Whether the End of every other stream came.
+fn last_end(outputs: [Output; 3], stream: Stream) -> bool
+    ensures { result ≡ last_end outputs stream }
 {
-    runner.outputs.iter().any(|output| output.ended)
+    let [stdout, stderr, notes] = outputs;
+    stream.pick(
+        stderr.ended & notes.ended,
+        stdout.ended & notes.ended,
+        stdout.ended & stderr.ended,
+    )
 }
 
 #[tactic(auto, unfolding(crate::specs::CallLaws::Sayable, carrier::specs::Carrier::wrote, carrier::specs::Carrier::wrote_buffer))]
 fn tell(
     said: Result<Option<Message>, Refusal>,
-    ended: bool,
+    outputs: [Output; 3],
     channel: u32,
     buffer: &mut [u8],
 ) -> Result<Option<(Message, usize)>, Refusal>
     requires { Sayable said (length buffer.old) }
-    ensures { (result ≡ wrote (laying channel ended) said) × (buffer.new ≡ wrote_buffer (laying channel ended) said buffer.old) }
+    ensures { (result ≡ wrote (laying channel (last_end outputs)) said) × (buffer.new ≡ wrote_buffer (laying channel (last_end outputs)) said buffer.old) }
 {
     let Some(message) = said? else {
         return Ok(None);
     };
-    let out = sent_as(ended, message);
+    let out = sent_as(outputs, message);
     let n = lay_out(out, channel, buffer)?;
     Ok(Some((message, n)))
 }
 
-// What a message is sent as, where `ended` is whether an End came before it: the first writes nothing, as the other stream goes on.
+// What a message is sent as, by the outputs before it: an End that is not the last writes nothing, as another stream goes on.
 #[tactic(auto, unfolding(crate::specs::Calls::sent_as, crate::specs::CallLaws::Narrow))]
-fn sent_as(ended: bool, message: Message) -> Sending
+fn sent_as(outputs: [Output; 3], message: Message) -> Sending
     requires { Narrow message }
-    ensures { result ≡ sent_as ended message }
+    ensures { result ≡ sent_as (last_end outputs) message }
 {
     match message {
         Message::Credit(units) => Sending::Record(Record::Adjust(units)),
         Message::Output(stream, n) => Sending::Record(output_record(stream, n as u32)),
-        Message::End(_) if ended => Sending::Record(Record::Eof),
+        Message::End(stream) if last_end(outputs, stream) => Sending::Record(Record::Eof),
         Message::Terminal(outcome) => Sending::Ending(outcome.status),
         Message::Started | Message::End(_) | Message::InputClosed => Sending::Nothing,
     }
@@ -212,6 +218,7 @@ fn output_record(stream: Stream, n: u32) -> Record
     match stream {
         Stream::Stdout => Record::Data(n),
         Stream::Stderr => Record::Extended(n),
+        Stream::Notes => Record::Notes(n),
     }
 }
 

@@ -4,16 +4,24 @@ use Rattle.exec.specs.declared.Refusal.{Refusal}
 use Rattle.exec.specs.Written.{WrittenAfter, written_after}
 use Rattle.exec.specs.declared.Refusal.TheVariants.{BadLength, UnknownKind, OtherChannel, BadType, BufferShort}
 use Rattle.codec.specs.declared.Record.{Record}
-use Rattle.codec.specs.declared.Record.TheVariants.{Adjust, Data, Extended, Eof, Close}
+use Rattle.codec.specs.declared.Record.TheVariants.{Adjust, Data, Extended, Notes, Eof, Close}
 use Rattle.octets.specs.Bytes.{be32, number_at, number_within}
 
 -- ---- a record in bytes
 
--- what stands before the payload: 93 WINDOW_ADJUST, 94 DATA, 95 EXTENDED_DATA of type 1 (stderr), 96 EOF, 97 CLOSE
+-- the types of extended data (5.2): 1 is stderr's; that of Notes is 0xFE000000, the first of those for private use
+abbrev pub stderr_type : ℕ
+stderr_type = 1
+
+abbrev pub notes_type : ℕ
+notes_type = 4261412864
+
+-- what stands before the payload: 93 WINDOW_ADJUST, 94 DATA, 95 EXTENDED_DATA, 96 EOF, 97 CLOSE
 unfoldable pub header : (channel : ℕ) → Record → List ℕ
 header channel (Adjust units) = 93 ∷ (be32 channel ++ be32 units)
 header channel (Data n) = 94 ∷ (be32 channel ++ be32 n)
-header channel (Extended n) = 95 ∷ (be32 channel ++ be32 1 ++ be32 n)
+header channel (Extended n) = 95 ∷ (be32 channel ++ be32 stderr_type ++ be32 n)
+header channel (Notes n) = 95 ∷ (be32 channel ++ be32 notes_type ++ be32 n)
 header channel Eof = 96 ∷ be32 channel
 header channel Close = 97 ∷ be32 channel
 
@@ -22,6 +30,7 @@ abbrev pub start : Record → ℕ
 start (Adjust units) = 9
 start (Data n) = 9
 start (Extended n) = 13
+start (Notes n) = 13
 start Eof = 5
 start Close = 5
 
@@ -30,6 +39,7 @@ abbrev pub size : Record → ℕ
 size (Adjust units) = 0
 size (Data n) = n
 size (Extended n) = n
+size (Notes n) = n
 size Eof = 0
 size Close = 0
 
@@ -38,6 +48,7 @@ abbrev pub number : Record → ℕ
 number (Adjust units) = units
 number (Data n) = n
 number (Extended n) = n
+number (Notes n) = n
 number Eof = 0
 number Close = 0
 
@@ -50,12 +61,16 @@ bytes_of channel rec payload = header channel rec ++ payload
 
 -- ---- reading: 20 (empty), 21, 20, 22, 23
 
+-- extended data of a type: all but that of Notes is taken for stderr's, so that length and channel are looked at before its type (`fitting`)
+abbrev pub extended : (t n : ℕ) → Record
+extended t n = cond (eqb t notes_type) (Notes n) (Extended n)
+
 -- the record of a kind, with the number that its bytes have where that kind has one
 unfoldable pub kinded : (kind : ℕ) → List ℕ → Result Record Refusal
 kinded kind s =
     cond (eqb kind 93) (Ok (Adjust (number_at s 5)))
     (cond (eqb kind 94) (Ok (Data (number_at s 5)))
-    (cond (eqb kind 95) (Ok (Extended (number_at s 9)))
+    (cond (eqb kind 95) (Ok (extended (number_at s 5) (number_at s 9)))
     (cond (eqb kind 96) (Ok Eof)
     (cond (eqb kind 97) (Ok Close) (Err UnknownKind)))))
 
@@ -68,15 +83,16 @@ unfoldable pub spelled : (kind : ℕ) → List ℕ → Result Record Refusal
 spelled kind s =
     cond (eqb kind 93) (numbered Adjust (number_within s 5))
     (cond (eqb kind 94) (numbered Data (number_within s 5))
-    (cond (eqb kind 95) (numbered Extended (number_within s 9))
+    (cond (eqb kind 95) (numbered (extended (number_at s 5)) (number_within s 9))
     (cond (eqb kind 96) (Ok Eof)
     (cond (eqb kind 97) (Ok Close) (Err UnknownKind)))))
 
--- the type of extended data is 1
+-- the type of extended data is its record's
 abbrev pub is_typed : Record → List ℕ → Bool
 is_typed (Adjust units) s = true
 is_typed (Data n) s = true
-is_typed (Extended n) s = eqb (number_at s 5) 1
+is_typed (Extended n) s = eqb (number_at s 5) stderr_type
+is_typed (Notes n) s = eqb (number_at s 5) notes_type
 is_typed Eof s = true
 is_typed Close s = true
 

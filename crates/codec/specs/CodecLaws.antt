@@ -1,10 +1,10 @@
--- What bytes hold that are a record's: they are read as it, what is written holds it, and nothing else does; the answers of `write`, and what `lay` leaves.
-use Rattle.std.specs.Prelude.{◌≡◌, refl, Bool, true, false, cond, ℕ, ◌+◌, ◌-◌, ◌^◌, ◌≤◌, ◌<◌, eqb, length, take, drop, get_or, Some, Result, Ok, Err}
+-- What bytes hold that are a record's, and that they are those written for it; the answers of `write`, and what `lay` leaves.
+use Rattle.std.specs.Prelude.{◌≡◌, refl, Bool, true, false, cond, ℕ, ◌+◌, ◌-◌, ◌≤◌, ◌<◌, eqb, leb, length, take, drop, get_or, Some, None, Result, Ok, Err}
 use Rattle.std.specs.List.{copy_within}
 use Rattle.std.specs.Option.{option_eq}
-use Rattle.std.proofs.Common.{sym, ◌∙◌, arith, length-append, drop-cons}
+use Rattle.std.proofs.Common.{sym, ◌∙◌, arith, drop-cons}
 use Rattle.std.proofs.Math.Path.{ap}
-use mathlib.Core.List.{List, [], ◌∷◌, ◌++◌, append_assoc}
+use mathlib.Core.List.{List, ◌∷◌, ◌++◌, append_assoc}
 use Rattle.std.proofs.Math.Seq.{take_all}
 use borrow.Author.Tests.{eq-eqb, ne_eqb, le-leb, lt-leb, eqb-true}
 use Rattle.std.proofs.Math.Decide.{dec_lt}
@@ -13,17 +13,18 @@ use Rattle.exec.specs.declared.Refusal.TheVariants.{BadLength, BufferShort}
 use Rattle.ring.specs.Runs.{copied}
 use Rattle.ring.specs.Lent.{copied_drop}
 use Rattle.codec.specs.declared.Record.{Record}
-use Rattle.codec.specs.declared.Record.TheVariants.{Adjust, Data, Extended, Eof, Close}
-use Rattle.octets.specs.Bytes.{be32, number_at, number_within}
-use Rattle.octets.specs.BytesLaws.{number_written, number_fits, within_some, within_none, peel}
+use Rattle.codec.specs.declared.Record.TheVariants.{Adjust, Data, Extended, Notes, Eof, Close}
+use Rattle.octets.specs.Bytes.{be32, be32_at, number_at, number_within}
+use Rattle.octets.specs.BytesLaws.{number_fits, within_some, within_none, peel}
 use Rattle.exec.specs.Written.{written_after}
-use Rattle.codec.specs.Codec.{header, start, size, Fits, bytes_of, kinded, numbered, spelled, is_typed, fitting, checked, read, write, laid_record, lay}
+use Rattle.codec.specs.Codec.{stderr_type, notes_type, header, start, size, Fits, bytes_of, extended, kinded, numbered, spelled, is_typed, fitting, checked, write, laid_record, lay}
 
 pub header_length : (channel : ℕ) (rec : Record) → length (header channel rec) ≡ start rec
 unfolding header
 header_length channel (Adjust units) = refl
 header_length channel (Data n) = refl
 header_length channel (Extended n) = refl
+header_length channel (Notes n) = refl
 header_length channel Eof = refl
 header_length channel Close = refl
 
@@ -34,6 +35,7 @@ abbrev pub IsKind : (kind : ℕ) → List ℕ → Record → Type 0
 IsKind kind s (Adjust units) = (kind ≡ 93) × (number_at s 5 ≡ units)
 IsKind kind s (Data n) = (kind ≡ 94) × (number_at s 5 ≡ n)
 IsKind kind s (Extended n) = (kind ≡ 95) × (number_at s 9 ≡ n)
+IsKind kind s (Notes n) = (kind ≡ 95) × (number_at s 9 ≡ n)
 IsKind kind s Eof = kind ≡ 96
 IsKind kind s Close = kind ≡ 97
 
@@ -47,6 +49,7 @@ pub start_least : (rec : Record) → 5 ≤ start rec
 start_least (Adjust units) = omega arith
 start_least (Data n) = omega arith
 start_least (Extended n) = omega arith
+start_least (Notes n) = omega arith
 start_least Eof = omega arith
 start_least Close = omega arith
 
@@ -55,6 +58,7 @@ pub start_most : (rec : Record) → start rec ≤ 13
 start_most (Adjust units) = omega arith
 start_most (Data n) = omega arith
 start_most (Extended n) = omega arith
+start_most (Notes n) = omega arith
 start_most Eof = omega arith
 start_most Close = omega arith
 
@@ -74,12 +78,20 @@ either : (channel : ℕ) (s : List ℕ) (b : Bool) (x y v w : Result Record Refu
 either channel s true x y v w e f = e
 either channel s false x y v w e f = f
 
+-- extended data has its number in its first 13 bytes, whichever its type
+extended_least : (t n : ℕ) → 13 ≤ start (extended t n) + size (extended t n)
+extended_least t n = each (eqb t notes_type) _ _ (omega arith) (omega arith)
+  where
+    each : (b : Bool) (x y : Record) → 13 ≤ start x + size x → 13 ≤ start y + size y → 13 ≤ start (cond b x y) + size (cond b x y)
+    each true x y h k = h
+    each false x y h k = k
+
 pub checked_spelled : (channel k : ℕ) (s : List ℕ) → checked channel s (spelled k s) ≡ checked channel s (kinded k s)
 unfolding spelled kinded
 checked_spelled channel k s =
     either channel s (eqb k 93) _ _ _ _ (number_checked channel s 5 Adjust (λ n. omega arith))
     (either channel s (eqb k 94) _ _ _ _ (number_checked channel s 5 Data (λ n. omega arith))
-    (either channel s (eqb k 95) _ _ _ _ (number_checked channel s 9 Extended (λ n. omega arith)) refl))
+    (either channel s (eqb k 95) _ _ _ _ (number_checked channel s 9 (extended (number_at s 5)) (λ n. extended_least (number_at s 5) n)) refl))
 
 pub spelled_err : (channel k : ℕ) (s : List ℕ) (x : Refusal) → spelled k s ≡ Err x → Err x ≡ checked channel s (kinded k s)
 unfolding checked
@@ -93,59 +105,14 @@ spelled_ok channel k s rec h = sym (ap (checked channel s) h) ∙ checked_spelle
 pub number_is : (s : List ℕ) (at n : ℕ) → at + 4 ≤ length s → option_eq eqb (number_within s at) (Some n) ≡ eqb (number_at s at) n
 number_is s at n h = rw (within_some s at h) refl
 
-kinded_of : (k : ℕ) (s : List ℕ) (rec : Record) → IsKind k s rec → kinded k s ≡ Ok rec
-unfolding kinded
-kinded_of k s (Adjust units) h = rw (h.0, h.1)
-kinded_of k s (Data n) h = rw (h.0, h.1)
-kinded_of k s (Extended n) h = rw (h.0, h.1)
-kinded_of k s Eof h = rw h
-kinded_of k s Close h = rw h
-
-pub read_of : (channel : ℕ) (s : List ℕ) (rec : Record) → Holds channel s rec → read channel s ≡ Ok rec
-unfolding read checked fitting
-read_of channel s rec h =
-    let some : eqb (length s) 0 ≡ false = ne_eqb (length s) 0 (omega (arith, start_least rec)) in
-    simp (some, kinded_of (get_or s 0 0) s rec h.kind, eq-eqb _ _ h.whole, eq-eqb _ _ h.mine, h.typed)
-
--- ---- what is written holds the record
-
-written_length : (channel : ℕ) (rec : Record) (payload : List ℕ) → length payload ≡ size rec → length (bytes_of channel rec payload) ≡ start rec + size rec
-unfolding bytes_of
-written_length channel rec payload e = simp length-append (omega (arith, header_length channel rec))
-
-pub holds_written : (channel : ℕ) (rec : Record) (payload : List ℕ) → channel < 2 ^ 32 → Fits rec → length payload ≡ size rec
-    → Holds channel (bytes_of channel rec payload) rec
-unfolding bytes_of header
-holds_written channel (Adjust units) payload known fits e = record {
-  kind = (refl, number_written (93 ∷ be32 channel) payload units fits);
-  whole = written_length channel (Adjust units) payload e;
-  mine = number_written (93 ∷ []) (be32 units ++ payload) channel known;
-  typed = refl;
-}
-holds_written channel (Data n) payload known fits e = record {
-  kind = (refl, number_written (94 ∷ be32 channel) payload n fits);
-  whole = written_length channel (Data n) payload e;
-  mine = number_written (94 ∷ []) (be32 n ++ payload) channel known;
-  typed = refl;
-}
-holds_written channel (Extended n) payload known fits e = record {
-  kind = (refl, number_written (95 ∷ (be32 channel ++ be32 1)) payload n fits);
-  whole = written_length channel (Extended n) payload e;
-  mine = number_written (95 ∷ []) (be32 1 ++ (be32 n ++ payload)) channel known;
-  typed = eq-eqb _ 1 (number_written (95 ∷ be32 channel) (be32 n ++ payload) 1 (omega arith));
-}
-holds_written channel Eof payload known fits e = record {
-  kind = refl;
-  whole = written_length channel Eof payload e;
-  mine = number_written (96 ∷ []) payload channel known;
-  typed = refl;
-}
-holds_written channel Close payload known fits e = record {
-  kind = refl;
-  whole = written_length channel Close payload e;
-  mine = number_written (97 ∷ []) payload channel known;
-  typed = refl;
-}
+-- the type of Notes, compared in any bytes: a number that they do not hold is read as 0
+pub type_is : (s : List ℕ) → option_eq eqb (number_within s 5) (Some notes_type) ≡ eqb (number_at s 5) notes_type
+unfolding number_within number_at
+type_is s = by (leb 9 (length s))
+  where
+    by : (b : Bool) → option_eq eqb (cond b (Some (be32_at s 5)) None) (Some notes_type) ≡ eqb (cond b (be32_at s 5) 0) notes_type
+    by true = refl
+    by false = refl
 
 -- ---- bytes that hold a record are those that are written for it
 
@@ -156,6 +123,14 @@ module _ (channel : ℕ) (s : List ℕ) (bytes : (i : ℕ) → get_or s i 0 < 25
       ∙ ap (λ (x : ℕ). x ∷ drop 1 s) (sym e)
       ∙ sym (drop-cons s 0 0 (omega arith))
 
+  -- extended data of a type, from its three numbers
+  typed_again : (t n : ℕ) → get_or s 0 0 ≡ 95 → number_at s 1 ≡ channel → number_at s 5 ≡ t → number_at s 9 ≡ n → 13 ≤ length s
+      → 95 ∷ (be32 channel ++ (be32 t ++ (be32 n ++ drop 13 s))) ≡ s
+  typed_again t n kind mine typed sized h =
+      ap (λ (x : List ℕ). 95 ∷ (be32 channel ++ (be32 t ++ x))) (sym (peel s bytes 9 n h sized))
+      ∙ ap (λ (x : List ℕ). 95 ∷ (be32 channel ++ x)) (sym (peel s bytes 5 t (omega arith) typed))
+      ∙ front 95 kind mine (omega arith)
+
   pub written_again : (rec : Record) → Holds channel s rec → bytes_of channel rec (drop (start rec) s) ≡ s
   unfolding bytes_of header
   written_again (Adjust units) h =
@@ -164,10 +139,8 @@ module _ (channel : ℕ) (s : List ℕ) (bytes : (i : ℕ) → get_or s i 0 < 25
   written_again (Data n) h =
       ap (λ (t : List ℕ). 94 ∷ (be32 channel ++ t)) (sym (peel s bytes 5 n (omega arith) h.kind.1))
       ∙ front 94 h.kind.0 h.mine (omega arith)
-  written_again (Extended n) h =
-      ap (λ (t : List ℕ). 95 ∷ (be32 channel ++ (be32 1 ++ t))) (sym (peel s bytes 9 n (omega arith) h.kind.1))
-      ∙ ap (λ (t : List ℕ). 95 ∷ (be32 channel ++ t)) (sym (peel s bytes 5 1 (omega arith) (eqb-true _ 1 h.typed)))
-      ∙ front 95 h.kind.0 h.mine (omega arith)
+  written_again (Extended n) h = typed_again stderr_type n h.kind.0 h.mine (eqb-true _ stderr_type h.typed) h.kind.1 (omega (arith, h.whole))
+  written_again (Notes n) h = typed_again notes_type n h.kind.0 h.mine (eqb-true _ notes_type h.typed) h.kind.1 (omega (arith, h.whole))
   written_again Eof h = front 96 h.kind h.mine (omega arith)
   written_again Close h = front 97 h.kind h.mine (omega arith)
 
@@ -175,6 +148,7 @@ module _ (channel : ℕ) (s : List ℕ) (bytes : (i : ℕ) → get_or s i 0 < 25
   held_fits (Adjust units) h = omega (arith, number_fits s bytes 5)
   held_fits (Data n) h = omega (arith, number_fits s bytes 5)
   held_fits (Extended n) h = omega (arith, number_fits s bytes 9)
+  held_fits (Notes n) h = omega (arith, number_fits s bytes 9)
   held_fits Eof h = omega arith
   held_fits Close h = omega arith
 

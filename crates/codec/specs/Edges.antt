@@ -1,12 +1,13 @@
--- Which kinds are read, and what `lay` leaves on each side of its bound, computed from the definitions; the records' own bytes are
--- edges (11) and (12) in the crate channel.
+-- Which kinds and which types are read, and what `lay` leaves on each side of its bound, computed from the definitions; the records' own
+-- bytes are edges (11) and (12) in the crate channel.
 use Rattle.std.specs.Prelude.{◌≡◌, refl, List, [], ◌∷◌, ◌++◌, ℕ, ◌<◌, length, Ok, Err}
 use Rattle.std.proofs.Common.{arith, ne_eqb}
-use Rattle.exec.specs.declared.Refusal.TheVariants.{UnknownKind, BufferShort}
+use Rattle.exec.specs.declared.Refusal.TheVariants.{BadLength, UnknownKind, OtherChannel, BadType, BufferShort}
 use Rattle.exec.specs.Refusal.{number}
-use Rattle.codec.specs.declared.Record.TheVariants.{Data, Extended, Eof, Close}
+use Rattle.codec.specs.declared.Record.TheVariants.{Data, Extended, Notes, Eof, Close}
 use Rattle.exec.specs.Written.{written_after}
-use Rattle.codec.specs.Codec.{header, bytes_of, kinded, checked, read, laid_record, lay}
+use Rattle.octets.specs.Bytes.{be32_at, number_at}
+use Rattle.codec.specs.Codec.{header, bytes_of, kinded, fitting, checked, read, write, laid_record, lay}
 
 -- twelve bytes
 abbrev twelve : List ℕ
@@ -56,3 +57,43 @@ others : (bytes_of 5 (Extended 1) (97 ∷ []) ≡ 95 ∷ 0 ∷ 0 ∷ 0 ∷ 5 ∷
     × (number UnknownKind ≡ 21)
 unfolding bytes_of header
 others = (refl, refl, refl, refl)
+
+-- ---- the types of extended data
+
+-- extended data that says two bytes, of the type that has these four, for channel 5
+typed : (a b c d : ℕ) → List ℕ → List ℕ
+typed a b c d payload = 95 ∷ 0 ∷ 0 ∷ 0 ∷ 5 ∷ a ∷ b ∷ c ∷ d ∷ 0 ∷ 0 ∷ 0 ∷ 2 ∷ payload
+
+-- "kn" for Notes, of type fe000000: written, laid, and read back
+notes_kn : (write 5 (Notes 2) (107 ∷ 110 ∷ []) (twelve ++ (13 ∷ 14 ∷ 15 ∷ 16 ∷ [])) ≡ written_after (Ok 15) (typed 254 0 0 0 (107 ∷ 110 ∷ 16 ∷ [])))
+    × (lay 5 (Notes 2) (twelve ++ (13 ∷ 107 ∷ 110 ∷ 16 ∷ [])) ≡ written_after (Ok 15) (typed 254 0 0 0 (107 ∷ 110 ∷ 16 ∷ [])))
+    × (read 5 (typed 254 0 0 0 (107 ∷ 110 ∷ [])) ≡ Ok (Notes 2))
+unfolding typed write lay laid_record bytes_of header read checked kinded fitting number_at be32_at
+notes_kn = (refl, refl, refl)
+
+-- 1 is stderr's, and every other is 23: 0, 2, 254, fdffffff, fe000001, ff000000
+types : (read 5 (typed 0 0 0 1 (107 ∷ 110 ∷ [])) ≡ Ok (Extended 2))
+    × (read 5 (typed 0 0 0 0 (107 ∷ 110 ∷ [])) ≡ Err BadType)
+    × (read 5 (typed 0 0 0 2 (107 ∷ 110 ∷ [])) ≡ Err BadType)
+    × (read 5 (typed 0 0 0 254 (107 ∷ 110 ∷ [])) ≡ Err BadType)
+    × (read 5 (typed 253 255 255 255 (107 ∷ 110 ∷ [])) ≡ Err BadType)
+    × (read 5 (typed 254 0 0 1 (107 ∷ 110 ∷ [])) ≡ Err BadType)
+    × (read 5 (typed 255 0 0 0 (107 ∷ 110 ∷ [])) ≡ Err BadType)
+    × (number BadType ≡ 23)
+unfolding typed read checked kinded fitting number_at be32_at
+types = (refl, refl, refl, refl, refl, refl, refl, refl)
+
+-- of each type a wrong length is 20, with another channel too, and another channel is 22
+before_types : (read 5 (typed 0 0 0 1 (107 ∷ [])) ≡ Err BadLength)
+    × (read 5 (typed 254 0 0 0 (107 ∷ [])) ≡ Err BadLength)
+    × (read 5 (typed 254 0 0 0 (107 ∷ 110 ∷ 10 ∷ [])) ≡ Err BadLength)
+    × (read 5 (typed 254 0 0 1 (107 ∷ [])) ≡ Err BadLength)
+    × (read 6 (typed 254 0 0 0 (107 ∷ [])) ≡ Err BadLength)
+    × (read 5 (95 ∷ 0 ∷ 0 ∷ 0 ∷ 5 ∷ 254 ∷ 0 ∷ 0 ∷ 0 ∷ []) ≡ Err BadLength)
+    × (read 6 (typed 0 0 0 1 (107 ∷ 110 ∷ [])) ≡ Err OtherChannel)
+    × (read 6 (typed 254 0 0 0 (107 ∷ 110 ∷ [])) ≡ Err OtherChannel)
+    × (read 6 (typed 254 0 0 1 (107 ∷ 110 ∷ [])) ≡ Err OtherChannel)
+    × (number BadLength ≡ 20)
+    × (number OtherChannel ≡ 22)
+unfolding typed read checked kinded fitting number_at be32_at
+before_types = (refl, refl, refl, refl, refl, refl, refl, refl, refl, refl, refl)

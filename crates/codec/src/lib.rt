@@ -6,10 +6,12 @@ ghost use Rattle.std.specs.List.{flat_map};
 ghost use Rattle.octets.specs.Bytes.{be32, number_at};
 ghost use Rattle.exec.specs.Written.{written_after};
 ghost use Rattle.codec.specs.Codec.{
+  notes_type,
   start,
   size,
   header,
   spelled,
+  is_typed,
   fitting,
   read,
   write,
@@ -30,6 +32,11 @@ const EOF: u8 = 96;
 
 const CLOSE: u8 = 97;
 
+// The types of extended data, RFC 4254, 5.2: stderr's, and that of Notes, the first of those for private use (0xFE000000 upwards).
+const STDERR: u32 = 1;
+
+const NOTES: u32 = 0xfe000000;
+
 // A record but for the bytes of its payload, which stand behind its header.
 #[derive(Clone, Copy, Debug, PartialEq, Eq)]
 pub enum Record {
@@ -39,6 +46,8 @@ pub enum Record {
     Data(u32),
     // SSH_MSG_CHANNEL_EXTENDED_DATA of type 1, stderr: so many bytes, from byte 13 on.
     Extended(u32),
+    // The same of type 0xFE000000, Notes.
+    Notes(u32),
     // SSH_MSG_CHANNEL_EOF.
     Eof,
     // SSH_MSG_CHANNEL_CLOSE.
@@ -53,7 +62,7 @@ impl Record {
         match self {
             Record::Eof | Record::Close => 5,
             Record::Adjust(_) | Record::Data(_) => 9,
-            Record::Extended(_) => 13,
+            Record::Extended(_) | Record::Notes(_) => 13,
         }
     }
 
@@ -62,7 +71,7 @@ impl Record {
         ensures { result ≡ size self }
     {
         match self {
-            Record::Data(n) | Record::Extended(n) => n as usize,
+            Record::Data(n) | Record::Extended(n) | Record::Notes(n) => n as usize,
             Record::Adjust(_) | Record::Eof | Record::Close => 0,
         }
     }
@@ -77,7 +86,16 @@ impl Record {
 
 // ---- reading
 
-// The record of a kind. Where the bytes end before its number, their length is refused.
+// Whether the type of extended data is that of Notes.
+#[tactic(auto, using(crate::specs::CodecLaws::type_is))]
+fn is_notes(bytes: &[u8]) -> bool
+    ensures { result ≡ nat_eq (number_at bytes.now 5) notes_type }
+{
+    octets::number_at(bytes, 5) == Some(NOTES)
+}
+
+// The record of a kind. Where the bytes end before its number, their length is refused. A type that is not known is refused in `fitting`,
+// behind length and channel.
 #[tactic(auto, unfolding(crate::specs::Codec::spelled))]
 fn kinded(kind: u8, bytes: &[u8]) -> Result<Record, Refusal>
     ensures { result ≡ spelled kind bytes.now }
@@ -85,6 +103,7 @@ fn kinded(kind: u8, bytes: &[u8]) -> Result<Record, Refusal>
     let record = match kind {
         ADJUST => octets::number_at(bytes, 5).map(Record::Adjust),
         DATA => octets::number_at(bytes, 5).map(Record::Data),
+        EXTENDED if is_notes(bytes) => octets::number_at(bytes, 9).map(Record::Notes),
         EXTENDED => octets::number_at(bytes, 9).map(Record::Extended),
         EOF => Some(Record::Eof),
         CLOSE => Some(Record::Close),
@@ -102,6 +121,18 @@ fn has_number(bytes: &[u8], at: usize, n: u32) -> bool
     octets::number_at(bytes, at) == Some(n)
 }
 
+// Whether the type of extended data is its record's.
+fn is_typed(rec: Record, bytes: &[u8]) -> bool
+    requires { start rec ≤ length bytes.now }
+    ensures { result ≡ is_typed rec bytes.now }
+{
+    match rec {
+        Record::Extended(_) => has_number(bytes, 5, STDERR),
+        Record::Notes(_) => is_notes(bytes),
+        Record::Adjust(_) | Record::Data(_) | Record::Eof | Record::Close => true,
+    }
+}
+
 #[tactic(auto, unfolding(crate::specs::Codec::fitting), using(crate::specs::CodecLaws::start_least))]
 fn fitting(rec: Record, bytes: &[u8], channel: u32) -> Result<Record, Refusal>
     ensures { result ≡ fitting channel bytes.now rec }
@@ -112,8 +143,7 @@ fn fitting(rec: Record, bytes: &[u8], channel: u32) -> Result<Record, Refusal>
     if !has_number(bytes, 1, channel) {
         return Err(Refusal::OtherChannel);
     }
-    // Extended data is of type 1.
-    if matches!(rec, Record::Extended(_)) && !has_number(bytes, 5, 1) {
+    if !is_typed(rec, bytes) {
         return Err(Refusal::BadType);
     }
     Ok(rec)
@@ -162,7 +192,8 @@ fn put_header(buffer: &mut [u8], channel: u32, rec: Record)
     match rec {
         Record::Adjust(units) => put_kind(buffer, ADJUST, &[channel, units]),
         Record::Data(n) => put_kind(buffer, DATA, &[channel, n]),
-        Record::Extended(n) => put_kind(buffer, EXTENDED, &[channel, 1, n]),
+        Record::Extended(n) => put_kind(buffer, EXTENDED, &[channel, STDERR, n]),
+        Record::Notes(n) => put_kind(buffer, EXTENDED, &[channel, NOTES, n]),
         Record::Eof => put_kind(buffer, EOF, &[channel]),
         Record::Close => put_kind(buffer, CLOSE, &[channel]),
     }

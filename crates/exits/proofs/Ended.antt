@@ -7,7 +7,7 @@ use Rattle.std.specs.Option.{unwrap_or}
 use Rattle.codec.specs.declared.Record.TheVariants.{Close}
 use Rattle.codec.specs.Codec as Codec
 use Rattle.codec.specs.Codec.{bytes_of, header}
-use Rattle.codec.specs.RoundTrip as Records
+use Rattle.codec.proofs.RoundTrip as Records
 use Rattle.exits.specs.ExitLaws.{ending_length}
 use Rattle.exits.specs.Exit.{is_told, is_untold, request_of, ending, named, request}
 use Rattle.exits.specs.RoundTrip.{Tells, back}

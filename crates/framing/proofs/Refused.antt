@@ -1,14 +1,14 @@
--- What reading and writing are refused by: 43 or 44; and 25 or 43, when the buffer is left as it was.
+-- What reading and writing are refused by: 43 or 44; and 25 or 43, or 42 for Notes, when the buffer is left as it was.
 use Rattle.std.specs.Prelude.{◌≡◌, refl, Bool, true, false, cond, List, ℕ, ◌+◌, eqb, leb, length, get_or, Option, Some, None, Result, Ok, Err}
 use Rattle.std.proofs.Common.{arith, subst}
 use Rattle.exec.specs.declared.Refusal.{Refusal}
-use Rattle.exec.specs.declared.Refusal.TheVariants.{BufferShort, BadFrame, PaddedFrame}
+use Rattle.exec.specs.declared.Refusal.TheVariants.{BufferShort, NotFramed, BadFrame, PaddedFrame}
 use Rattle.exec.specs.declared.Stream.{Stream}
-use Rattle.exec.specs.declared.Stream.TheVariants.{Stdout, Stderr}
+use Rattle.exec.specs.declared.Stream.TheVariants.{Stdout, Stderr, Notes}
 use Rattle.exec.specs.Written.{WrittenAfter, written_after}
 use Rattle.octets.specs.Bytes.{be24_at}
 use Rattle.framing.specs.declared.Frame.{Frame}
-use Rattle.framing.specs.Framing.{start, size, is_whole, number31_at, stream_of, is_set, padded, data_in, of_four, kinded, on_stream, read, is_writable, put_frame, write}
+use Rattle.framing.specs.Framing.{is_framed, named, start, size, is_whole, number31_at, stream_of, is_set, padded, data_in, of_four, kinded, on_stream, read, is_writable, unwritable, put_frame, write}
 
 -- what is so of each refusal
 abbrev RefusedBy : (Refusal → Type 0) → Result Frame Refusal → Type 0
@@ -24,6 +24,7 @@ module _ (P : Refusal → Type 0) (bad : P BadFrame) where
     padded_by : (x : Stream) → P (padded x)
     padded_by Stdout = padding
     padded_by Stderr = bad
+    padded_by Notes = bad
 
     kinded_by : (b : List ℕ) (x : Stream) → RefusedBy P (kinded b x)
     unfolding kinded data_in of_four
@@ -46,7 +47,15 @@ module _ (P : Refusal → Type 0) (bad : P BadFrame) where
     pub read_refused : (s : ℕ) (b : List ℕ) (x : Refusal) → read s b ≡ Err x → P x
     read_refused s b x e = subst (RefusedBy P) e (reads_by s b)
 
-  -- a claim on 25 and 43 holds of whatever a frame is refused by, and nothing is written then
+  -- a claim on 43, and on 42, holds of whatever a frame is refused by that is not writable
+  pub unwritable_by : P NotFramed → (f : Frame) → P (unwritable f)
+  unwritable_by third f = by (is_framed (named f))
+    where
+      by : (t : Bool) → P (cond t BadFrame NotFramed)
+      by true = bad
+      by false = third
+
+  -- a claim on 25 and 43, and on 42 where the frame names Notes, holds of whatever a frame is refused by, and nothing is written then
   module _ (short : P BufferShort) (b : List ℕ) where
     abbrev Unwritten : WrittenAfter → Type 0
     Unwritten w = (x : Refusal) → w.answer ≡ Err x → (P x) × (w.buffer ≡ b)
@@ -61,9 +70,9 @@ module _ (P : Refusal → Type 0) (bad : P BadFrame) where
     written : (n : ℕ) (c : List ℕ) → Unwritten (written_after (Ok n) c)
     written n c x e = let z : ◌≡◌ {A = ℕ} 0 1 = cc in absurd (omega arith)
 
-    pub write_refused : (s : ℕ) (f : Frame) (payload : List ℕ) (x : Refusal) → (write s f payload b).answer ≡ Err x → (P x) × ((write s f payload b).buffer ≡ b)
+    pub write_refused : (s : ℕ) (f : Frame) → P (unwritable f) → (payload : List ℕ) (x : Refusal) → (write s f payload b).answer ≡ Err x → (P x) × ((write s f payload b).buffer ≡ b)
     unfolding write put_frame
-    write_refused s f payload =
+    write_refused s f other payload =
         one (leb (start f + size f) (length b)) _ _
-        (one (eqb (length payload) (size f)) _ _ (one (is_writable s f) _ _ (written _ _) (none BadFrame bad)) (none BadFrame bad))
+        (one (eqb (length payload) (size f)) _ _ (one (is_writable s f) _ _ (written _ _) (none (unwritable f) other)) (none BadFrame bad))
         (none BufferShort short)

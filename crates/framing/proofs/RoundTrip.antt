@@ -2,18 +2,19 @@
 use Rattle.std.specs.Prelude.{◌≡◌, refl, Bool, true, false, cond, List, [], ◌∷◌, ◌++◌, ℕ, zero, suc, ◌+◌, ◌-◌, ◌/◌, ◌%◌, ◌^◌, ◌≤◌, ◌<◌, eqb, leb, length, take, drop, get_or, Option, Some, None, Result, Ok, Err}
 use Rattle.std.proofs.Common.{arith, sym, ap, ◌∙◌, subst, eq-eqb, ne_eqb, eqb-true, leb-true, le-leb, length-append, length-drop, drop-cons, drop_at, take_at, mod-eq_of_lt, mod-lt}
 use Rattle.std.proofs.lemmas.Nat.{mod-mul-add}
+use Rattle.std.proofs.lemmas.Bool.{false≢true}
 use Rattle.ring.specs.Flags.{and_r}
 use Rattle.exec.specs.declared.Refusal.{Refusal}
 use Rattle.exec.specs.declared.Refusal.TheVariants.{BufferShort, BadFrame}
 use Rattle.exec.specs.declared.Stream.{Stream}
-use Rattle.exec.specs.declared.Stream.TheVariants.{Stdout, Stderr}
+use Rattle.exec.specs.declared.Stream.TheVariants.{Stdout, Stderr, Notes}
 use Rattle.exec.specs.Written.{WrittenAfter, written_after}
 use Rattle.octets.specs.Bytes.{be24, be24_at, be32, number_at}
 use Rattle.octets.specs.BytesLaws.{number_written, peel, be24_written, be24_fits, peel24}
 use Rattle.framing.specs.declared.Frame.{Frame}
 use Rattle.framing.specs.declared.Frame.TheVariants.{Update, Data, Reset}
-use Rattle.framing.specs.Framing.{is_stream, id_of, head, flags_of, header, start, size, fits, bytes_of, is_whole, number31_at, stream_of, is_set, data_in, of_four, kinded, on_stream, read, is_writable, put_frame, write, lay}
-use Rattle.framing.specs.FramingLaws.{header_length, writable_stream, writable_fits}
+use Rattle.framing.specs.Framing.{is_stream, is_framed, id_of, head, named, flags_of, header, start, size, fits, bytes_of, is_whole, number31_at, stream_of, is_set, data_in, of_four, kinded, on_stream, read, is_writable, unwritable, put_frame, write, lay}
+use Rattle.framing.specs.FramingLaws.{header_length, writable_framed, writable_stream, writable_fits}
 use Rattle.framing.specs.RoundTrip.{with_bit, Bytes, Plain}
 
 -- ---- a frame is read from any bytes that say it, whatever stands where RFC 9113 has it ignored
@@ -24,6 +25,7 @@ stream_most s h = leb-true s 2147483645 (and_r (leb 1 s) (leb s 2147483645) h)
 id_fits : (s : ℕ) (x : Stream) → is_stream s ≡ true → id_of s x < 2 ^ 31
 id_fits s Stdout h = omega (arith, stream_most s h)
 id_fits s Stderr h = omega (arith, stream_most s h)
+id_fits s Notes h = omega arith
 
 without_bit : (bit : Bool) (n : ℕ) → n < 2 ^ 31 → (with_bit bit n < 2 ^ 32) × (with_bit bit n % 2147483648 ≡ n)
 without_bit true n h = (omega arith, mod-mul-add 1 2147483648 n h)
@@ -34,13 +36,14 @@ unfolding number31_at
 number31_written p t bit n h =
     ap (λ (v : ℕ). v % 2147483648) (number_written p t (with_bit bit n) (without_bit bit n h).0) ∙ (without_bit bit n h).1
 
-stream_of_id : (s : ℕ) (x : Stream) → is_stream s ≡ true → stream_of s (id_of s x) ≡ Some x
+stream_of_id : (s : ℕ) (x : Stream) → is_framed x ≡ true → is_stream s ≡ true → stream_of s (id_of s x) ≡ Some x
 unfolding stream_of
-stream_of_id s Stdout h = rw (h, eq-eqb s s refl) refl
-stream_of_id s Stderr h = rw (h, ne_eqb (s + 2) s (λ e. omega arith), eq-eqb (s + 2) (s + 2) refl) refl
+stream_of_id s Stdout f h = rw (h, eq-eqb s s refl) refl
+stream_of_id s Stderr f h = rw (h, ne_eqb (s + 2) s (λ e. omega arith), eq-eqb (s + 2) (s + 2) refl) refl
+stream_of_id s Notes f h = absurd (false≢true f)
 
 -- for any flags, and any reserved bit before the stream
-module _ (s : ℕ) (x : Stream) (bit : Bool) (flags : ℕ) (stream : is_stream s ≡ true) where
+module _ (s : ℕ) (x : Stream) (bit : Bool) (flags : ℕ) (framed : is_framed x ≡ true) (stream : is_stream s ≡ true) where
   headed : (n kind : ℕ) (t : List ℕ) → n < 2 ^ 24 → length t ≡ n
       → read s (head n kind flags (with_bit bit (id_of s x)) ++ t) ≡ kinded (head n kind flags (with_bit bit (id_of s x)) ++ t) x
   unfolding read is_whole on_stream
@@ -50,7 +53,7 @@ module _ (s : ℕ) (x : Stream) (bit : Bool) (flags : ℕ) (stream : is_stream s
       let told : be24_at b 0 ≡ n = be24_written [] (kind ∷ flags ∷ (be32 id ++ t)) n hn in
       let whole : length b ≡ 9 + be24_at b 0 = omega (arith, told, hl) in
       let mine : number31_at b 5 ≡ id_of s x = number31_written (be24 n ++ (kind ∷ flags ∷ [])) t bit (id_of s x) (id_fits s x stream) in
-      rw (eq-eqb (length b) (9 + be24_at b 0) whole, mine, stream_of_id s x stream) refl
+      rw (eq-eqb (length b) (9 + be24_at b 0) whole, mine, stream_of_id s x framed stream) refl
 
   -- WINDOW_UPDATE: the bit before the units is ignored too
   pub update_read : (bit₂ : Bool) (units : ℕ) → units < 2 ^ 31
@@ -87,13 +90,13 @@ pub back : (s : ℕ) (f : Frame) (payload : List ℕ) → is_writable s f ≡ tr
 unfolding bytes_of header
 back s (Update x units) payload w e =
     let fit : units < 2 ^ 31 = omega (arith, leb-true units 2147483647 (writable_fits s (Update x units) w)) in
-    rw (nothing payload e) (update_read s x false 0 (writable_stream s (Update x units) w) false units fit)
+    rw (nothing payload e) (update_read s x false 0 (writable_framed s (Update x units) w) (writable_stream s (Update x units) w) false units fit)
 back s (Data x n ends) payload w e =
     let fit : n < 2 ^ 24 = omega (arith, leb-true n 16777215 (writable_fits s (Data x n ends) w)) in
     let flags = flags_back ends in
-    rw (sym e) (data_read s x false (flags_of ends) (writable_stream s (Data x n ends) w) payload (omega (arith, e)) flags.0)
+    rw (sym e) (data_read s x false (flags_of ends) (writable_framed s (Data x n ends) w) (writable_stream s (Data x n ends) w) payload (omega (arith, e)) flags.0)
     ∙ ap (λ (b : Bool). Ok (Data x n b)) flags.1
-back s (Reset x) payload w e = rw (nothing payload e) (reset_read s x false 0 (writable_stream s (Reset x) w) 8)
+back s (Reset x) payload w e = rw (nothing payload e) (reset_read s x false 0 (writable_framed s (Reset x) w) (writable_stream s (Reset x) w) 8)
 
 pub payload_back : (s : ℕ) (f : Frame) (payload : List ℕ) → drop (start f) (bytes_of s f payload) ≡ payload
 unfolding bytes_of
@@ -127,7 +130,7 @@ module _ (s : ℕ) (f : Frame) (payload b : List ℕ) (n : ℕ) where
   left t u v =
       cond t
       (cond u
-      (cond v (written_after (Ok (start f + size f)) (bytes_of s f payload ++ drop (start f + size f) b)) (written_after (Err BadFrame) b))
+      (cond v (written_after (Ok (start f + size f)) (bytes_of s f payload ++ drop (start f + size f) b)) (written_after (Err (unwritable f)) b))
       (written_after (Err BadFrame) b))
       (written_after (Err BufferShort) b)
 
@@ -141,7 +144,7 @@ module _ (s : ℕ) (f : Frame) (payload b : List ℕ) (n : ℕ) where
         writable = w;
         front = rw told (take_at (bytes_of s f payload) (drop (start f + size f) b) (start f + size f) (long s f payload sized));
       }
-  by true true false e w h = never BadFrame n h
+  by true true false e w h = never (unwritable f) n h
   by true false v e w h = never BadFrame n h
   by false u v e w h = never BufferShort n h
 
@@ -179,35 +182,41 @@ IsFrame s b (Reset x) = (get_or b 3 0 ≡ 3) × (be24_at b 0 ≡ 4) × (number31
 pub record Says (s : ℕ) (b : List ℕ) (f : Frame) : Type 0 where
   pub whole : length b ≡ 9 + be24_at b 0
   pub frame : IsFrame s b f
+  pub framed : is_framed (named f) ≡ true
 
 -- a choice that came out as a frame that was read: by the test, or by its failing
 pick : (P : Type 0) (b : Bool) (x y : Result Frame Refusal) (f : Frame) → (b ≡ true → x ≡ Ok f → P) → (b ≡ false → y ≡ Ok f → P) → cond b x y ≡ Ok f → P
 pick P true x y f g h e = g refl e
 pick P false x y f g h e = h refl e
 
-found : (s : ℕ) (b : List ℕ) (g f : Frame) → IsFrame s b g → ◌≡◌ {A = Result Frame Refusal} (Ok g) (Ok f) → IsFrame s b f
-found s b g f i e = let same : g ≡ f = cc in subst (λ (x : Frame). IsFrame s b x) same i
+found : (s : ℕ) (b : List ℕ) (g f : Frame) → Says s b g → ◌≡◌ {A = Result Frame Refusal} (Ok g) (Ok f) → Says s b f
+found s b g f h e = let same : g ≡ f = cc in subst (λ (x : Frame). Says s b x) same h
 
-kinded_is : (s : ℕ) (b : List ℕ) (x : Stream) (f : Frame) → number31_at b 5 ≡ id_of s x → kinded b x ≡ Ok f → IsFrame s b f
+kinded_is : (s : ℕ) (b : List ℕ) (x : Stream) (f : Frame) → length b ≡ 9 + be24_at b 0 → number31_at b 5 ≡ id_of s x → is_framed x ≡ true → kinded b x ≡ Ok f
+    → Says s b f
 unfolding kinded data_in of_four
-kinded_is s b x f id =
-    let P = IsFrame s b f in
+kinded_is s b x f whole id framed =
+    let P = Says s b f in
     let kind = get_or b 3 0 in
+    let says : (g : Frame) → IsFrame s b g → is_framed (named g) ≡ true → ◌≡◌ {A = Result Frame Refusal} (Ok g) (Ok f) → P = λ g i h. found s b g f (record { whole = whole; frame = i; framed = h }) in
     pick P (eqb kind 0) _ _ f
-    (λ k. pick P (is_set 8 (get_or b 4 0)) _ _ f (λ _. never _ f) (λ _. found s b (Data x (be24_at b 0) (is_set 1 (get_or b 4 0))) f (eqb-true kind 0 k, refl, id, refl)))
+    (λ k. pick P (is_set 8 (get_or b 4 0)) _ _ f (λ _. never _ f)
+    (λ _. says (Data x (be24_at b 0) (is_set 1 (get_or b 4 0))) (eqb-true kind 0 k, refl, id, refl) framed))
     (λ _. pick P (eqb kind 3) _ _ f
-    (λ k. pick P (eqb (be24_at b 0) 4) _ _ f (λ l. found s b (Reset x) f (eqb-true kind 3 k, eqb-true _ 4 l, id)) (λ _. never _ f))
+    (λ k. pick P (eqb (be24_at b 0) 4) _ _ f (λ l. says (Reset x) (eqb-true kind 3 k, eqb-true _ 4 l, id) framed) (λ _. never _ f))
     (λ _. pick P (eqb kind 8) _ _ f
-    (λ k. pick P (eqb (be24_at b 0) 4) _ _ f (λ l. found s b (Update x (number31_at b 9)) f (eqb-true kind 8 k, eqb-true _ 4 l, id, refl)) (λ _. never _ f))
+    (λ k. pick P (eqb (be24_at b 0) 4) _ _ f (λ l. says (Update x (number31_at b 9)) (eqb-true kind 8 k, eqb-true _ 4 l, id, refl) framed) (λ _. never _ f))
     (λ _. never _ f)))
 
-stream_is : (s id : ℕ) (x : Stream) → stream_of s id ≡ Some x → id ≡ id_of s x
+-- a number read is that of a stream that frames have
+stream_is : (s id : ℕ) (x : Stream) → stream_of s id ≡ Some x → (id ≡ id_of s x) × (is_framed x ≡ true)
 unfolding stream_of
 stream_is s id x = by (is_stream s) (eqb id s) (eqb id (s + 2)) x refl refl
   where
-    by : (v t u : Bool) (x : Stream) → eqb id s ≡ t → eqb id (s + 2) ≡ u → cond v (cond t (Some Stdout) (cond u (Some Stderr) None)) None ≡ Some x → id ≡ id_of s x
-    by true true u x e g h = let same : Stdout ≡ x = cc in subst (λ (y : Stream). id ≡ id_of s y) same (eqb-true id s e)
-    by true false true x e g h = let same : Stderr ≡ x = cc in subst (λ (y : Stream). id ≡ id_of s y) same (eqb-true id (s + 2) g)
+    by : (v t u : Bool) (x : Stream) → eqb id s ≡ t → eqb id (s + 2) ≡ u → cond v (cond t (Some Stdout) (cond u (Some Stderr) None)) None ≡ Some x
+        → (id ≡ id_of s x) × (is_framed x ≡ true)
+    by true true u x e g h = let same : Stdout ≡ x = cc in subst (λ (y : Stream). (id ≡ id_of s y) × (is_framed y ≡ true)) same (eqb-true id s e, refl)
+    by true false true x e g h = let same : Stderr ≡ x = cc in subst (λ (y : Stream). (id ≡ id_of s y) × (is_framed y ≡ true)) same (eqb-true id (s + 2) g, refl)
     by true false false x e g h = let z : ◌≡◌ {A = ℕ} 0 1 = cc in absurd (omega arith)
     by false t u x e g h = let z : ◌≡◌ {A = ℕ} 0 1 = cc in absurd (omega arith)
 
@@ -216,7 +225,7 @@ unfolding read is_whole on_stream
 read_is s b f = pick (Says s b f) (eqb (length b) (9 + be24_at b 0)) _ _ f (λ l. by (stream_of s (number31_at b 5)) refl (eqb-true _ _ l)) (λ _. never _ f)
   where
     by : (o : Option Stream) → stream_of s (number31_at b 5) ≡ o → length b ≡ 9 + be24_at b 0 → on_stream b o ≡ Ok f → Says s b f
-    by (Some x) e l h = record { whole = l; frame = kinded_is s b x f (stream_is s (number31_at b 5) x e) h }
+    by (Some x) e l h = let on = stream_is s (number31_at b 5) x e in kinded_is s b x f l on.0 on.1 h
     by None e l h = never _ f h
 
 number31_is : (b : List ℕ) (at n : ℕ) → number_at b at < 2 ^ 31 → number31_at b at ≡ n → number_at b at ≡ n
@@ -264,7 +273,7 @@ module _ (s : ℕ) (b : List ℕ) where
 
   pub forth_writable : (f : Frame) → Bytes b → is_stream s ≡ true → read s b ≡ Ok f → is_writable s f ≡ true
   unfolding is_writable
-  forth_writable f bytes h e = rw h (fit f bytes (read_is s b f e))
+  forth_writable f bytes h e = let r = read_is s b f e in rw (r.framed, h) (fit f bytes r)
 
 -- ---- what is written is plain, so `forth` is not said of nothing
 

@@ -5,13 +5,13 @@ use Rattle.std.proofs.Common.{eq-eqb, ne_eqb}
 use Rattle.exec.specs.declared.Stream.{Stream}
 use Rattle.exec.specs.declared.Refusal.{Refusal}
 use Rattle.exec.specs.declared.Refusal.TheVariants.{NotFramed, BadFrame, PaddedFrame, BufferShort}
-use Rattle.exec.specs.declared.Stream.TheVariants.{Stdout, Stderr}
+use Rattle.exec.specs.declared.Stream.TheVariants.{Stdout, Stderr, Notes}
 use Rattle.exec.specs.Refusal.{number}
 use Rattle.exec.specs.Written.{WrittenAfter, written_after}
 use Rattle.octets.specs.Bytes.{be24_at, be32_at, number_at}
 use Rattle.framing.specs.declared.Frame.{Frame}
 use Rattle.framing.specs.declared.Frame.TheVariants.{Update, Data, Reset}
-use Rattle.framing.specs.Framing.{is_stream, header, fits, bytes_of, is_whole, number31_at, stream_of, is_set, data_in, of_four, kinded, on_stream, read, is_writable, put_frame, write, lay}
+use Rattle.framing.specs.Framing.{is_stream, is_framed, header, fits, bytes_of, is_whole, number31_at, stream_of, is_set, data_in, of_four, kinded, on_stream, read, is_writable, put_frame, write, lay}
 
 -- ---- the bytes
 
@@ -51,22 +51,25 @@ order : (header 84281096 (Update Stdout 16909060) ≡ 0 ∷ 0 ∷ 4 ∷ 8 ∷ 0 
 unfolding header
 order = (refl, refl, refl, refl)
 
--- s goes from 1 to 2^31 - 3; a length has 24 bits, and units have 31
+-- s goes from 1 to 2^31 - 3, and two streams have frames; a length has 24 bits, and units have 31
 bounds : (is_stream 0 ≡ false)
     × (is_stream 1 ≡ true)
     × (is_stream 2147483645 ≡ true)
     × (is_stream 2147483646 ≡ false)
+    × (is_framed Stdout ≡ true)
+    × (is_framed Stderr ≡ true)
+    × (is_framed Notes ≡ false)
     × (fits (Data Stdout 16777215 true) ≡ true)
     × (fits (Data Stdout 16777216 true) ≡ false)
     × (fits (Update Stderr 2147483647) ≡ true)
     × (fits (Update Stderr 2147483648) ≡ false)
-bounds = (refl, refl, refl, refl, refl, refl, refl, refl)
+bounds = (refl, refl, refl, refl, refl, refl, refl, refl, refl, refl, refl)
 
 -- the numbers of the refusals
 numbers : (number BufferShort ≡ 25) × (number NotFramed ≡ 42) × (number BadFrame ≡ 43) × (number PaddedFrame ≡ 44)
 numbers = (refl, refl, refl, refl)
 
--- ---- writing: 25, then 43, and nothing written by either
+-- ---- writing: 25, then 43, 42 for Notes, and nothing written by any of them
 
 writes : Frame → (payload buffer : List ℕ) → WrittenAfter
 unfolding write put_frame is_writable bytes_of header
@@ -83,6 +86,18 @@ written : (writes (Data Stdout 2 false) (97 ∷ 98 ∷ []) (7 ∷ 7 ∷ 7 ∷ 7 
     × (lay 1 (Data Stderr 0 true) (1 ∷ 2 ∷ 3 ∷ 4 ∷ 5 ∷ 6 ∷ 7 ∷ 8 ∷ []) ≡ written_after (Err BufferShort) (1 ∷ 2 ∷ 3 ∷ 4 ∷ 5 ∷ 6 ∷ 7 ∷ 8 ∷ []))
 unfolding writes ab bad end_3 update_8 write put_frame is_writable bytes_of header
 written = (refl, refl, refl, refl, refl, refl, refl, refl, refl)
+
+-- a frame that names Notes is 42 behind 25 and behind 43 for the payload's length, and ahead of 43 for s or for units
+notes : (writes (Update Notes 8) [] update_8 ≡ written_after (Err NotFramed) update_8)
+    × (writes (Data Notes 3 true) (97 ∷ 98 ∷ 99 ∷ []) bad ≡ written_after (Err NotFramed) bad)
+    × (writes (Reset Notes) [] update_8 ≡ written_after (Err NotFramed) update_8)
+    × (writes (Data Notes 2 false) (97 ∷ []) (1 ∷ 2 ∷ 3 ∷ []) ≡ written_after (Err BufferShort) (1 ∷ 2 ∷ 3 ∷ []))
+    × (writes (Data Notes 2 false) (97 ∷ []) bad ≡ written_after (Err BadFrame) bad)
+    × (writes (Update Notes 2147483648) [] update_8 ≡ written_after (Err NotFramed) update_8)
+    × (write 0 (Reset Notes) [] update_8 ≡ written_after (Err NotFramed) update_8)
+    × (lay 1 (Data Notes 0 true) end_3 ≡ written_after (Err NotFramed) end_3)
+unfolding writes bad end_3 update_8 write put_frame is_writable
+notes = (refl, refl, refl, refl, refl, refl, refl, refl)
 
 -- ---- reading, for s = 5: stdout and input on 5, stderr on 7
 

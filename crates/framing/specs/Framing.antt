@@ -1,10 +1,11 @@
 -- The frames of RFC 9113 on the two streams of a runner: stdout and input on stream s, stderr on s + 2. WINDOW_UPDATE (6.9), DATA
 -- (6.1) and RST_STREAM (6.4), written and read.
-use Rattle.std.specs.Prelude.{Bool, true, false, cond, ◌&&◌, List, ◌∷◌, ◌++◌, ℕ, ◌+◌, ◌/◌, ◌%◌, eqb, leb, length, take, drop, get_or, Option, Some, None, Result, Ok, Err}
+use Rattle.std.specs.Prelude.{Bool, true, false, cond, not, ◌&&◌, List, ◌∷◌, ◌++◌, ℕ, ◌+◌, ◌/◌, ◌%◌, eqb, leb, length, take, drop, get_or, Option, Some, None, Result, Ok, Err}
 use Rattle.exec.specs.declared.Refusal.{Refusal}
-use Rattle.exec.specs.declared.Refusal.TheVariants.{BufferShort, BadFrame, PaddedFrame}
+use Rattle.exec.specs.declared.Refusal.TheVariants.{BufferShort, NotFramed, BadFrame, PaddedFrame}
 use Rattle.exec.specs.declared.Stream.{Stream}
-use Rattle.exec.specs.declared.Stream.TheVariants.{Stdout, Stderr}
+use Rattle.exec.specs.declared.Stream.TheVariants.{Stdout, Stderr, Notes}
+use Rattle.exec.specs.Stream.{is_notes}
 use Rattle.exec.specs.Written.{WrittenAfter, written_after}
 use Rattle.octets.specs.Bytes.{be24, be24_at, be32, number_at}
 use Rattle.framing.specs.declared.Frame.{Frame}
@@ -16,9 +17,15 @@ use Rattle.framing.specs.declared.Frame.TheVariants.{Update, Data, Reset}
 abbrev pub is_stream : (s : ℕ) → Bool
 is_stream s = leb 1 s && leb s 2147483645
 
+-- frames have no third stream
+abbrev pub is_framed : Stream → Bool
+is_framed x = not (is_notes x)
+
+-- Notes has the number that is no stream's
 abbrev pub id_of : (s : ℕ) → Stream → ℕ
 id_of s Stdout = s
 id_of s Stderr = s + 2
+id_of s Notes = 0
 
 -- ---- a frame in bytes
 
@@ -30,6 +37,12 @@ head n kind flags id = be24 n ++ (kind ∷ flags ∷ be32 id)
 abbrev pub flags_of : (ends : Bool) → ℕ
 flags_of true = 1
 flags_of false = 0
+
+-- the stream that a frame names
+abbrev pub named : Frame → Stream
+named (Update x units) = x
+named (Data x n ends) = x
+named (Reset x) = x
 
 -- what stands before the payload: type 8 WINDOW_UPDATE, 0 DATA, 3 RST_STREAM with the code CANCEL, 8
 unfoldable pub header : (s : ℕ) → Frame → List ℕ
@@ -76,10 +89,11 @@ stream_of s id = cond (is_stream s) (cond (eqb id s) (Some Stdout) (cond (eqb id
 abbrev pub is_set : (bit flags : ℕ) → Bool
 is_set bit flags = eqb (flags / bit % 2) 1
 
--- padding is refused on the stream of the input; on s + 2 the peer sends no DATA
+-- padding is refused on the stream of the input; on s + 2 the peer sends no DATA, and Notes has no stream
 abbrev pub padded : Stream → Refusal
 padded Stdout = PaddedFrame
 padded Stderr = BadFrame
+padded Notes = BadFrame
 
 -- all flags but these two are ignored (4.1)
 unfoldable pub data_in : (flags : ℕ) → Stream → (n : ℕ) → Result Frame Refusal
@@ -102,17 +116,21 @@ on_stream b (Some x) = kinded b x
 unfoldable pub read : (s : ℕ) → List ℕ → Result Frame Refusal
 read s b = cond (is_whole b) (on_stream b (stream_of s (number31_at b 5))) (Err BadFrame)
 
--- ---- writing: 25, then 43 for a payload of another length than the frame's, or a frame that bytes cannot hold
+-- ---- writing: 25, then 43 for a payload of another length than the frame's, then 42 for Notes, or 43 for numbers that bytes cannot hold
 
 unfoldable pub is_writable : (s : ℕ) → Frame → Bool
-is_writable s f = is_stream s && fits f
+is_writable s f = (is_framed (named f) && is_stream s) && fits f
+
+-- what a frame is refused by that is not
+abbrev pub unwritable : Frame → Refusal
+unwritable f = cond (is_framed (named f)) BadFrame NotFramed
 
 -- the frame at the buffer's start; nothing else is written
 unfoldable pub put_frame : (s : ℕ) → Frame → (payload buffer : List ℕ) → WrittenAfter
 put_frame s f payload buffer =
     cond (is_writable s f)
     (written_after (Ok (start f + size f)) (bytes_of s f payload ++ drop (start f + size f) buffer))
-    (written_after (Err BadFrame) buffer)
+    (written_after (Err (unwritable f)) buffer)
 
 unfoldable pub write : (s : ℕ) → Frame → (payload buffer : List ℕ) → WrittenAfter
 write s f payload buffer =

@@ -1,13 +1,14 @@
 -- Laws of the frames' definitions: how long the bytes before a payload are, and which bytes are a whole frame.
 use Rattle.std.specs.Prelude.{◌≡◌, refl, Bool, true, false, cond, ◌&&◌, List, [], ◌++◌, ℕ, ◌+◌, ◌≤◌, ◌<◌, eqb, leb, length, take, drop, Some, None, Ok, Err}
-use Rattle.std.proofs.lemmas.Bool.{false≢true, lt-leb}
+use Rattle.std.proofs.lemmas.Bool.{lt-leb}
 use Rattle.std.proofs.Common.{arith, sym, ap, ◌∙◌, append_assoc, leb-false, le-leb, eq-eqb, ne_eqb, length-drop, length-take-le, take-append-drop, drop-drop}
-use Rattle.exec.specs.declared.Refusal.TheVariants.{BufferShort, BadFrame}
+use Rattle.exec.specs.declared.Refusal.TheVariants.{BufferShort}
 use Rattle.exec.specs.Written.{written_after}
+use Rattle.ring.specs.Flags.{and_l, and_r}
 use Rattle.octets.specs.Bytes.{be24_at, number24_within}
 use Rattle.framing.specs.declared.Frame.{Frame}
 use Rattle.framing.specs.declared.Frame.TheVariants.{Update, Data, Reset}
-use Rattle.framing.specs.Framing.{is_stream, header, start, size, fits, bytes_of, is_whole, is_writable, put_frame, write, lay}
+use Rattle.framing.specs.Framing.{is_stream, is_framed, named, header, start, size, fits, bytes_of, is_whole, is_writable, unwritable, put_frame, write, lay}
 
 pub header_length : (s : ℕ) (f : Frame) → length (header s f) ≡ start f
 unfolding header
@@ -43,21 +44,20 @@ whole_is b n e = rw (length_is b n e) refl
 
 -- ---- writing
 
-and_left : (a b : Bool) → a && b ≡ true → a ≡ true
-and_left true b h = refl
-and_left false b h = absurd (false≢true h)
+module _ (s : ℕ) (f : Frame) (w : is_writable s f ≡ true) where
+  on : (is_framed (named f) && is_stream s) ≡ true
+  unfolding is_writable
+  on = and_l (is_framed (named f) && is_stream s) (fits f) w
 
-and_right : (a b : Bool) → a && b ≡ true → b ≡ true
-and_right true b h = h
-and_right false b h = absurd (false≢true h)
+  pub writable_framed : is_framed (named f) ≡ true
+  writable_framed = and_l (is_framed (named f)) (is_stream s) on
 
-pub writable_stream : (s : ℕ) (f : Frame) → is_writable s f ≡ true → is_stream s ≡ true
-unfolding is_writable
-writable_stream s f h = and_left (is_stream s) (fits f) h
+  pub writable_stream : is_stream s ≡ true
+  writable_stream = and_r (is_framed (named f)) (is_stream s) on
 
-pub writable_fits : (s : ℕ) (f : Frame) → is_writable s f ≡ true → fits f ≡ true
-unfolding is_writable
-writable_fits s f h = and_right (is_stream s) (fits f) h
+  pub writable_fits : fits f ≡ true
+  unfolding is_writable
+  writable_fits = and_r (is_framed (named f) && is_stream s) (fits f) w
 
 -- the payload that a frame is laid with has its length
 lies : (f : Frame) (b : List ℕ) → start f + size f ≤ length b → length (take (size f) (drop 9 b)) ≡ size f
@@ -81,7 +81,7 @@ module _ (s : ℕ) (f : Frame) (b : List ℕ) where
   unfolding write
   lay_put h = simp (le-leb (start f + size f) (length b) h, eq-eqb _ (size f) (lies f b h))
 
-  pub lay_bad : start f + size f ≤ length b → is_writable s f ≡ false → lay s f b ≡ written_after (Err BadFrame) b
+  pub lay_bad : start f + size f ≤ length b → is_writable s f ≡ false → lay s f b ≡ written_after (Err (unwritable f)) b
   unfolding put_frame
   lay_bad h w = lay_put h ∙ rw w refl
 

@@ -7,8 +7,10 @@ ghost use Rattle.exec.specs.Written.{written_after};
 ghost use Rattle.octets.specs.Bytes.{be24_at, be32};
 ghost use Rattle.framing.specs.Framing.{
   is_stream,
+  is_framed,
   id_of,
   head,
+  named,
   header,
   start,
   size,
@@ -19,6 +21,7 @@ ghost use Rattle.framing.specs.Framing.{
   kinded,
   read,
   is_writable,
+  unwritable,
   write,
   lay,
 };
@@ -79,6 +82,15 @@ impl Frame {
         self.start() + self.size()
     }
 
+    // The stream that it names.
+    fn named(self) -> Stream
+        ensures { result ≡ named self }
+    {
+        match self {
+            Frame::Update(x, _) | Frame::Data(x, _, _) | Frame::Reset(x) => x,
+        }
+    }
+
     // Whether its number fits the field.
     fn fits(self) -> bool
         ensures { result ≡ fits self }
@@ -100,7 +112,14 @@ pub fn is_stream(s: u32) -> bool
     (1 <= s) & (s <= MOST_31 - 2)
 }
 
-// A stream's number.
+// Frames have no third stream.
+fn is_framed(x: Stream) -> bool
+    ensures { result ≡ is_framed x }
+{
+    !x.is_notes()
+}
+
+// A stream's number, and for Notes one that is no stream's.
 fn id_of(s: u32, x: Stream) -> u32
     requires { is_stream s ≡ true }
     ensures { result ≡ id_of s x }
@@ -108,6 +127,7 @@ fn id_of(s: u32, x: Stream) -> u32
     match x {
         Stream::Stdout => s,
         Stream::Stderr => s + 2,
+        Stream::Notes => 0,
     }
 }
 
@@ -148,6 +168,7 @@ fn data_in(flags: u8, x: Stream, n: u32) -> Result<Frame, Refusal>
         return Err(match x {
             Stream::Stdout => Refusal::PaddedFrame,
             Stream::Stderr => Refusal::BadFrame,
+            Stream::Notes => Refusal::BadFrame,
         });
     }
     Ok(Frame::Data(x, n, flags % 2 == 1))
@@ -228,7 +249,18 @@ fn put_header(buffer: &mut [u8], s: u32, frame: Frame)
 fn is_writable(s: u32, frame: Frame) -> bool
     ensures { result ≡ is_writable s frame }
 {
-    is_stream(s) & frame.fits()
+    is_framed(frame.named()) & is_stream(s) & frame.fits()
+}
+
+// What a frame is refused by that they cannot hold.
+fn unwritable(frame: Frame) -> Refusal
+    ensures { result ≡ unwritable frame }
+{
+    if is_framed(frame.named()) {
+        Refusal::BadFrame
+    } else {
+        Refusal::NotFramed
+    }
 }
 
 // Writes the frame and its payload at the buffer's start, and nothing else.
@@ -244,7 +276,7 @@ pub fn write(s: u32, frame: Frame, payload: &[u8], buffer: &mut [u8]) -> Result<
         return Err(Refusal::BadFrame);
     }
     if !is_writable(s, frame) {
-        return Err(Refusal::BadFrame);
+        return Err(unwritable(frame));
     }
     buffer[frame.start()..whole].copy_from_slice(payload);
     put_header(buffer, s, frame);
@@ -260,7 +292,7 @@ pub fn lay(s: u32, frame: Frame, buffer: &mut [u8]) -> Result<usize, Refusal>
         return Err(Refusal::BufferShort);
     }
     if !is_writable(s, frame) {
-        return Err(Refusal::BadFrame);
+        return Err(unwritable(frame));
     }
     put_header(buffer, s, frame);
     Ok(frame.whole())

@@ -21,4 +21,4 @@ returns c =
     let a = c.args in
     let r = c.tell.ensures.0 in
     let b = c.tell.ensures.1 in
-    sent_told a.runner a.channel a.store.now a.buffer.now _ _ c.ask-saying.ensures _ _ _ c.has_ended-ended.ensures (sym c.is_left.ensures ∙ c.if-is_left.false) cc
+    sent_told a.runner a.channel a.store.now a.buffer.now _ _ c.ask-saying.ensures _ _ _ (rw c.has_notes.ensures at c.seen-outputs.ensures) (sym c.is_left.ensures ∙ c.if-is_left.false) cc
