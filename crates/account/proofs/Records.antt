@@ -22,12 +22,12 @@ use Rattle.runner.specs.Life.{outcome_of}
 use Rattle.runner.specs.Message.{said_for}
 use Rattle.runner.specs.Range.{stop, bytes_do, fresh}
 use Rattle.runner.specs.Message.{choose}
-use Rattle.runner.specs.State.{out_of}
+use Rattle.runner.specs.State.{out_of, outputs_of}
 use Rattle.carrier.specs.Carrier.{room, asked}
 use Rattle.carrier.specs.CarrierLaws.{admitted_so}
 use Rattle.carrier.specs.Writes.{writes, write_left}
 use Rattle.channel.specs.Calls as Channel
-use Rattle.channel.specs.Calls.{is_channel, is_left, has_ended, carriage}
+use Rattle.channel.specs.Calls.{is_channel, is_left, last_end, carriage}
 use Rattle.channel.proofs.Ended.{choice_left, pays}
 use Rattle.frames.specs.Calls as Frames
 use Rattle.frames.specs.Calls.{is_framed}
@@ -75,7 +75,7 @@ pub write_does : (s : State) (channel : ℕ) (buffer : List ℕ) → stop s.runn
 unfolding made next_entry answer_entry Channel.write_record
 write_does s channel buffer g =
     let k = carriage s.runner channel s.bytes buffer in
-    written_does s (write_record channel buffer) k buffer (pays channel (has_ended s.runner)) g (omega arith) refl refl (λ u. refl) _ _ (writes k s.runner s.bytes buffer g)
+    written_does s (write_record channel buffer) k buffer (pays channel (last_end (outputs_of s.runner))) g (omega arith) refl refl (λ u. refl) _ _ (writes k s.runner s.bytes buffer g)
 
 pub framed_does : (s : State) (stream : ℕ) (buffer : List ℕ) → stop s.runner (bytes_do s.runner.limits s.bytes) ≡ Ok tt
     → EntryDoes (conf_of s.runner) (write_frame stream buffer) s
@@ -126,7 +126,7 @@ unfolding answer_entry Channel.write_record asked Calls.next_message Plain.enoug
 left_untold s channel buffer f e part =
     let g : stop s.runner (bytes_do s.runner.limits s.bytes) ≡ (Ok tt) = goes s (Call.next_message buffer) f in
     let k = carriage s.runner channel s.bytes buffer in
-    let u = untaken_left s (write_record channel buffer) k buffer (pays channel (has_ended s.runner)) g _ _ (writes k s.runner s.bytes buffer g) refl e in
+    let u = untaken_left s (write_record channel buffer) k buffer (pays channel (last_end (outputs_of s.runner))) g _ _ (writes k s.runner s.bytes buffer g) refl e in
     let p = choice_left (choose s.runner (length (take s.runner.limits.chunk (drop 13 buffer)))) s.runner (rw g at u) in (
       outcome_of s.runner,
       answer_same s (Call.next_message part) f ∙ ends_answer s (Call.next_message part) (record { buffer = part; call = refl; chosen = still s.runner _ (length part) p.0 }),

@@ -31,13 +31,13 @@ use Rattle.exits.specs.Exit as Exit
 use Rattle.exits.specs.Exit.{is_untold, is_told, request, is_mine, guess}
 use Rattle.octets.specs.Text.{same}
 use Rattle.channel.specs.Calls as Channel
-use Rattle.channel.specs.Calls.{is_channel, has_ended, carriage}
+use Rattle.channel.specs.Calls.{is_channel, last_end, carriage}
 use Rattle.channel.proofs.Ended.{pays}
 use Rattle.framing.proofs.Refused.{read_refused, write_refused}
 use Rattle.frames.specs.Calls as Frames
 use Rattle.frames.specs.Calls.{is_framed}
 use Rattle.frames.proofs.Laid as Laid
-use Rattle.runner.specs.State.{out_of}
+use Rattle.runner.specs.State.{out_of, outputs_of}
 use Rattle.exec.specs.declared.Stream.TheVariants.{Stdout, Stderr}
 use Rattle.carrier.specs.Carrier.{accepted, WriteAfter, Carriage, write}
 use Rattle.carrier.specs.CarrierLaws.{stopped_so}
@@ -316,7 +316,7 @@ refusals = record {
   entry_kept = λ s e n a. (kept s e n a).same;
   buffer_kept = λ s channel buffer n e.
       subst (IfRefused Unit (λ m. (Channel.write_record s.runner channel s.bytes buffer).buffer ≡ buffer)) e
-      (write_buffer s (write_record channel buffer) (carriage s.runner channel s.bytes buffer) buffer (pays channel (has_ended s.runner)));
+      (write_buffer s (write_record channel buffer) (carriage s.runner channel s.bytes buffer) buffer (pays channel (last_end (outputs_of s.runner))));
   frame_buffer_kept = λ s stream buffer n e.
       subst (IfRefused Unit (λ m. (Frames.write_frame s.runner stream s.bytes buffer).buffer ≡ buffer)) e
       (write_buffer s (write_frame stream buffer) (Frames.carriage s.runner stream) buffer (Laid.pays stream (out_of Stdout s.runner).ended (out_of Stderr s.runner).ended));

@@ -1,5 +1,5 @@
 -- The streams side by side: what one of them has after a change of each, or of one.
-use mathlib.Core.Bool.{Bool, true, false, cond, ◌&&◌, ◌||◌, true≢false}
+use mathlib.Core.Bool.{Bool, true, false, cond, not, ◌&&◌, ◌||◌, true≢false}
 use mathlib.Core.Path.{◌≡◌, refl, sym, ap, ◌∙◌}
 use mathlib.Core.List.{List, [], ◌∷◌}
 use mathlib.Core.Logic.{◌⊎◌, inl, inr}
@@ -10,7 +10,7 @@ use Rattle.exec.specs.declared.Stream.{Stream}
 use Rattle.exec.specs.declared.Stream.TheVariants.{Stdout, Stderr, Notes}
 use Rattle.exec.specs.Each.{Each, one, on_one, per, both, every}
 use Rattle.exec.specs.Limits.{has, has_notes}
-use Rattle.exec.specs.Stream.{same_stream, every_stream, any_stream}
+use Rattle.exec.specs.Stream.{is_notes, same_stream, every_stream, any_stream}
 use Rattle.inbox.specs.Need.{rings_of}
 use Rattle.output.specs.declared.Output.{Output}
 use Rattle.output.specs.Output.{new_output, over}
@@ -201,6 +201,17 @@ module _ (b : Bool) (os : List Output) where
   on_out P Notes o p h Stdout = h Stdout
   on_out P Notes o p h Stderr = h Stderr
   on_out P Notes o p h Notes = third (P Notes) o p (h Notes)
+
+  -- what is asked of each output, where one is put back: of one that is not open it is as of one that is over
+  pub per_put : {A : Type 0} (g : Output → A) (x : Stream) (o : Output) → ((not (is_notes x) || b) ≡ false → g o ≡ g over)
+      → per (λ (y : Stream). g (output_in y (seen b (put_output x o os)))) ≡ on_one x (λ (a : A). g o) (per (λ (y : Stream). g (read y)))
+  per_put {A} g Stdout o k = refl
+  per_put {A} g Stderr o k = refl
+  per_put {A} g Notes o k = ap (λ (a : A). record { stdout = g (read Stdout); stderr = g (read Stderr); notes = a }) (by b k)
+    where
+      by : (b : Bool) → (b ≡ false → g o ≡ g over) → g (cond b o over) ≡ g o
+      by true k = refl
+      by false k = sym (k refl)
 
 -- ---- the rings
 

@@ -75,7 +75,7 @@ unwired _ st h = refl
 -- ---- the claim
 
 module _ (conf : Conf) (now : ℕ) (bytes lengths : List ℕ) (s : ℕ) (op : Opens conf now bytes lengths) (framed : is_framed conf.limits s ≡ true) where
-  follows : (es : List Entry) → AllOf (Lone s) es → heard_of conf now bytes lengths s es ≡ told_by speaks no_ends (said conf now bytes lengths es)
+  follows : (es : List Entry) → AllOf (Lone s) es → heard_of conf now bytes lengths s es ≡ told_by speaks (no_ends conf.limits) (said conf now bytes lengths es)
   unfolding cut_by
   follows es l = follows_so conf now bytes lengths op speaks on_wire (heard s) (Lone s) refl (steps conf s framed) es l
 
@@ -101,46 +101,52 @@ module _ (conf : Conf) (now : ℕ) (bytes lengths : List ℕ) (s : ℕ) (op : Op
       let r : roomy conf buffer ≡ true = le-leb (room conf.limits) (length buffer) (omega arith) in
       (rw (framed, r, taken_all st buffer g) at (does conf (Records.write_frame s buffer) st g)).1
 
-  ends_at : (es : List Entry) (x : Stream) → AllOf (Lone s) es
+  -- of a stream that is open: it is told of by its End alone
+  told_open : (es : List Entry) (x : Stream) → has_stream conf.limits x ≡ true
+      → one x (ends_all (said conf now bytes lengths es) (no_ends conf.limits)) ≡ any (is_end x) (said conf now bytes lengths es)
+  told_open es x o = told_ends conf now bytes lengths op es x ∙ rw o refl
+
+  ends_at : (es : List Entry) (x : Stream) → has_stream conf.limits x ≡ true → AllOf (Lone s) es
       → count (is_ended x) (heard_of conf now bytes lengths s es) ≡ once (any (is_end x) (said conf now bytes lengths es))
-  ends_at es x l =
+  ends_at es x o l =
       let ms : List Message = said conf now bytes lengths es in
-      let none : one x no_ends ≡ false = told_ends conf now bytes lengths op [] x in
-      let z = ends_told x ms no_ends (told_once conf now bytes lengths op es) in
-      ap (count (is_ended x)) (follows es l) ∙ omega (arith, z, ap once none) ∙ ap once (told_ends conf now bytes lengths op es x)
+      let none : one x (no_ends conf.limits) ≡ false = told_open [] x o in
+      let z = ends_told x ms (no_ends conf.limits) (told_once conf now bytes lengths op es) in
+      ap (count (is_ended x)) (follows es l) ∙ omega (arith, z, ap once none) ∙ ap once (told_open es x o)
 
   seen_by : (b : Bool) → 1 ≤ once b → b ≡ true
   seen_by true h = refl
   seen_by false h = absurd (omega arith)
 
-  resets_at : (es : List Entry) (x : Stream) → AllOf (Lone s) es
+  resets_at : (es : List Entry) (x : Stream) → has_stream conf.limits x ≡ true → AllOf (Lone s) es
       → count (is_reset x) (heard_of conf now bytes lengths s es)
       ≡ once (any terminal_message (said conf now bytes lengths es) && not (any (is_end x) (said conf now bytes lengths es)))
-  resets_at es x l =
+  resets_at es x o l =
       let ms : List Message = said conf now bytes lengths es in
+      let none : not (has_notes conf.limits) ≡ true = rw (two_streams conf s framed) refl in
       ap (count (is_reset x)) (follows es l)
-      ∙ resets_told x ms no_ends (from_open conf now bytes lengths op es).1.final
-      ∙ ap (λ (b : Bool). once (any terminal_message ms && not b)) (told_ends conf now bytes lengths op es x)
+      ∙ resets_told x ms (no_ends conf.limits) none (from_open conf now bytes lengths op es).1.final
+      ∙ ap (λ (b : Bool). once (any terminal_message ms && not b)) (told_open es x o)
 
-  over_at : (es : List Entry) (x : Stream) → AllOf (Lone s) es → any terminal_message (said conf now bytes lengths es) ≡ true
+  over_at : (es : List Entry) (x : Stream) → has_stream conf.limits x ≡ true → AllOf (Lone s) es → any terminal_message (said conf now bytes lengths es) ≡ true
       → count (is_ended x) (heard_of conf now bytes lengths s es) + count (is_reset x) (heard_of conf now bytes lengths s es) ≡ 1
-  over_at es x l t = let a = ends_at es x l in let b = resets_at es x l in let c = by (any (is_end x) (said conf now bytes lengths es)) t in omega arith
+  over_at es x o l t = let a = ends_at es x o l in let b = resets_at es x o l in let c = by (any (is_end x) (said conf now bytes lengths es)) t in omega arith
     where
       by : (b : Bool) → any terminal_message (said conf now bytes lengths es) ≡ true → once b + once (any terminal_message (said conf now bytes lengths es) && not b) ≡ 1
       by true t = rw t refl
       by false t = rw t refl
 
-  mute_at : (es ds : List Entry) (x : Stream) → AllOf (Lone s) (es ++ ds) → count (is_ended x) (heard_of conf now bytes lengths s es) ≡ 1
+  mute_at : (es ds : List Entry) (x : Stream) → has_stream conf.limits x ≡ true → AllOf (Lone s) (es ++ ds) → count (is_ended x) (heard_of conf now bytes lengths s es) ≡ 1
       → count (is_on x) (heard_of conf now bytes lengths s (es ++ ds)) ≡ count (is_on x) (heard_of conf now bytes lengths s es)
-  mute_at es ds x l n =
+  mute_at es ds x o l n =
       let k : AllOf (Lone s) es = all_front (Lone s) es ds l in
       let st : State = Step.opened conf now bytes lengths in
       let ms : List Message = said conf now bytes lengths es in
       let ns : List Message = said_from (after_entries st es) ds in
-      let e : any (is_end x) ms ≡ true = once_true _ (sym (ends_at es x k) ∙ n) in
-      let z = none_on x ns (ends_all ms no_ends) (told_ends conf now bytes lengths op es x ∙ e) ((ordered conf now bytes lengths op).ended es ds x e) in
-      ap (count (is_on x)) (follows (es ++ ds) l ∙ ap (told_by speaks no_ends) (said_append es ds st) ∙ told_append speaks no_ends ms ns)
-      ∙ count_append (is_on x) (told_by speaks no_ends ms) (told_by speaks (ends_all ms no_ends) ns)
+      let e : any (is_end x) ms ≡ true = once_true _ (sym (ends_at es x o k) ∙ n) in
+      let z = none_on x ns (ends_all ms (no_ends conf.limits)) (told_open es x o ∙ e) ((ordered conf now bytes lengths op).ended es ds x e) in
+      ap (count (is_on x)) (follows (es ++ ds) l ∙ ap (told_by speaks (no_ends conf.limits)) (said_append es ds st) ∙ told_append speaks (no_ends conf.limits) ms ns)
+      ∙ count_append (is_on x) (told_by speaks (no_ends conf.limits) ms) (told_by speaks (ends_all ms (no_ends conf.limits)) ns)
       ∙ omega (arith, z)
       ∙ ap (count (is_on x)) (sym (follows es k))
 
@@ -149,15 +155,15 @@ module _ (conf : Conf) (now : ℕ) (bytes lengths : List ℕ) (s : ℕ) (op : Op
   known = record {
     follows = follows;
     asks = asks_at;
-    unread = λ es l. ap (count is_unread) (follows es l) ∙ none_told speaks is_unread unread_none no_ends (said conf now bytes lengths es);
+    unread = λ es l. ap (count is_unread) (follows es l) ∙ none_told speaks is_unread unread_none (no_ends conf.limits) (said conf now bytes lengths es);
     sent = λ es x l. has_sent conf now bytes lengths op speaks bytes_in bytes_told es _ (follows es l) x;
     front = λ es x l. has_front conf now bytes lengths op speaks bytes_in bytes_told es _ (follows es l) x;
-    windows = λ es l. ap (joined units_in) (follows es l) ∙ joined_told speaks units_in credit_in units_told no_ends (said conf now bytes lengths es);
+    windows = λ es l. ap (joined units_in) (follows es l) ∙ joined_told speaks units_in credit_in units_told (no_ends conf.limits) (said conf now bytes lengths es);
     ends = ends_at;
-    seen = λ es x l n. seen_by (any (is_end x) (said conf now bytes lengths es)) (omega (arith, n, ends_at es x l));
+    seen = λ es x o l n. seen_by (any (is_end x) (said conf now bytes lengths es)) (omega (arith, n, ends_at es x o l));
     mute = mute_at;
     resets = resets_at;
-    unbroken = λ es x l t. resets_at es x l ∙ rw t refl;
+    unbroken = λ es x o l t. resets_at es x o l ∙ rw t refl;
     over = over_at;
     last = λ es e ds t. silent_wire on_wire unwired ds _ ((whole conf now bytes lengths op).once es e ds t);
     whole = λ es e o x l a u. has_whole conf now bytes lengths op speaks bytes_in bytes_told es _ (follows es l) x e o a u;

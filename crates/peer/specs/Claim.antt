@@ -3,6 +3,7 @@
 use Rattle.std.specs.Prelude.{true, false, not, ◌&&◌, ◌≡◌, List, ◌++◌, [], ◌∷◌, ℕ, ◌+◌, ◌≤◌, length, take, drop}
 use Rattle.exec.specs.declared.Outcome.{Outcome}
 use Rattle.exec.specs.declared.Stream.{Stream}
+use Rattle.exec.specs.Limits.{has}
 use Rattle.exec.specs.Outcome.{is_truncated}
 use Rattle.calls.specs.Call as Call
 use Rattle.calls.specs.Call.{Conf}
@@ -29,7 +30,7 @@ heard_of conf now bytes lengths s es = heard s (wire on_wire (opened conf now by
 -- WHAT THE PEER KNOWS, for a framed runner that open answered ok, stores of any content, and every list whose messages all go to s and s + 2
 pub record Peer (conf : Conf) (now : ℕ) (bytes lengths : List ℕ) (s : ℕ) : Type 0 where
   -- frame by frame it heard what was told, message by message: nothing else, nothing less, and in that order
-  pub follows : (es : List Entry) → AllOf (Lone s) es → heard_of conf now bytes lengths s es ≡ told_by speaks no_ends (said conf now bytes lengths es)
+  pub follows : (es : List Entry) → AllOf (Lone s) es → heard_of conf now bytes lengths s es ≡ told_by speaks (no_ends conf.limits) (said conf now bytes lengths es)
   -- and what is told is what next_message tells, after any list: a write into chunk + 13 bytes, and 43, answers as that call does in
   -- its part of the buffer
   pub asks : (es : List Entry) (buffer : List ℕ) → conf.limits.chunk + 13 ≤ length buffer → 43 ≤ length buffer
@@ -47,23 +48,23 @@ pub record Peer (conf : Conf) (now : ℕ) (bytes lengths : List ℕ) (s : ℕ) :
   pub windows : (es : List Entry) → AllOf (Lone s) es
       → joined units_in (heard_of conf now bytes lengths s es) ≡ joined credit_in (said conf now bytes lengths es)
   -- of each stream one END_STREAM where its End was told, and none before
-  pub ends : (es : List Entry) (x : Stream) → AllOf (Lone s) es
+  pub ends : (es : List Entry) (x : Stream) → has conf.limits x ≡ true → AllOf (Lone s) es
       → count (is_ended x) (heard_of conf now bytes lengths s es) ≡ once (any (is_end x) (said conf now bytes lengths es))
   -- so where the peer sees a stream ended, its End was told: of each stream by itself, which a channel does not tell
-  pub seen : (es : List Entry) (x : Stream) → AllOf (Lone s) es → 1 ≤ count (is_ended x) (heard_of conf now bytes lengths s es)
+  pub seen : (es : List Entry) (x : Stream) → has conf.limits x ≡ true → AllOf (Lone s) es → 1 ≤ count (is_ended x) (heard_of conf now bytes lengths s es)
       → any (is_end x) (said conf now bytes lengths es) ≡ true
   -- and no frame on it behind that: no bytes, no second end, no reset
-  pub mute : (es ds : List Entry) (x : Stream) → AllOf (Lone s) (es ++ ds) → count (is_ended x) (heard_of conf now bytes lengths s es) ≡ 1
+  pub mute : (es ds : List Entry) (x : Stream) → has conf.limits x ≡ true → AllOf (Lone s) (es ++ ds) → count (is_ended x) (heard_of conf now bytes lengths s es) ≡ 1
       → count (is_on x) (heard_of conf now bytes lengths s (es ++ ds)) ≡ count (is_on x) (heard_of conf now bytes lengths s es)
   -- one RST_STREAM where Terminal was told and its End was not
-  pub resets : (es : List Entry) (x : Stream) → AllOf (Lone s) es
+  pub resets : (es : List Entry) (x : Stream) → has conf.limits x ≡ true → AllOf (Lone s) es
       → count (is_reset x) (heard_of conf now bytes lengths s es)
       ≡ once (any terminal_message (said conf now bytes lengths es) && not (any (is_end x) (said conf now bytes lengths es)))
   -- so none before Terminal
-  pub unbroken : (es : List Entry) (x : Stream) → AllOf (Lone s) es → any terminal_message (said conf now bytes lengths es) ≡ false
+  pub unbroken : (es : List Entry) (x : Stream) → has conf.limits x ≡ true → AllOf (Lone s) es → any terminal_message (said conf now bytes lengths es) ≡ false
       → count (is_reset x) (heard_of conf now bytes lengths s es) ≡ 0
   -- by which each stream has ended, once, by one of the two
-  pub over : (es : List Entry) (x : Stream) → AllOf (Lone s) es → any terminal_message (said conf now bytes lengths es) ≡ true
+  pub over : (es : List Entry) (x : Stream) → has conf.limits x ≡ true → AllOf (Lone s) es → any terminal_message (said conf now bytes lengths es) ≡ true
       → count (is_ended x) (heard_of conf now bytes lengths s es) + count (is_reset x) (heard_of conf now bytes lengths s es) ≡ 1
   -- and nothing stands on the wire behind it, whatever is called
   pub last : (es : List Entry) (e : Entry) (ds : List Entry) → is_terminal (answer_entry (after_entries (opened conf now bytes lengths) es) e) ≡ true

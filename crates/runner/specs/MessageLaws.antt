@@ -21,7 +21,7 @@ use Rattle.runner.specs.declared.runner.Runner.{Runner}
 use Rattle.choice.specs.Order.{if_else, order}
 use Rattle.input.specs.Input.{input_accepts, can_grant}
 use Rattle.runner.specs.Life.{awaits_launch, is_ready}
-use Rattle.runner.specs.Message.{sendable_of, choose, effect, payload}
+use Rattle.runner.specs.Message.{sendable_of, untold, choose, effect, payload}
 use Rattle.runner.specs.Range.{bytes_do, stop}
 use Rattle.runner.specs.RangeLaws.{Queued, InRange, Good, is_good_lem}
 use Rattle.runner.specs.State.{out_of, base, credit_at}
@@ -58,14 +58,14 @@ pub record Chosen (r : Runner) (buffer : ℕ) (x : Stream) (n : ℕ) : Type 0 wh
   pub bytes : n ≡ sendable_of r buffer x
   pub some_bytes : 0 < n
 
--- Credit can be granted; Started and InputClosed are to be told; End and Output come with the launch known and its Started told;
--- Terminal once all is told
+-- Credit can be granted; Started and InputClosed are to be told; End and Output come with the launch known and its Started told, an End
+-- of a stream that is done, which was not told; Terminal once all is told
 abbrev pub Shows : Runner → (buffer : ℕ) → Choice → Type 0
 Shows r buffer Choice.None = Unit
 Shows r buffer Choice.Credit = can_grant r.input ≡ true
 Shows r buffer Choice.Started = r.flags.started_message ≡ true
 Shows r buffer Choice.InputClosed = r.input.closed_message ≡ true
-Shows r buffer (Choice.End x) = (awaits_launch r ≡ false) × (r.flags.started_message ≡ false)
+Shows r buffer (Choice.End x) = (awaits_launch r ≡ false) × (r.flags.started_message ≡ false) × (untold r x ≡ true)
 Shows r buffer (Choice.Output x n) = (awaits_launch r ≡ false) × (r.flags.started_message ≡ false) × Chosen r buffer x n
 Shows r buffer Choice.Terminal = is_ready r ≡ true
 
@@ -85,9 +85,9 @@ shows buffer r =
     pick_if P _ _ _ (λ c. (both (can_grant r.input) (not r.flags.credited) c).0) (λ _.
     pick_if P _ _ _ (λ s. s) (λ s.
     pick_if P _ _ _ (λ c. c) (λ _.
-    pick_if P _ _ _ (λ e. (known _ e, s)) (λ _.
-    pick_if P _ _ _ (λ e. (known _ e, s)) (λ _.
-    pick_if P _ _ _ (λ e. (known _ e, s)) (λ _.
+    pick_if P _ _ _ (λ e. (known _ e, s, (both (not (awaits_launch r)) _ e).1)) (λ _.
+    pick_if P _ _ _ (λ e. (known _ e, s, (both (not (awaits_launch r)) _ e).1)) (λ _.
+    pick_if P _ _ _ (λ e. (known _ e, s, (both (not (awaits_launch r)) _ e).1)) (λ _.
     pick_if P _ _ _ (λ e. (known _ e, s, record { bytes = refl; some_bytes = some _ e })) (λ _.
     pick_if P _ _ _ (λ e. (known _ e, s, record { bytes = refl; some_bytes = some _ e })) (λ _.
     pick_if P _ _ _ (λ e. (known _ e, s, record { bytes = refl; some_bytes = some _ e })) (λ _.

@@ -6,20 +6,17 @@ use Prim.Native.Nat.{ℕ, min}
 use native.Mathlib.Omega.{arith}
 use lib.Dec.{ltb}
 use lib.ListN.{length}
-use borrow.Author.Tests.{ltb-true, ltb-false, not-true}
+use borrow.Author.Tests.{ltb-false, not-true}
 use Rattle.exec.specs.declared.Stream.{Stream}
-use Rattle.exec.specs.declared.Stream.TheVariants.{Stdout, Stderr}
 use Rattle.exec.specs.Each.{Each, one, on_one, per}
-use Rattle.exec.specs.Limits.{pool_of}
-use Rattle.exec.specs.Stream.{stream_at, following, same_stream}
+use Rattle.exec.specs.Limits.{has_notes, pool_of}
+use Rattle.exec.specs.Stream.{same_stream}
 use Rattle.choice.specs.declared.Choice.{Choice}
-use Rattle.choice.specs.Order.{if_else, order}
 use Rattle.output.specs.declared.Output.{Output}
 use Rattle.output.specs.Output.{is_done, ended_out, sent_out}
 use Rattle.runner.specs.declared.runner.Runner.{Runner}
-use Rattle.runner.specs.Life.{awaits_launch}
-use Rattle.runner.specs.Message.{sendable_of, untold, choose, output_paid, output_sent, effect}
-use Rattle.runner.specs.MessageLaws.{least}
+use Rattle.runner.specs.Message.{sendable_of, choose, output_paid, output_sent, effect}
+use Rattle.runner.specs.MessageLaws.{Shows, shows, Chosen, least}
 use Rattle.runner.specs.State.{out_of, credit_at}
 use Rattle.calls.specs.Call as Call
 use Rattle.calls.specs.Call.{Call, Answer, Message}
@@ -31,7 +28,7 @@ use Rattle.std.proofs.lemmas.Bool.{or_left}
 use Rattle.ring.specs.Flags.{and_l, and_r}
 use Rattle.std.proofs.Math.Bool.{or-false}
 use Rattle.account.proofs.Phase.{intake_none}
-use Rattle.account.proofs.Sides.{one_per, per_same, apart, on_out, per_put, one_on, on_same}
+use Rattle.account.proofs.Sides.{one_per, per_same, apart, is_over, on_out, per_put, one_on, on_same}
 use Rattle.wire.specs.Messages.{said_in, is_end, is_of, any, ends_by}
 use Rattle.account.proofs.Outs.{All, Stands, quiet_keeps}
 
@@ -69,39 +66,27 @@ Fresh r (Choice.End x) = ((out_of x r).ended ≡ false) × (is_done (out_of x r)
 Fresh r (Choice.Output x n) = (out_of x r).ended ≡ false
 Fresh r _ = Unit
 
-either : (P : Choice → Type 0) (b : Bool) (x y : Choice) → (b ≡ true → P x) → P y → P (if_else b x y)
-unfolding if_else
-either P true x y p q = p refl
-either P false x y p q = q
-
-untold_done : (x : Stream) (r : Runner) → (not (awaits_launch r) && untold r x) ≡ true → Fresh r (Choice.End x)
-unfolding Fresh
-untold_done x r h =
-    let o : Output = out_of x r in
-    let q = and_r (not (awaits_launch r)) (untold r x) h in
-    (not-true o.ended (and_r (is_done o) (not o.ended) q), and_l (is_done o) (not o.ended) q)
-
-sends : (n : ℕ) (x : Stream) (r : Runner) → Muted r → (not (awaits_launch r) && ltb 0 (sendable_of r n x)) ≡ true → (out_of x r).ended ≡ false
+sends : (n : ℕ) (x : Stream) (k : ℕ) (r : Runner) → Muted r → Chosen r n x k → (out_of x r).ended ≡ false
 unfolding sendable_of
-sends n x r m h = by (out_of x r).ended refl
+sends n x k r m c = by (out_of x r).ended refl
   where
     by : (b : Bool) → (out_of x r).ended ≡ b → b ≡ false
     by false e = refl
     by true e =
-        let z = ltb-true 0 (sendable_of r n x) (and_r (not (awaits_launch r)) (ltb 0 (sendable_of r n x)) h) in
         let q = (m x e).1 in
         let l = least r.limits.output.unit (credit_at (pool_of r.limits x) r.credits).available (min (min (out_of x r).queued r.limits.chunk) n) in
-        absurd (omega arith)
+        absurd (omega (arith, c.bytes, c.some_bytes, l))
 
 fresh : (n : ℕ) (r : Runner) → Muted r → Fresh r (choose r n)
-unfolding Fresh choose order
-fresh n r m =
-    let P = Fresh r in
-    either P _ _ _ (λ _. tt) (either P _ _ _ (λ _. either P _ _ _ (λ _. tt) tt)
-    (either P _ _ _ (λ _. tt) (either P _ _ _ (λ _. tt) (either P _ _ _ (λ _. tt)
-    (either P _ _ _ (λ h. untold_done Stdout r h) (either P _ _ _ (λ h. untold_done Stderr r h)
-    (either P _ _ _ (λ h. sends n (stream_at r.turn) r m h) (either P _ _ _ (λ h. sends n (following (stream_at r.turn)) r m h)
-    (either P _ _ _ (λ _. tt) (either P _ _ _ (λ _. tt) tt))))))))))
+unfolding Fresh
+fresh n r m = by (choose r n) (shows n r)
+  where
+    by : (c : Choice) → Shows r n c → Fresh r c
+    by (Choice.End x) s =
+        let o : Output = out_of x r in
+        (not-true o.ended (and_r (is_done o) (not o.ended) s.2), and_l (is_done o) (not o.ended) s.2)
+    by (Choice.Output x k) s = sends n x k r m s.2
+    by _ s = tt
 
 -- an End is chosen of a stream whose End is not told
 pub end_untold : (n : ℕ) (r : Runner) (x : Stream) → Muted r → Choice.End x ≡ choose r n → (out_of x r).ended ≡ false
@@ -146,16 +131,17 @@ effect_tells : (m : Choice) (r : Runner) (store : List ℕ) → Fresh r m → Mu
 unfolding Fresh said effect output_sent output_paid
 effect_tells Choice.None r store f h = record { told = refl; once = tt; muted = h; silent = λ x e. refl }
 effect_tells (Choice.End y) r store f h = record {
-  told = per_put (λ (o : Output). o.ended) y (ended_out (out_of y r)) r.outputs;
+  told = per_put (has_notes r.limits) r.outputs (λ (o : Output). o.ended) y (ended_out (out_of y r)) (λ e. refl);
   once = (at y r ∙ f.0, tt);
-  muted = on_out Mute y (ended_out (out_of y r)) r.outputs (mute_ended y (out_of y r) f.1) (λ x d. h x);
+  muted = on_out (has_notes r.limits) r.outputs Mute y (ended_out (out_of y r)) (mute_ended y (out_of y r) f.1) h;
   silent = λ x e. other y x r f.0 e;
 }
 effect_tells (Choice.Output y n) r store f h = record {
-  told = per_put (λ (o : Output). o.ended) y (sent_out r.limits.chunk n (out_of y r)) r.outputs
+  told = per_put (has_notes r.limits) r.outputs (λ (o : Output). o.ended) y (sent_out r.limits.chunk n (out_of y r))
+      (λ e. ap (λ (o : Output). o.ended) (is_over r.limits r.outputs y e))
       ∙ ap (λ (b : Bool). on_one y (λ (a : Bool). b) (ends r)) (sym (at y r)) ∙ on_same y (ends r);
   once = (tt, tt);
-  muted = on_out Mute y (sent_out r.limits.chunk n (out_of y r)) r.outputs (λ e. ((h y e).0, (let z = (h y e).1 in omega arith))) (λ x d. h x);
+  muted = on_out (has_notes r.limits) r.outputs Mute y (sent_out r.limits.chunk n (out_of y r)) (λ e. ((h y e).0, (let z = (h y e).1 in omega arith))) h;
   silent = λ x e. other y x r f e;
 }
 effect_tells _ r store f h = record { told = refl; once = (tt, tt); muted = h; silent = λ x e. refl }

@@ -6,6 +6,7 @@ use mathlib.Core.Path.{◌≡◌, refl, sym, ap, ◌∙◌, subst, subst⁻¹}
 use mathlib.Core.List.{List, [], ◌∷◌, ◌++◌, append-nil, append_assoc}
 use Prim.Native.Nat.{ℕ, suc, ◌+◌}
 use native.Mathlib.Omega.{arith}
+use Rattle.exec.specs.Limits as Limits
 use Rattle.exec.specs.declared.Outcome.{Outcome}
 use Rattle.exec.specs.declared.Receipt.{Receipt}
 use Rattle.exec.specs.declared.Refusal.{Refusal}
@@ -184,28 +185,29 @@ module _ (conf : Conf) (now : ℕ) (bytes lengths : List ℕ) (op : Opens conf n
   abbrev pub begins : State
   begins = Step.opened conf now bytes lengths
 
-  -- the streams whose End was told
-  pub told_ends : (es : List Entry) (x : Stream) → one x (ends_all (said conf now bytes lengths es) no_ends) ≡ any (is_end x) (said conf now bytes lengths es)
+  -- the streams whose End was told, and those that are not open
+  pub told_ends : (es : List Entry) (x : Stream)
+      → one x (ends_all (said conf now bytes lengths es) (no_ends conf.limits)) ≡ (not (Limits.has conf.limits x) || any (is_end x) (said conf now bytes lengths es))
   told_ends es x =
-      ends_so (said conf now bytes lengths es) no_ends x ∙ ap (λ (b : Bool). b || any (is_end x) (said conf now bytes lengths es)) (one_per (λ (y : Stream). false) x)
+      ends_so (said conf now bytes lengths es) (no_ends conf.limits) x ∙ ap (λ (b : Bool). b || any (is_end x) (said conf now bytes lengths es)) (one_per (λ (y : Stream). not (Limits.has conf.limits y)) x)
 
-  pub told_once : (es : List Entry) → Once no_ends (said conf now bytes lengths es)
+  pub told_once : (es : List Entry) → Once (no_ends conf.limits) (said conf now bytes lengths es)
   told_once es = subst (λ (e : Each Bool). Once e (said conf now bytes lengths es)) (fresh_ends conf now bytes lengths op) (from_open conf now bytes lengths op es).0.once
 
   module _ {H : Type 0} (speaks : Each Bool → Message → List H) where
     -- it heard what was told, where each entry is heard as its messages are told
     pub follows_so : {A : Type 0} (on_wire : State → Entry → List A) (hear : List A → List H) (Of : Entry → Type 0) → hear [] ≡ [] → Steps speaks conf on_wire hear Of
-        → (es : List Entry) → AllOf Of es → hear (wire on_wire begins es) ≡ told_by speaks no_ends (said conf now bytes lengths es)
+        → (es : List Entry) → AllOf Of es → hear (wire on_wire begins es) ≡ told_by speaks (no_ends conf.limits) (said conf now bytes lengths es)
     follows_so on_wire hear Of n step es l =
         hears_all hear (wire on_wire begins es) _ n
         (list_heard speaks conf on_wire hear Of step es begins (good_open conf now bytes lengths op) (fresh_muted conf now bytes lengths op) l)
         ∙ ap (λ (e : Each Bool). told_by speaks e (said conf now bytes lengths es)) (fresh_ends conf now bytes lengths op)
 
     module _ (bytes_in : Stream → H → List ℕ) (carries : (x : Stream) (e : Each Bool) (m : Message) → joined (bytes_in x) (speaks e m) ≡ carried_by x m)
-        (es : List Entry) (heard : List H) (follows : heard ≡ told_by speaks no_ends (said conf now bytes lengths es)) (x : Stream) where
+        (es : List Entry) (heard : List H) (follows : heard ≡ told_by speaks (no_ends conf.limits) (said conf now bytes lengths es)) (x : Stream) where
       -- of each stream what the messages carry
       pub has : joined (bytes_in x) heard ≡ joined (carried_by x) (said conf now bytes lengths es)
-      has = ap (joined (bytes_in x)) follows ∙ joined_told speaks (bytes_in x) (carried_by x) (carries x) no_ends (said conf now bytes lengths es)
+      has = ap (joined (bytes_in x)) follows ∙ joined_told speaks (bytes_in x) (carried_by x) (carries x) (no_ends conf.limits) (said conf now bytes lengths es)
 
       -- which is what was sent of it
       pub has_sent : joined (bytes_in x) heard ≡ sent_in x (run_entries begins es)

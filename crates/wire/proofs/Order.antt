@@ -1,7 +1,7 @@
 -- The order that the messages of every list keep: an End once, and nothing of its stream after it; nothing after Terminal.
 use Rattle.std.proofs.Math.Bool.{or-false}
 use Rattle.std.proofs.lemmas.Bool.{or_right}
-use mathlib.Core.Bool.{or-true, Bool, true, false, ◌||◌, true≢false, false≢true}
+use mathlib.Core.Bool.{Bool, true, false, cond, not, ◌||◌, true≢false, false≢true}
 use mathlib.Core.Path.{◌≡◌, refl, sym, ap, ◌∙◌, subst⁻¹}
 use mathlib.Core.List.{List, [], ◌∷◌, ◌++◌}
 use Prim.Native.Nat.{ℕ}
@@ -21,9 +21,11 @@ use Rattle.account.proofs.Finish as Finish
 use Rattle.account.proofs.Finish.{fin_stays, no_more, ends_fin}
 use Rattle.account.proofs.EachRecord.{Does}
 use Rattle.account.proofs.Records.{Good, does, good_entry, good_open, good_at}
-use Rattle.account.proofs.Sides.{out_alike}
-use Rattle.output.specs.Output.{new_output}
-use Rattle.wire.specs.Messages.{said_in, said_from, is_end, any, no_ends, Ordered}
+use Rattle.account.proofs.Sides.{out_open, one_per}
+use Rattle.exec.specs.Limits.{has, has_notes}
+use Rattle.output.specs.declared.Output.{Output}
+use Rattle.output.specs.Output.{new_output, over}
+use Rattle.wire.specs.Messages.{said_in, said_from, is_end, is_of, any, no_ends, Ordered}
 use Rattle.wire.proofs.Ends as Ends
 use Rattle.wire.proofs.Ends.{Muted, ends, at, ends_all, Tells, Speech, speech, unsaid, call_tells, ends_so, any_append, tells_on}
 
@@ -115,17 +117,23 @@ module _ (conf : Conf) where
 
 -- ---- from open
 
+-- the End of the third stream counts as told where that is not open
+third_ended : (b : Bool) → (cond b new_output over).ended ≡ not b
+third_ended true = refl
+third_ended false = refl
+
 module _ (conf : Conf) (now : ℕ) (bytes lengths : List ℕ) (op : Opens conf now bytes lengths) where
   abbrev pub opened : State
   opened = Step.opened conf now bytes lengths
 
-  pub fresh_ends : ends opened.runner ≡ no_ends
+  pub fresh_ends : ends opened.runner ≡ no_ends conf.limits
   unfolding fresh
-  fresh_ends = ap (λ (s : State). ends s.runner) (open_same conf now bytes lengths op)
+  fresh_ends = ap (λ (s : State). ends s.runner) (open_same conf now bytes lengths op) ∙ rw (third_ended (has_notes conf.limits)) refl
 
   pub fresh_muted : Muted opened.runner
   unfolding fresh
-  fresh_muted = subst⁻¹ (λ (s : State). Muted s.runner) (open_same conf now bytes lengths op) (λ x. rw (out_alike new_output x) (λ e. absurd (false≢true e)))
+  fresh_muted = subst⁻¹ (λ (s : State). Muted s.runner) (open_same conf now bytes lengths op) 
+      (λ x. out_open (λ (o : Output). o.ended ≡ true → (o.closed ≡ true) × (o.queued ≡ 0)) (has_notes conf.limits) (λ e. absurd (false≢true e)) (λ e. (refl, refl)) x)
 
   pub from_open : (es : List Entry) → Tells opened.runner (after_entries opened es).runner (said_from opened es) × Finishes opened.runner (after_entries opened es).runner (said_from opened es)
   from_open es = list_tells conf es opened (good_open conf now bytes lengths op) fresh_muted
@@ -133,14 +141,20 @@ module _ (conf : Conf) (now : ℕ) (bytes lengths : List ℕ) (op : Opens conf n
   behind : (es ds : List Entry) → Tells (after_entries opened es).runner (after_entries (after_entries opened es) ds).runner (said_from (after_entries opened es) ds) × Finishes (after_entries opened es).runner (after_entries (after_entries opened es) ds).runner (said_from (after_entries opened es) ds)
   behind es ds = list_tells conf ds (after_entries opened es) (good_at conf now bytes lengths op es) (from_open es).0.muted
 
-  pub ended_at : (es : List Entry) (x : Stream) → (out_of x (after_entries opened es).runner).ended ≡ (one x no_ends || any (is_end x) (said_from opened es))
+  pub ended_at : (es : List Entry) (x : Stream) → (out_of x (after_entries opened es).runner).ended ≡ (not (has conf.limits x) || any (is_end x) (said_from opened es))
   ended_at es x =
       let ms : List Message = said_from opened es in
-      sym (at x (after_entries opened es).runner) ∙ ap (one x) ((from_open es).0.told ∙ ap (ends_all ms) fresh_ends) ∙ ends_so ms no_ends x
+      sym (at x (after_entries opened es).runner) ∙ ap (one x) ((from_open es).0.told ∙ ap (ends_all ms) fresh_ends) ∙ ends_so ms (no_ends conf.limits) x
+      ∙ ap (λ (b : Bool). b || any (is_end x) ms) (one_per (λ (y : Stream). not (has conf.limits y)) x)
+
+  -- once the End of a stream was told, or where it is not open, no message is of it
+  pub silent_at : (es ds : List Entry) (x : Stream) → (not (has conf.limits x) || any (is_end x) (said_from opened es)) ≡ true
+      → any (is_of x) (said_from (after_entries opened es) ds) ≡ false
+  silent_at es ds x e = (behind es ds).0.silent x (ended_at es x ∙ e)
 
   -- THE ORDER
   pub ordered : Ordered conf now bytes lengths
   ordered = record {
-    ended = λ es ds x e. (behind es ds).0.silent x (ended_at es x ∙ rw e (or-true (one x no_ends)));
+    ended = λ es ds x e. silent_at es ds x (or_right (not (has conf.limits x)) _ e);
     over = λ es ds e. ((behind es ds).1.over ((from_open es).1.ended e)).0;
   }

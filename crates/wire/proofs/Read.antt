@@ -1,4 +1,5 @@
 -- A record that is written, at the peer: it is heard as what is to be heard of the message that was told.
+use Rattle.runner.specs.State.{outputs_of}
 use Rattle.std.specs.Prelude.{Option, Some, None, Ok}
 use mathlib.Core.Bool.{Bool, true, false, cond, false≢true}
 use mathlib.Core.Path.{◌≡◌, refl, sym, ap, ◌∙◌, subst⁻¹}
@@ -14,7 +15,7 @@ use Rattle.exec.specs.declared.Limits.{Limits}
 use Rattle.exec.specs.declared.Status.{Status}
 use Rattle.exec.specs.declared.Status.TheVariants.{Exited}
 use Rattle.exec.specs.declared.Stream.{Stream}
-use Rattle.exec.specs.declared.Stream.TheVariants.{Stdout, Stderr}
+use Rattle.exec.specs.declared.Stream.TheVariants.{Stdout, Stderr, Notes}
 use Rattle.exec.specs.declared.Unit as Units
 use Rattle.exec.specs.declared.Unit.TheVariants as Unit
 use Rattle.exec.specs.Each.{Each, on_one, every}
@@ -43,7 +44,7 @@ use Rattle.exits.proofs.Ended.{ended_reads}
 use Rattle.carrier.specs.Carrier.{WriteAfter, part_back, asked, wrote, wrote_buffer, told, Carriage}
 use Rattle.carrier.specs.CarrierLaws.{part_in, part_reaches}
 use Rattle.carrier.specs.Writes.{Writes, taken, tells, writes}
-use Rattle.channel.specs.Calls.{write_record, sent_as, sent_buffer, has_ended, laying, is_left, carriage}
+use Rattle.channel.specs.Calls.{write_record, sent_as, sent_buffer, last_end, laying, is_left, carriage}
 use Rattle.channel.proofs.Ended.{pays}
 use Rattle.calls.specs.Call as Call
 use Rattle.calls.specs.Call.{Answer}
@@ -75,6 +76,7 @@ abbrev as_heard : Record → (bytes : List ℕ) → Heard
 as_heard (Record.Adjust units) b = Window units
 as_heard (Record.Data n) b = Bytes Stdout (drop 9 b)
 as_heard (Record.Extended n) b = Bytes Stderr (drop 13 b)
+as_heard (Record.Notes n) b = Bytes Notes (drop 13 b)
 as_heard Record.Eof b = Eof
 as_heard Record.Close b = Close
 
@@ -87,6 +89,8 @@ module _ (channel : ℕ) where
   by_kind (Record.Data n) b e h = rw (h.kind.0, e, h.kind.0, mine b h, eq-eqb (number_at b 5) (length b - 9) (omega (arith, h.whole, h.kind.1))) refl
   by_kind (Record.Extended n) b e h =
       rw (h.kind.0, e, h.kind.0, mine b h, h.typed, eq-eqb (number_at b 9) (length b - 13) (omega (arith, h.whole, h.kind.1))) refl
+  by_kind (Record.Notes n) b e h =
+      rw (h.kind.0, e, h.kind.0, mine b h, eqb-true (number_at b 5) 4261412864 h.typed, eq-eqb (number_at b 9) (length b - 13) (omega (arith, h.whole, h.kind.1))) refl
   by_kind _ b e h = rw (h.kind, e, h.kind, mine b h) refl
 
   record_heard : (rec : Record) (b : List ℕ) → Codec.read channel b ≡ Ok rec → heard channel (packet b) ≡ as_heard rec b ∷ []
@@ -147,23 +151,30 @@ module _ (channel : ℕ) where
         ∙ ap (λ (x : Heard). x ∷ []) (g _ ∙ ap f (payload_heard rec k buffer pay part h l))
 
     -- A MESSAGE THAT IS WRITTEN IS WHAT THE PEER HEARS
-    choice_heard : (m : Choice) (r : Runner) (store part buffer : List ℕ) (k : ℕ) (ended : Bool) (e : Each Bool) → 13 ≤ length buffer → r.input.window.returnable < 2 ^ 32
+    choice_heard : (m : Choice) (r : Runner) (store part buffer : List ℕ) (k : ℕ) (ended : Stream → Bool) (e : Each Bool) → 13 ≤ length buffer → r.input.window.returnable < 2 ^ 32
         → ((x : Stream) (n : ℕ) → Choice.Output x n ≡ m → (length (payload r x n store) ≡ n) × (n < 2 ^ 32))
-        → ((x : Stream) → Choice.End x ≡ m → ended ≡ every (on_one x (λ (b : Bool). true) e))
+        → ((x : Stream) → Choice.End x ≡ m → ended x ≡ every (on_one x (λ (b : Bool). true) e))
         → is_left (said_for m r) ≡ false
         → heard channel (written packets (wrote (laying channel ended) (said_for m r)) (wrote_buffer (laying channel ended) (said_for m r) (part_back 13 k buffer (buffer_after m r store part))))
         ≡ told_by speaks e (said_in (said m r store))
     unfolding said_for buffer_after wrote wrote_buffer sent_as sent_buffer is_left said
     choice_heard Choice.Credit r store part buffer k ended e h small l last u =
         laid_heard (Record.Adjust r.input.window.returnable) (part_back 13 k buffer part) (part_reaches 13 k buffer part 0 h (omega arith)) small
-    choice_heard (Choice.End x) r store part buffer k false e h small l last u = ap (λ (b : Bool). cond b (Eof ∷ []) [] ++ []) (last x refl)
-    choice_heard (Choice.End x) r store part buffer k true e h small l last u =
-        laid_heard Record.Eof (part_back 13 k buffer part) (part_reaches 13 k buffer part 0 h (omega arith)) (omega arith)
-        ∙ ap (λ (b : Bool). cond b (Eof ∷ []) [] ++ []) (last x refl)
+    choice_heard (Choice.End x) r store part buffer k ended e h small l last u = by (ended x) refl
+      where
+        by : (b : Bool) → ended x ≡ b
+            → heard channel (written packets (wrote (laying channel ended) (said_for (Choice.End x) r)) (wrote_buffer (laying channel ended) (said_for (Choice.End x) r) (part_back 13 k buffer part)))
+            ≡ told_by speaks e (said_in (said (Choice.End x) r store))
+        by false q = rw q (ap (λ (b : Bool). cond b (Eof ∷ []) [] ++ []) (sym q ∙ last x refl))
+        by true q =
+            rw q (laid_heard Record.Eof (part_back 13 k buffer part) (part_reaches 13 k buffer part 0 h (omega arith)) (omega arith)
+            ∙ ap (λ (b : Bool). cond b (Eof ∷ []) [] ++ []) (sym q ∙ last x refl))
     choice_heard (Choice.Output Stdout n) r store part buffer k ended e h small l last u =
         output_heard (Record.Data n) k buffer (payload r Stdout n store) part h (l Stdout n refl).0 (l Stdout n refl).1 (Bytes Stdout) (λ b. refl)
     choice_heard (Choice.Output Stderr n) r store part buffer k ended e h small l last u =
         output_heard (Record.Extended n) k buffer (payload r Stderr n store) part h (l Stderr n refl).0 (l Stderr n refl).1 (Bytes Stderr) (λ b. refl)
+    choice_heard (Choice.Output Notes n) r store part buffer k ended e h small l last u =
+        output_heard (Record.Notes n) k buffer (payload r Notes n store) part h (l Notes n refl).0 (l Notes n refl).1 (Bytes Notes) (λ b. refl)
     choice_heard Choice.Terminal r store part buffer k ended e h small l last u = ending_heard (outcome_of r).status _ u
     choice_heard _ r store part buffer k ended e h small l last u = refl
 
@@ -199,14 +210,14 @@ module _ (s : State) (f : Fine s) (v : Muted s.runner) (channel : ℕ) (o : OfCh
 
   spoken : 13 ≤ length buffer → answers (tells k s.runner s.bytes buffer) ≡ said (choose s.runner (length part)) s.runner s.bytes
   unfolding Does Plain.answer k
-  spoken h = (told_does s (Records.write_record channel buffer) k buffer (pays channel (has_ended s.runner)) good h).1 ∙ answer_same s (Call.next_message part) f
+  spoken h = (told_does s (Records.write_record channel buffer) k buffer (pays channel (last_end (outputs_of s.runner))) good h).1 ∙ answer_same s (Call.next_message part) f
 
   written_heard : (met : Bool) (w : WriteAfter) → Writes k s.runner s.bytes buffer met w
       → heard channel (written packets w.writing.answer w.buffer) ≡ told_by speaks (ends s.runner) (said_in (answers w))
   unfolding told asked Calls.next_message k
   written_heard met w (taken u h) =
-      rw good (choice_heard channel o.number (choose s.runner (length part)) s.runner s.bytes part buffer s.runner.limits.chunk (has_ended s.runner) (ends s.runner) (omega (arith, h)) small fitting
-      (λ x c. last_of x (ends s.runner) (at x s.runner ∙ end_untold (length part) s.runner x v c)) (rw good at u))
+      rw good (choice_heard channel o.number (choose s.runner (length part)) s.runner s.bytes part buffer s.runner.limits.chunk (last_end (outputs_of s.runner)) (ends s.runner) (omega (arith, h)) small fitting
+      (λ x c. last_of x (ends s.runner)) (rw good at u))
       ∙ ap (λ (a : Answer). told_by speaks (ends s.runner) (said_in a)) (sym (spoken (omega (arith, h))))
   written_heard met w _ = refl
 

@@ -1,5 +1,5 @@
 -- What a peer can know from the bytes of a channel.
-use mathlib.Core.Bool.{true, false, ◌&&◌}
+use mathlib.Core.Bool.{true, false, not, ◌&&◌, ◌||◌}
 use mathlib.Core.Path.{◌≡◌, refl, sym, ap, ◌∙◌, subst⁻¹}
 use mathlib.Core.List.{List, [], ◌∷◌, ◌++◌, append-nil}
 use Prim.Native.Nat.{ℕ, ◌+◌, ◌≤◌}
@@ -10,6 +10,7 @@ use Rattle.exec.specs.declared.Limits.{Limits}
 use Rattle.exec.specs.declared.Outcome.{Outcome}
 use Rattle.exec.specs.declared.Stream.{Stream}
 use Rattle.exec.specs.Each.{one}
+use Rattle.exec.specs.Limits.{has as has_stream}
 use Rattle.exec.specs.Stream.{every_stream, every_stream_lem}
 use Rattle.ring.specs.Flags.{and_l}
 use Rattle.carrier.specs.Carrier.{is_bytes, room}
@@ -32,7 +33,7 @@ use Rattle.wire.specs.Heard.{AllOf, joined, count, once, told_by}
 use Rattle.wire.specs.Channel.{packets, on_wire, Heard, Close, bytes_in, units_in, is_eof, is_close, is_unread, hear, heard, exit_of, speaks}
 use Rattle.wire.specs.Claim.{OfChannel, Lone, heard_of, Wire}
 use Rattle.wire.proofs.Ends.{ends, ends_all}
-use Rattle.wire.proofs.Order.{from_open, ordered}
+use Rattle.wire.proofs.Order.{from_open, silent_at, ordered}
 use Rattle.wire.proofs.Read.{record_told}
 use Rattle.std.proofs.lemmas.List.{map-append}
 use Rattle.wire.proofs.Follows.{joined_append, all_front, once_true, Hears, unheard, Steps, joined_told, none_told, none_carried, said_append, call_unsaid, read_unsaid, unmade_unsaid, unsent, silent_wire, told_ends, told_once, follows_so, has, has_sent, has_front, has_whole}
@@ -70,7 +71,7 @@ unwired _ s h = refl
 -- ---- the claim
 
 module _ (conf : Conf) (now : ℕ) (bytes lengths : List ℕ) (channel : ℕ) (op : Opens conf now bytes lengths) (o : OfChannel conf channel) where
-  follows : (es : List Entry) → AllOf (Lone channel) es → heard_of conf now bytes lengths channel es ≡ told_by speaks no_ends (said conf now bytes lengths es)
+  follows : (es : List Entry) → AllOf (Lone channel) es → heard_of conf now bytes lengths channel es ≡ told_by speaks (no_ends conf.limits) (said conf now bytes lengths es)
   follows es l = follows_so conf now bytes lengths op speaks on_wire (heard channel) (Lone channel) refl (steps conf channel o) es l
 
   has_at : (es : List Entry) (x : Stream) → AllOf (Lone channel) es
@@ -78,11 +79,11 @@ module _ (conf : Conf) (now : ℕ) (bytes lengths : List ℕ) (channel : ℕ) (o
   has_at es x l = has conf now bytes lengths op speaks bytes_in bytes_told es _ (follows es l) x
 
   eofs_at : (es : List Entry) → AllOf (Lone channel) es
-      → count is_eof (heard_of conf now bytes lengths channel es) ≡ once (every_stream (λ (x : Stream). any (is_end x) (said conf now bytes lengths es)))
+      → count is_eof (heard_of conf now bytes lengths channel es) ≡ once (every_stream (λ (x : Stream). not (has_stream conf.limits x) || any (is_end x) (said conf now bytes lengths es)))
   eofs_at es l =
       let ms : List Message = said conf now bytes lengths es in
-      ap (count is_eof) (follows es l) ∙ (let z = eofs_told ms no_ends (told_once conf now bytes lengths op es) in omega arith)
-      ∙ ap once (every_same (λ (x : Stream). one x (ends_all ms no_ends)) (λ (x : Stream). any (is_end x) ms) (told_ends conf now bytes lengths op es))
+      ap (count is_eof) (follows es l) ∙ (let z = eofs_told ms (no_ends conf.limits) (told_once conf now bytes lengths op es) in omega arith)
+      ∙ ap once (every_same (λ (x : Stream). one x (ends_all ms (no_ends conf.limits))) (λ (x : Stream). not (has_stream conf.limits x) || any (is_end x) ms) (told_ends conf now bytes lengths op es))
 
   mute_at : (es ds : List Entry) (x : Stream) → AllOf (Lone channel) (es ++ ds) → count is_eof (heard_of conf now bytes lengths channel es) ≡ 1
       → joined (bytes_in x) (heard_of conf now bytes lengths channel (es ++ ds)) ≡ joined (bytes_in x) (heard_of conf now bytes lengths channel es)
@@ -91,11 +92,11 @@ module _ (conf : Conf) (now : ℕ) (bytes lengths : List ℕ) (channel : ℕ) (o
       let s : State = Step.opened conf now bytes lengths in
       let ms : List Message = said conf now bytes lengths es in
       let ns : List Message = said_from (after_entries s es) ds in
-      let e : any (is_end x) ms ≡ true = every_stream_lem (λ (y : Stream). any (is_end y) ms) (once_true _ (sym (eofs_at es k) ∙ n)) x in
+      let e = every_stream_lem (λ (y : Stream). not (has_stream conf.limits y) || any (is_end y) ms) (once_true _ (sym (eofs_at es k) ∙ n)) x in
       has_at (es ++ ds) x l
       ∙ ap (joined (carried_by x)) (said_append es ds s)
       ∙ joined_append (carried_by x) ms ns
-      ∙ ap (λ (b : List ℕ). joined (carried_by x) ms ++ b) (none_carried x ns ((ordered conf now bytes lengths op).ended es ds x e))
+      ∙ ap (λ (b : List ℕ). joined (carried_by x) ms ++ b) (none_carried x ns (silent_at conf now bytes lengths op es ds x e))
       ∙ append-nil (joined (carried_by x) ms)
       ∙ sym (has_at es x k)
 
@@ -121,13 +122,13 @@ module _ (conf : Conf) (now : ℕ) (bytes lengths : List ℕ) (channel : ℕ) (o
   wired = record {
     follows = follows;
     asks = asks_at;
-    unread = λ es l. ap (count is_unread) (follows es l) ∙ none_told speaks is_unread unread_none no_ends (said conf now bytes lengths es);
+    unread = λ es l. ap (count is_unread) (follows es l) ∙ none_told speaks is_unread unread_none (no_ends conf.limits) (said conf now bytes lengths es);
     sent = λ es x l. has_sent conf now bytes lengths op speaks bytes_in bytes_told es _ (follows es l) x;
     front = λ es x l. has_front conf now bytes lengths op speaks bytes_in bytes_told es _ (follows es l) x;
-    windows = λ es l. ap (joined units_in) (follows es l) ∙ joined_told speaks units_in credit_in units_told no_ends (said conf now bytes lengths es);
+    windows = λ es l. ap (joined units_in) (follows es l) ∙ joined_told speaks units_in credit_in units_told (no_ends conf.limits) (said conf now bytes lengths es);
     eofs = eofs_at;
     mute = mute_at;
-    closes = λ es l. ap (count is_close) (follows es l) ∙ closes_told no_ends (said conf now bytes lengths es) (from_open conf now bytes lengths op es).1.final;
+    closes = λ es l. ap (count is_close) (follows es l) ∙ closes_told (no_ends conf.limits) (said conf now bytes lengths es) (from_open conf now bytes lengths op es).1.final;
     exits = exits_at;
     last = λ es e ds t. silent_wire on_wire unwired ds _ ((whole conf now bytes lengths op).once es e ds t);
     whole = λ es e t x l a u. has_whole conf now bytes lengths op speaks bytes_in bytes_told es _ (follows es l) x e t a u;

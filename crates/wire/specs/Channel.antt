@@ -6,7 +6,7 @@ use Rattle.codec.specs.declared.Record.{Record}
 use Rattle.exec.specs.declared.Status.{Status}
 use Rattle.exec.specs.declared.Refusal.{Refusal}
 use Rattle.exec.specs.declared.Stream.{Stream}
-use Rattle.exec.specs.declared.Stream.TheVariants.{Stdout, Stderr}
+use Rattle.exec.specs.declared.Stream.TheVariants.{Stdout, Stderr, Notes}
 use Rattle.exec.specs.Each.{Each, every}
 use Rattle.exec.specs.Stream.{same_stream}
 use Rattle.runner.specs.declared.answer.Message as Messages
@@ -99,14 +99,18 @@ is_unread Unread = true
 abbrev pub read_if : Bool → Heard → Heard
 read_if b h = cond b h Unread
 
+-- by the type of a 95: 1 is stderr's, 0xFE000000 Notes'
+abbrev pub by_type : (type : ℕ) → List ℕ → Heard
+by_type type b = cond (eqb type 1) (Bytes Stderr b) (cond (eqb type 4261412864) (Bytes Notes b) Unread)
+
 -- a record that the codec's reader accepts, by its first byte and by RFC 4254's places: the channel stands at 1; of a 93 the units at
--- 5; of a 94 the payload's length at 5 and the payload at 9; of a 95 the type, 1, at 5, the length at 9 and the payload at 13
+-- 5; of a 94 the payload's length at 5 and the payload at 9; of a 95 the type at 5, the length at 9 and the payload at 13
 abbrev pub by_kind : (channel kind : ℕ) → List ℕ → Heard
 by_kind channel kind b =
     read_if (eqb (number_at b 1) channel)
     (cond (eqb kind 93) (Window (number_at b 5))
     (cond (eqb kind 94) (read_if (eqb (number_at b 5) (length b - 9)) (Bytes Stdout (drop 9 b)))
-    (cond (eqb kind 95) (read_if (eqb (number_at b 5) 1 && eqb (number_at b 9) (length b - 13)) (Bytes Stderr (drop 13 b)))
+    (cond (eqb kind 95) (read_if (eqb (number_at b 9) (length b - 13)) (by_type (number_at b 5) (drop 13 b)))
     (cond (eqb kind 96) Eof
     (cond (eqb kind 97) Close Unread)))))
 

@@ -1,8 +1,9 @@
 -- What a peer can know from the bytes of a channel. That a stream is truncated is not among them: RFC 4254 has no word for it, and the
 -- same bytes may stand for both (`proofs/Session`, `blind`).
-use Rattle.std.specs.Prelude.{true, false, ◌≡◌, List, [], ◌∷◌, ◌++◌, ℕ, ◌+◌, ◌^◌, ◌≤◌, ◌<◌, length, take, drop}
+use Rattle.std.specs.Prelude.{true, false, not, ◌||◌, ◌≡◌, List, [], ◌∷◌, ◌++◌, ℕ, ◌+◌, ◌^◌, ◌≤◌, ◌<◌, length, take, drop}
 use Rattle.exec.specs.declared.Outcome.{Outcome}
 use Rattle.exec.specs.declared.Stream.{Stream}
+use Rattle.exec.specs.Limits.{has}
 use Rattle.exec.specs.Outcome.{is_truncated}
 use Rattle.exec.specs.Stream.{every_stream}
 use Rattle.channel.specs.Calls.{is_channel}
@@ -38,7 +39,7 @@ heard_of conf now bytes lengths channel es = heard channel (wire on_wire (opened
 -- WHAT THE PEER KNOWS, for a runner that open answered ok, stores of any content, and every list whose messages all go to the channel
 pub record Wire (conf : Conf) (now : ℕ) (bytes lengths : List ℕ) (channel : ℕ) : Type 0 where
   -- record by record it heard what was told, message by message: nothing else, nothing less, and in that order
-  pub follows : (es : List Entry) → AllOf (Lone channel) es → heard_of conf now bytes lengths channel es ≡ told_by speaks no_ends (said conf now bytes lengths es)
+  pub follows : (es : List Entry) → AllOf (Lone channel) es → heard_of conf now bytes lengths channel es ≡ told_by speaks (no_ends conf.limits) (said conf now bytes lengths es)
   -- and what is told is what next_message tells, after any list: a write into chunk + 13 bytes, and 43, answers as that call does in
   -- its part of the buffer, or leaves a Terminal by 40
   pub asks : (es : List Entry) (buffer : List ℕ) → conf.limits.chunk + 13 ≤ length buffer → 43 ≤ length buffer
@@ -47,7 +48,7 @@ pub record Wire (conf : Conf) (now : ℕ) (bytes lengths : List ℕ) (channel : 
       ≡ answer (after_entries (opened conf now bytes lengths) es) (Call.next_message (take conf.limits.chunk (drop 13 buffer)))
   -- so it read every record
   pub unread : (es : List Entry) → AllOf (Lone channel) es → count is_unread (heard_of conf now bytes lengths channel es) ≡ 0
-  -- what it has of a stream is what was sent of it: 94 carries stdout, 95 stderr
+  -- what it has of a stream is what was sent of it: 94 carries stdout, 95 by its type stderr or Notes
   pub sent : (es : List Entry) (x : Stream) → AllOf (Lone channel) es
       → joined (bytes_in x) (heard_of conf now bytes lengths channel es) ≡ sent_in x (run_entries (opened conf now bytes lengths) es)
   -- and so the first bytes that the program handed over
@@ -56,9 +57,9 @@ pub record Wire (conf : Conf) (now : ℕ) (bytes lengths : List ℕ) (channel : 
   -- each 93 is a Credit, with its units
   pub windows : (es : List Entry) → AllOf (Lone channel) es
       → joined units_in (heard_of conf now bytes lengths channel es) ≡ joined credit_in (said conf now bytes lengths es)
-  -- one 96 where the End of each stream was told, and none before
+  -- one 96 where the End of each stream that is open was told, and none before
   pub eofs : (es : List Entry) → AllOf (Lone channel) es
-      → count is_eof (heard_of conf now bytes lengths channel es) ≡ once (every_stream (λ (x : Stream). any (is_end x) (said conf now bytes lengths es)))
+      → count is_eof (heard_of conf now bytes lengths channel es) ≡ once (every_stream (λ (x : Stream). not (has conf.limits x) || any (is_end x) (said conf now bytes lengths es)))
   -- and no bytes behind it
   pub mute : (es ds : List Entry) (x : Stream) → AllOf (Lone channel) (es ++ ds) → count is_eof (heard_of conf now bytes lengths channel es) ≡ 1
       → joined (bytes_in x) (heard_of conf now bytes lengths channel (es ++ ds)) ≡ joined (bytes_in x) (heard_of conf now bytes lengths channel es)

@@ -1,7 +1,9 @@
 -- The messages that a list told, by calls and by records alike, in their order; and the order that every list keeps.
-use Rattle.std.specs.Prelude.{Bool, true, false, ◌||◌, ◌≡◌, List, [], ◌∷◌, ◌++◌, ℕ}
+use Rattle.std.specs.Prelude.{Bool, true, false, not, ◌||◌, ◌≡◌, List, [], ◌∷◌, ◌++◌, ℕ}
 use Rattle.exec.specs.declared.Stream.{Stream}
-use Rattle.exec.specs.Each.{Each, on_one, alike}
+use Rattle.exec.specs.declared.Limits.{Limits}
+use Rattle.exec.specs.Each.{Each, on_one, per}
+use Rattle.exec.specs.Limits.{has}
 use Rattle.exec.specs.Stream.{same_stream}
 use Rattle.calls.specs.Call as Call
 use Rattle.calls.specs.Call.{Conf, Answer, Message}
@@ -86,8 +88,9 @@ ends_by (Call.End x) e = on_one x (λ (b : Bool). true) e
 ends_by Call.InputClosed e = e
 ends_by (Call.Terminal o) e = e
 
-abbrev pub no_ends : Each Bool
-no_ends = alike false
+-- before any message: the End of a stream that is not open counts as told
+abbrev pub no_ends : Limits → Each Bool
+no_ends l = per (λ (x : Stream). not (has l x))
 
 -- ---- the order that they keep
 
