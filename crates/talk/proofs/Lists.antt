@@ -3,9 +3,9 @@ use Rattle.std.specs.Prelude.{◌≡◌, refl, Bool, true, false, cond, List, []
 use Rattle.std.proofs.lemmas.Bool.{false≢true}
 use Rattle.std.proofs.Common.{ap, ◌∙◌, subst, arith}
 use Rattle.exec.specs.declared.Stream.{Stream}
-use Rattle.exec.specs.declared.Stream.TheVariants.{Stdout, Stderr}
+use Rattle.exec.specs.declared.Stream.TheVariants.{Stdout, Stderr, Notes}
 use Rattle.exec.specs.Each.{one}
-use Rattle.exec.specs.Limits.{is_valid}
+use Rattle.exec.specs.Limits.{is_valid, has_notes}
 use Rattle.credit.specs.Sender.{new_credit}
 use Rattle.runner.specs.declared.runner.Runner.{Runner}
 use Rattle.runner.specs.Range.{fresh}
@@ -19,10 +19,10 @@ use Rattle.account.proofs.Plain.{next, answer, begun, run}
 use Rattle.account.proofs.Range.{Lent}
 use Rattle.account.proofs.Records.{same_dones, good_open}
 use Rattle.wire.proofs.Ends.{Muted, ends}
-use Rattle.wire.proofs.Order.{fresh_muted}
+use Rattle.wire.proofs.Order.{fresh_muted, third_ended}
 use Rattle.judge.specs.declared.Item.{Item}
 use Rattle.judge.specs.declared.Judge.{Judge}
-use Rattle.judge.specs.Judge.{new_judge, has_ended, judged, noted, first}
+use Rattle.judge.specs.Judge.{new_judge, is_shut, judged, noted, first}
 use Rattle.judge.proofs.Exact.{exact}
 use Rattle.talk.specs.TalkClaim.{items_by, items_of, told, OurRunner}
 use Rattle.talk.proofs.Received.{credit_goes, input_goes}
@@ -68,15 +68,20 @@ module _ (conf : Conf) (now : ℕ) (bytes lengths : List ℕ) (op : Opens conf n
   }
     where
       even : AllEven conf.limits.output.size (new_judge conf.limits).left (begun conf now bytes lengths).runner.credits
-      even i = by (eqb i 0)
+      even i = by (eqb i 0) (eqb i 1)
         where
-          by : (b : Bool) → Even conf.limits.output.size (cond b 0 0) (cond b (new_credit conf.limits.output.size) (new_credit conf.limits.output.size))
-          by true = (refl, refl)
-          by false = (refl, refl)
+          c : Credit
+          c = new_credit conf.limits.output.size
 
-      none : (x : Stream) → has_ended x (new_judge conf.limits) ≡ one x (ends (begun conf now bytes lengths).runner)
+          by : (a b : Bool) → Even conf.limits.output.size (cond a 0 (cond b 0 0)) (cond a c (cond b c c))
+          by true b = (refl, refl)
+          by false true = (refl, refl)
+          by false false = (refl, refl)
+
+      none : (x : Stream) → is_shut x (new_judge conf.limits) ≡ one x (ends (begun conf now bytes lengths).runner)
       none Stdout = refl
       none Stderr = refl
+      none Notes = sym (third_ended (has_notes conf.limits))
 
   lent_enough : Lent conf bytes lengths
   lent_enough = lent_open conf now bytes lengths op

@@ -11,8 +11,8 @@ use Rattle.exec.specs.declared.Pool.{Pool}
 use Rattle.exec.specs.declared.Receipt.{Receipt}
 use Rattle.exec.specs.declared.Refusal.{Refusal}
 use Rattle.exec.specs.Key.{admits}
-use Rattle.exec.specs.Limits.{cost, is_valid, output_pool}
-use Rattle.exec.specs.Pair.{at}
+use Rattle.exec.specs.Limits.{cost, is_valid, output_pool, has_notes}
+use Rattle.exec.specs.Row.{at}
 use Rattle.exec.specs.Stream.{index}
 use Rattle.credit.specs.declared.sender.Credit.{Credit}
 use Rattle.credit.specs.Sender.{grantable}
@@ -27,7 +27,7 @@ use Rattle.account.proofs.Plain.{next, answer}
 use Rattle.wire.specs.Messages.{said_in}
 use Rattle.judge.specs.declared.Item.{Item}
 use Rattle.judge.specs.declared.Judge.{Judge}
-use Rattle.judge.specs.Judge.{left_at, judged, noted}
+use Rattle.judge.specs.Judge.{left_at, judged, noted, is_shut}
 use Rattle.talk.specs.TalkClaim.{items_by}
 use Rattle.talk.proofs.Begins.{BeginsIn, begins_on}
 use Rattle.talk.proofs.Input.{receives}
@@ -61,10 +61,10 @@ module _ (u : ℕ) (r : Runner) (j : Judge) (valid : is_valid j.limits ≡ true)
       le-ltb j.limits.output.size (left_at i j + u) (omega arith)
 
   -- the pool is the judge's too
-  same_pool : (p : Pool) (i : ℕ) → output_pool r.limits.shared p ≡ Ok i → output_pool j.limits.shared p ≡ Ok i
-  same_pool p i e = ap (λ (l : Limits). output_pool l.shared p) h.0 ∙ e
+  same_pool : (p : Pool) (i : ℕ) → output_pool r.limits.shared (has_notes r.limits) p ≡ Ok i → output_pool j.limits.shared (has_notes j.limits) p ≡ Ok i
+  same_pool p i e = ap (λ (l : Limits). output_pool l.shared (has_notes l) p) h.0 ∙ e
 
-  grants : (p : Pool) (i : ℕ) → output_pool r.limits.shared p ≡ Ok i → grantable (credit_at i r.credits) u ≡ true
+  grants : (p : Pool) (i : ℕ) → output_pool r.limits.shared (has_notes r.limits) p ≡ Ok i → grantable (credit_at i r.credits) u ≡ true
       → Hearing true (Item.Granted p u) (with_flow (accounts false true i) r.turn r.flags r.high_water r) j
   grants p i w g =
       let q = same_pool p i w in
@@ -73,14 +73,14 @@ module _ (u : ℕ) (r : Runner) (j : Judge) (valid : is_valid j.limits ≡ true)
         rw q (h.0, h.1, h.2, put_both (Even r.limits.output.size) j.left r.credits i _ _ (ap (λ (n : ℕ). n + u) e.0, e.1) h.3),
       )
 
-  by_tests : (p : Pool) (i : ℕ) → output_pool r.limits.shared p ≡ Ok i → (finished grants : Bool) → grantable (credit_at i r.credits) u ≡ grants
+  by_tests : (p : Pool) (i : ℕ) → output_pool r.limits.shared (has_notes r.limits) p ≡ Ok i → (finished grants : Bool) → grantable (credit_at i r.credits) u ≡ grants
       → Hearing (Input.is_applied (cond finished (Ok Receipt.Late) (cond grants (Ok Receipt.Applied) (Err Refusal.Credit)))) (Item.Granted p u)
       (with_flow (accounts finished grants i) r.turn r.flags r.high_water r) j
   by_tests p i w true g e = h
   by_tests p i w false true e = grants p i w e
   by_tests p i w false false e = h
 
-  credited : (a : Result Admission Refusal) (p : Pool) (q : Result ℕ Refusal) → output_pool r.limits.shared p ≡ q
+  credited : (a : Result Admission Refusal) (p : Pool) (q : Result ℕ Refusal) → output_pool r.limits.shared (has_notes r.limits) p ≡ q
       → Hearing (Input.is_applied (credit_answer a q r u)) (Item.Granted p u) (credit_next a q r u) j
   unfolding credit_answer credit_in credit_next
   credited (Err x) p q w = h
@@ -136,7 +136,7 @@ input_items k b _ = refl
 -- neither an End nor Started, Output or End is heard with them
 record Still (x : Item) (j : Judge) : Type 0 where
   heard : ((noted j x).started || (noted j x).spoken) ≡ (j.started || j.spoken)
-  ended : (noted j x).ended ≡ j.ended
+  ended : (y : Stream) → is_shut y (noted j x) ≡ is_shut y j
 
 goes_by : (b : Bool) (x : Item) (c : Call) (s : State) (j : Judge) → Still x j → speaks c ≡ false → said_in (answer s c) ≡ [] → Hearing b x (next s c).runner j → Talk s.runner j
     → Goes (cond b (x ∷ []) []) (next s c).runner j
@@ -146,7 +146,7 @@ goes_by true x c s j t m q p h =
       record {
         rest = p.1;
         begins = subst⁻¹ (λ (heard : Bool). BeginsIn heard (next s c).runner) t.heard (begins_on (j.started || j.spoken) c s m h.begins);
-        ended = λ y. ap (at (index y) false) t.ended ∙ e.0 y;
+        ended = λ y. t.ended y ∙ e.0 y;
         muted = e.1;
       },
     )
@@ -159,10 +159,10 @@ pub credit_goes : (k : Key) (p : Pool) (u : ℕ) (s : State) (j : Judge) → is_
 unfolding next answer
 credit_goes k p u s j v h =
     let r : Runner = s.runner in
-    let x = credit_answer (admits r.key k) (output_pool r.limits.shared p) r u in
+    let x = credit_answer (admits r.key k) (output_pool r.limits.shared (has_notes r.limits) p) r u in
     rw (credit_items k p u x)
-    (goes_by (Input.is_applied x) (Item.Granted p u) (Call.credit k p u) s j (record { heard = refl; ended = refl }) refl (received_quiet x)
-    (credited u r j v h.rest (admits r.key k) p (output_pool r.limits.shared p) refl) h)
+    (goes_by (Input.is_applied x) (Item.Granted p u) (Call.credit k p u) s j (record { heard = refl; ended = λ y. refl }) refl (received_quiet x)
+    (credited u r j v h.rest (admits r.key k) p (output_pool r.limits.shared (has_notes r.limits) p) refl) h)
 
 pub input_goes : (k : Key) (b : List ℕ) (s : State) (j : Judge) → is_valid j.limits ≡ true → Talk s.runner j
     → Goes (items_by (Call.input k b) (answer s (Call.input k b))) (next s (Call.input k b)).runner j
@@ -171,5 +171,5 @@ input_goes k b s j v h =
     let r : Runner = s.runner in
     let x = input_answer (admits r.key k) r (length b) in
     rw (input_items k b x)
-    (goes_by (Input.is_applied x) (Item.Input (length b)) (Call.input k b) s j (record { heard = refl; ended = refl }) refl (received_quiet x)
+    (goes_by (Input.is_applied x) (Item.Input (length b)) (Call.input k b) s j (record { heard = refl; ended = λ y. refl }) refl (received_quiet x)
     (brought (length b) r j v h.rest (admits r.key k)) h)

@@ -5,7 +5,7 @@ use Rattle.std.proofs.lemmas.Bool.{true≢false}
 use Rattle.std.proofs.Common.{sym, ◌∙◌}
 use Rattle.exec.specs.declared.Cause.{Cause}
 use Rattle.exec.specs.Key.{admits}
-use Rattle.exec.specs.Pair.{at}
+use Rattle.exec.specs.Row.{at}
 use Rattle.credit.specs.declared.sender.Credit.{Credit}
 use Rattle.input.specs.declared.Input.{Input}
 use Rattle.runner.specs.declared.answer.Request.{Request}

@@ -38,7 +38,7 @@ use Rattle.wire.proofs.Ends as Ends
 use Rattle.wire.proofs.Ends.{Tells, call_tells}
 use Rattle.judge.specs.declared.Item.{Item}
 use Rattle.judge.specs.declared.Judge.{Judge}
-use Rattle.judge.specs.Judge.{has_ended, left_at, judged, noted}
+use Rattle.judge.specs.Judge.{is_shut, left_at, judged, noted}
 use Rattle.talk.specs.TalkClaim.{item_of, items_by}
 use Rattle.talk.proofs.Begins.{BeginsIn, begun}
 use Rattle.talk.proofs.Judged.{accepts, put_both, noted_ends}
@@ -152,15 +152,15 @@ module _ (r : Runner) (j : Judge) (valid : is_valid j.limits ≡ true) (h : Talk
   unfolding effect
   says_terminal = (accepts j Item.Terminal valid on refl refl refl, (h.rest.0, refl, h.rest.2, h.rest.3), h.begins)
 
-  says_end : (x : Stream) → awaits_launch r ≡ false → r.flags.started_message ≡ false → has_ended x j ≡ false → Says (Item.End x) (effect (Choice.End x) r)
+  says_end : (x : Stream) → awaits_launch r ≡ false → r.flags.started_message ≡ false → is_shut x j ≡ false → Says (Item.End x) (effect (Choice.End x) r)
   unfolding effect
   says_end x a s e = (
-    accepts j (Item.End x) valid (or_from j.terminal (has_ended x j) on e) refl refl refl,
+    accepts j (Item.End x) valid (or_from j.terminal (is_shut x j) on e) refl refl refl,
     h.rest,
     begun (j.started || true) (awaits_launch r) r.flags.started_message a s,
   )
 
-  says_output : (x : Stream) (n : ℕ) (store : List ℕ) → Brings r x n store → awaits_launch r ≡ false → r.flags.started_message ≡ false → has_ended x j ≡ false
+  says_output : (x : Stream) (n : ℕ) (store : List ℕ) → Brings r x n store → awaits_launch r ≡ false → r.flags.started_message ≡ false → is_shut x j ≡ false
       → Says (Item.Output x (length (payload r x n store))) (effect (Choice.Output x n) r)
   unfolding effect output_sent output_paid
   says_output x n store b a s e =
@@ -171,7 +171,7 @@ module _ (r : Runner) (j : Judge) (valid : is_valid j.limits ≡ true) (h : Talk
       let even : AllEven r.limits.output.size (noted j (Item.Output x n)).left (put_credit i (spent c (cost r.limits.output.unit n)) r.credits)
       = rw h.rest.0 (put_both (Even r.limits.output.size) j.left r.credits i _ _ (ap (λ (m : ℕ). m - cost r.limits.output.unit n) left, k.1) h.rest.3) in
       subst⁻¹ (λ (m : ℕ). Says (Item.Output x m) (effect (Choice.Output x n) r)) b.size (
-        accepts j (Item.Output x n) valid (or_from j.terminal (has_ended x j) on e)
+        accepts j (Item.Output x n) valid (or_from j.terminal (is_shut x j) on e)
             (rw h.rest.0 (or_from (eqb n 0) (ltb r.limits.chunk n) (ne_eqb n 0 (omega arith)) (le-ltb r.limits.chunk n b.within)))
             (rw h.rest.0 (le-ltb (left_at i j) (cost r.limits.output.unit n) (omega arith))) refl,
         (h.rest.0, h.rest.1, h.rest.2, even),
@@ -179,8 +179,8 @@ module _ (r : Runner) (j : Judge) (valid : is_valid j.limits ≡ true) (h : Talk
       )
 
   -- a stream of which there is a message has not ended
-  unended : (x : Stream) → ((out_of x r).ended ≡ true → (same_stream x x || false) ≡ false) → has_ended x j ≡ false
-  unended x q = false_from_ne_true (has_ended x j) (λ e. true≢false (sym (or_left (same_stream x x) false (same_self x)) ∙ q (sym (Ends.at x r) ∙ sym (h.ended x) ∙ e)))
+  unended : (x : Stream) → ((out_of x r).ended ≡ true → (same_stream x x || false) ≡ false) → is_shut x j ≡ false
+  unended x q = false_from_ne_true (is_shut x j) (λ e. true≢false (sym (or_left (same_stream x x) false (same_self x)) ∙ q (sym (Ends.at x r) ∙ sym (h.ended x) ∙ e)))
 
 -- ---- the call
 

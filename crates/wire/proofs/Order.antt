@@ -118,7 +118,7 @@ module _ (conf : Conf) where
 -- ---- from open
 
 -- the End of the third stream counts as told where that is not open
-third_ended : (b : Bool) → (cond b new_output over).ended ≡ not b
+pub third_ended : (b : Bool) → (cond b new_output over).ended ≡ not b
 third_ended true = refl
 third_ended false = refl
 
