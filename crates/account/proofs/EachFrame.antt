@@ -11,7 +11,7 @@ use Rattle.exec.specs.declared.Key.{Key}
 use Rattle.exec.specs.declared.Pool.TheVariants as Pool
 use Rattle.exec.specs.declared.Refusal.{Refusal}
 use Rattle.exec.specs.declared.Refusal.TheVariants.{NotFramed}
-use Rattle.exec.specs.declared.Stream.TheVariants.{Stdout, Stderr}
+use Rattle.exec.specs.declared.Stream.TheVariants.{Stdout, Stderr, Notes}
 use Rattle.exec.specs.declared.Unit.TheVariants.{Bytes}
 use Rattle.exec.specs.Refusal.{number}
 use Rattle.runner.specs.Calls as Calls
@@ -94,8 +94,10 @@ module _ (s : State) (now stream : ℕ) (b : List ℕ) (g : stop s.runner (store
   unfolding Does frame_calls parsed_read Frames.made Step.next Step.answer k
   parsed_does plain (Ok (Frame.Update Stdout units)) h = (refl, heard_as_lem (Calls.credit s.runner s.runner.key Pool.Stdout units).answer)
   parsed_does plain (Ok (Frame.Update Stderr units)) h = (refl, heard_as_lem (Calls.credit s.runner s.runner.key Pool.Stderr units).answer)
+  parsed_does plain (Ok (Frame.Update Notes units)) h = (refl, heard_as_lem (Calls.credit s.runner s.runner.key Pool.Notes units).answer)
   parsed_does plain (Ok (Frame.Data Stdout n ends)) h = data_does plain (drop 9 b) ends
   parsed_does plain (Ok (Frame.Data Stderr n ends)) h = record { kept = refl; refusal = 43; answered = refl; own = refl }
+  parsed_does plain (Ok (Frame.Data Notes n ends)) h = record { kept = refl; refusal = 43; answered = refl; own = refl }
   parsed_does plain (Ok (Frame.Reset x)) h = (refl, noted_as_lem (Calls.reset s.runner now).answer)
   parsed_does plain (Err x) h = record { kept = refl; refusal = number x; answered = refl; own = h x refl }
 

@@ -11,7 +11,7 @@ use Rattle.exec.specs.declared.Key.{Key}
 use Rattle.exec.specs.declared.Pool.TheVariants as Pool
 use Rattle.exec.specs.declared.Refusal.{Refusal}
 use Rattle.exec.specs.declared.Refusal.TheVariants.{NotAChannel, BadLength, UnknownKind, OtherChannel, BadType}
-use Rattle.exec.specs.declared.Stream.TheVariants.{Stdout, Stderr}
+use Rattle.exec.specs.declared.Stream.TheVariants.{Stdout, Stderr, Notes}
 use Rattle.exec.specs.Refusal.{number}
 use Rattle.runner.specs.Calls as Calls
 use Rattle.codec.specs.declared.Record.{Record}
@@ -62,6 +62,7 @@ IsRecord _ = Unit
 read_outputless : (conf : Conf) (now : ℕ) (b : List ℕ) (p : Result Record Refusal) → AllOutputless (call_of conf now b p)
 unfolding call_of
 read_outputless conf now b (Ok (Record.Extended n)) = tt
+read_outputless conf now b (Ok (Record.Notes n)) = tt
 read_outputless conf now b (Err x) = tt
 read_outputless conf now b _ = (tt, tt)
 
@@ -74,8 +75,10 @@ frame_outputless : (conf : Conf) (now : ℕ) (b : List ℕ) (p : Result Frame Re
 unfolding frame_calls
 frame_outputless conf now b (Ok (Frame.Data Stdout n ends)) a = data_outputless _ _ conf.key (drop 9 b)
 frame_outputless conf now b (Ok (Frame.Data Stderr n ends)) a = tt
+frame_outputless conf now b (Ok (Frame.Data Notes n ends)) a = tt
 frame_outputless conf now b (Ok (Frame.Update Stdout units)) a = (tt, tt)
 frame_outputless conf now b (Ok (Frame.Update Stderr units)) a = (tt, tt)
+frame_outputless conf now b (Ok (Frame.Update Notes units)) a = (tt, tt)
 frame_outputless conf now b (Ok (Frame.Reset x)) a = (tt, tt)
 frame_outputless conf now b (Err x) a = tt
 

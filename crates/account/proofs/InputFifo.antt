@@ -152,12 +152,12 @@ end_flow _ r st f e = still r.limits r.input st
 output_flow : (x : Stream) (b : List ℕ) (s : State) → has s.runner.limits x ≡ true → Fine s
     → Flow s.runner.limits s.runner.input s.runner.input s.bytes (output_store s.runner x b s.bytes) [] []
 unfolding output_store
-output_flow x b s open h =
+output_flow x b s o h =
     let r = s.runner in let c : ℕ = r.limits.chunk in let w = within s h in
     let k : ℕ = keeps_of (is_shut x r) (out_of x r).discarding (room x r) (length b) in
     let few = keeps_less (is_shut x r) (out_of x r).discarding (room x r) (length b) in
     let kr = keeps_fit (is_shut x r) (out_of x r).discarding (room x r) (length b) in
-    let i = (h.sound.ranged.0 x).inside in let m = (h.sound.ranged.0 x).within in let a = w.area in let g = w.begins in let d = base_behind r.limits x in let p = placed r.limits x open in
+    let i = (h.sound.ranged.0 x).inside in let m = (h.sound.ranged.0 x).within in let a = w.area in let g = w.begins in let d = base_behind r.limits x in let p = placed r.limits x o in
     let z = write_other (base x c) c (out_of x r).start (out_of x r).queued b k s.bytes (omega arith) (omega arith) few (omega arith)
     (inbox_base r.limits) (inbox_size r.limits) r.input.inbox.start r.input.inbox.length a (omega arith) w.most (inr d) in
     on (append-nil (queue r.limits r.input s.bytes) ∙ sym z) (λ e. (e, refl))
@@ -179,6 +179,16 @@ asked_flow _ r st = kept r.limits r.input _ st refl refl
 moved : (s : State) (r' : Runner) → Moves s.runner.input r'.input → Flow s.runner.limits s.runner.input r'.input s.bytes s.bytes [] []
 moved s r' m = flow_moves s.runner.limits s.runner.input r'.input s.bytes m
 
+-- a call that names a stream brings and hands over nothing; where that is not open, nothing changes
+named : (s t : State) (x : Stream) → (has s.runner.limits x ≡ true → Flow s.runner.limits s.runner.input t.runner.input s.bytes t.bytes [] [])
+    → (let u = cond (has s.runner.limits x) t s in Flow s.runner.limits s.runner.input u.runner.input s.bytes u.bytes [] [])
+named s t x k = by (has s.runner.limits x) k
+  where
+    by : (b : Bool) → (b ≡ true → Flow s.runner.limits s.runner.input t.runner.input s.bytes t.bytes [] [])
+        → (let u = cond b t s in Flow s.runner.limits s.runner.input u.runner.input s.bytes u.bytes [] [])
+    by true k = k refl
+    by false k = still s.runner.limits s.runner.input s.bytes
+
 flow_step : (c : Call) (s : State) → Fine s
     → Flow s.runner.limits s.runner.input (next s c).runner.input s.bytes (next s c).bytes (handed_by s c) (brought_by c (answer s c))
 unfolding handed_by brought_by next answer credit_next output_next discarded_next closed_next failed_next hung_up_next settled_next written_next
@@ -186,7 +196,11 @@ flow_step (Call.input k b) s h = input_flow (admits s.runner.key k) s b s.runner
 flow_step (Call.end_input k) s h = end_flow (admits s.runner.key k) s.runner s.bytes s.runner.flags.finished refl
 flow_step (Call.cancel now k c) s h = moved s (cancel_next (admits s.runner.key k) s.runner now c) (cancels (admits s.runner.key k) s.runner now c)
 flow_step (Call.launched x) s h = moved s (launched_next s.runner x) (launches s.runner x)
-flow_step (Call.output x b) s h = output_flow x b s h
+flow_step (Call.output x b) s h = named s _ x (λ o. output_flow x b s o h)
+flow_step (Call.discarded x n) s h = named s _ x (λ o. kept s.runner.limits s.runner.input _ s.bytes refl refl)
+flow_step (Call.output_closed x) s h = named s _ x (λ o. kept s.runner.limits s.runner.input _ s.bytes refl refl)
+flow_step (Call.output_failed x) s h = named s _ x (λ o. kept s.runner.limits s.runner.input _ s.bytes refl refl)
+flow_step (Call.output_hung_up x) s h = named s _ x (λ o. kept s.runner.limits s.runner.input _ s.bytes refl refl)
 flow_step (Call.input_written n) s h = written_flow s.runner.limits s.runner.input s.bytes s.lengths n (within s h)
 flow_step Call.input_closed s h = moved s (close_runner_input s.runner) (close s.runner)
 flow_step (Call.exited now x) s h = moved s (exited_next s.runner now x) (exits s.runner now x)

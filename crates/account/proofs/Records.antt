@@ -14,7 +14,7 @@ use Rattle.exec.specs.declared.Outcome.{Outcome}
 use Rattle.exec.specs.declared.Refusal.{Refusal}
 use Rattle.exec.specs.declared.Refusal.TheVariants.{NotAChannel, NotFramed}
 use Rattle.exec.specs.declared.Stream.{Stream}
-use Rattle.exec.specs.declared.Stream.TheVariants.{Stdout, Stderr}
+use Rattle.exec.specs.declared.Stream.TheVariants.{Stdout, Stderr, Notes}
 use Rattle.exec.specs.Outcome.{is_truncated}
 use Rattle.runner.specs.Calls as Calls
 use Rattle.runner.specs.Calls.{stores_do}
@@ -169,8 +169,10 @@ frame_so : (conf : Conf) (now : ℕ) (b : List ℕ) (p : Result Frame Refusal) (
 unfolding frame_calls
 frame_so conf now b (Ok (Frame.Data Stdout n ends)) a c k = data_so (ends && eqb (length (drop 9 b)) 0) ends (is_refused a) (Call.input conf.key (drop 9 b)) (Call.end_input conf.key) c k
 frame_so conf now b (Ok (Frame.Data Stderr n ends)) a c k = k
+frame_so conf now b (Ok (Frame.Data Notes n ends)) a c k = k
 frame_so conf now b (Ok (Frame.Update Stdout units)) a c k = k
 frame_so conf now b (Ok (Frame.Update Stderr units)) a c k = k
+frame_so conf now b (Ok (Frame.Update Notes units)) a c k = k
 frame_so conf now b (Ok (Frame.Reset x)) a c k = k
 frame_so conf now b (Err x) a c k = k
 

@@ -13,7 +13,7 @@ use lib.ListN.{length, get_or}
 use Rattle.exec.specs.declared.Key.{Key}
 use Rattle.exec.specs.declared.Refusal.{Refusal}
 use Rattle.exec.specs.declared.Timers.{Timers}
-use Rattle.exec.specs.Limits.{bytes_with, is_valid, no_limits, has}
+use Rattle.exec.specs.Limits.{bytes_with, is_valid, no_limits, has, has_notes}
 use Rattle.exec.specs.Refusal.{number}
 use Rattle.runner.specs.declared.runner.Runner.{Runner}
 use Rattle.inbox.specs.Receiver.{grant_fits}
@@ -235,7 +235,11 @@ Unlimited r = (stores : Bool) → stop r stores ≡ Err Refusal.NoLimits
 
 none_unlimited : (k : Key) (t : Timers) (smallest now : ℕ) → Unlimited (fresh k no_limits t smallest now)
 unfolding stop in_range fresh output_fits bytes_with
-none_unlimited k t smallest now stores = refl
+none_unlimited k t smallest now stores = by (has_notes no_limits) refl
+  where
+    by : (b : Bool) → has_notes no_limits ≡ b → stop (fresh k no_limits t smallest now) stores ≡ Err Refusal.NoLimits
+    by true e = rw e refl
+    by false e = rw e refl
 
 unlimited_entry : (s : State) → Unlimited s.runner → (e : Entry) → answer_entry s e ≡ Call.Refused 10
 unfolding answer_entry Channel.read_record Channel.write_record Frames.read_frame Frames.write_frame Channel.parsed_read Frames.parsed_read accepted

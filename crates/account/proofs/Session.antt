@@ -67,6 +67,7 @@ cut_short = record {
   launch_failure = None;
   stdout_truncated = true;
   stderr_truncated = true;
+  notes_truncated = false;
   reusable = false;
 }
 

@@ -87,6 +87,11 @@ output_told y b n z =
     (rw (same_self y) (refl, sym (append-nil _)))
     (λ x d. rw d (none_added _ _ _ refl (take-nil n), sym (append-nil _)))
 
+-- one that is refused
+pub unkept_told : (y : Stream) (b : List ℕ) (n : ℕ) (z : Account) → Tells z (Call.output y b) (Call.Refused n)
+unfolding add
+unkept_told y b n z x = (sym (append-nil _), sym (append-nil _))
+
 pub said_told : (m : Choice) (b : List ℕ) (s : Runner) (store : List ℕ) (z : Account) → Tells z (Call.next_message b) (said m s store)
 unfolding said add adds
 said_told (Choice.Output y n) b s store z x =

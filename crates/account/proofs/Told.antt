@@ -13,13 +13,13 @@ use Rattle.account.specs.Account.{Account, Tally, none as untold, add, account, 
 use Rattle.account.specs.Claim.{Opens}
 use Rattle.account.specs.Records.{Entry, EntryDone, call, next_entry, answer_entry, made, alike, dones_of, run_entries, entry_account}
 use Rattle.account.specs.TurnClaim.{offered, offered_in, carried, taken_in, sent_in}
-use Rattle.account.proofs.Plain.{answer}
+use Rattle.account.proofs.Plain.{answer, of_open}
 use Rattle.account.proofs.Sides.{one_per}
 use Rattle.account.proofs.Finish.{Kind, quiet, speaks, kind}
 use Rattle.account.proofs.Demand.{Fine, answer_same}
 use Rattle.account.proofs.EachRecord.{Does, Outputless, AllOutputless, record_outputless}
 use Rattle.account.proofs.Records.{Good, does, good_next, good_entry, good_open}
-use Rattle.account.proofs.Tells.{Tells, Offers, silent, gives, offers, quiet_kept, quiet_told, output_told, said_told}
+use Rattle.account.proofs.Tells.{Tells, Offers, silent, gives, offers, quiet_kept, quiet_told, output_told, said_told, unkept_told}
 
 -- ---- a call
 
@@ -28,7 +28,7 @@ unfolding answer
 plain_told c s z = go c (offers c) (kind c s)
   where
     go : (c : Call) → Offers c → Kind s c → Tells z c (answer s c)
-    go c (gives y b) k = output_told y b _ z
+    go c (gives y b) k = of_open (Tells z (Call.output y b)) s y _ (output_told y b _ z) (unkept_told y b 2 z)
     go c (silent o) (quiet q) = quiet_told c (answer s c) z o q
     go c (silent o) (speaks b) = said_told (choose s.runner (length b)) b s.runner s.bytes z
 

@@ -1,4 +1,5 @@
 -- The turn: a stream that Terminal reports untruncated was sent whole and closed by the program, and no byte is added to it any more.
+use Rattle.exec.specs.Limits.{has}
 use mathlib.Core.Bool.{Bool, true, false, not, ◌&&◌, ◌||◌, true≢false, false≢true}
 use mathlib.Core.Path.{◌≡◌, refl, sym, ap, ◌∙◌, subst, subst⁻¹}
 use mathlib.Core.List.{List, [], ◌∷◌, ◌++◌, append-nil}

@@ -94,6 +94,7 @@ whole_with status = record {
   launch_failure = None;
   stdout_truncated = false;
   stderr_truncated = false;
+  notes_truncated = false;
   reusable = true;
 }
 

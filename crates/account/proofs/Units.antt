@@ -1,4 +1,6 @@
 -- The units of the input's window are never made up and never vanish.
+use Rattle.account.proofs.Flags.{either}
+use Rattle.exec.specs.declared.Stream.{Stream}
 use Rattle.std.specs.Prelude.{Option, Result, Some, Ok, Err}
 use Rattle.exec.specs.declared.Admission.TheVariants.{Own}
 use Rattle.exec.specs.declared.Admission.{Admission}
@@ -15,7 +17,7 @@ use Rattle.exec.specs.declared.Limits.{Limits}
 use Rattle.exec.specs.declared.Unit as Kinds
 use Rattle.exec.specs.declared.Unit.TheVariants.{Bytes, Frames}
 use Rattle.exec.specs.Key.{admits}
-use Rattle.exec.specs.Limits.{cost}
+use Rattle.exec.specs.Limits.{cost, has}
 use Rattle.ring.specs.FrameLaws.{pop_most}
 use Rattle.inbox.specs.declared.Inbox.{Inbox}
 use Rattle.inbox.specs.Inbox.{new_inbox, inbox_held, pushed, freed_by, frames_popped, pop_inbox, pop_freed}
@@ -138,6 +140,10 @@ units_of s = units_in s.runner.limits s.runner.input
 moved : (r r' : Runner) → Keeps r r' → units_in r.limits r'.input + cleared r r' ≡ units_in r.limits r.input
 moved r r' m = moved_units r.limits r.input r'.input m
 
+-- a call that names a stream leaves the input
+named_units : (s t : State) (x : Stream) → t.runner.input ≡ s.runner.input → units_in s.runner.limits (cond (has s.runner.limits x) t s).runner.input + 0 ≡ units_of s
+named_units s t x e = either (λ (u : State). units_in s.runner.limits u.runner.input + 0 ≡ units_of s) (has s.runner.limits x) t s (rw e (omega arith)) (omega arith)
+
 units_step : (c : Call) (s : State) (over : Bool) → s.runner.flags.finished ≡ over → Fine s → units_in s.runner.limits (next s c).runner.input + lost_by over s c ≡ units_of s
 unfolding lost_by next answer credit_next output_next discarded_next closed_next failed_next hung_up_next settled_next written_next
 units_step (Call.input k b) s over e h =
@@ -155,6 +161,11 @@ units_step (Call.disconnect now) s over e h = rw (next_same s (Call.disconnect n
 units_step (Call.tick now) s over e h = rw (next_same s (Call.tick now) h) (moved s.runner (ticked s.runner now) (ticks s.runner now))
 units_step Call.next_request s over e h = omega (arith, asked_units (wish s.runner) s.runner)
 units_step (Call.next_message buffer) s over e h = omega (arith, said_units (choose s.runner (length buffer)) s.runner)
+units_step (Call.output x b) s over e h = named_units s _ x refl
+units_step (Call.discarded x n) s over e h = named_units s _ x refl
+units_step (Call.output_closed x) s over e h = named_units s _ x refl
+units_step (Call.output_failed x) s over e h = named_units s _ x refl
+units_step (Call.output_hung_up x) s over e h = named_units s _ x refl
 units_step _ s over e h = omega arith
 
 add_up : (a b c m u : ℕ) → a + c ≡ m → m + b ≡ u → a + (b + c) ≡ u

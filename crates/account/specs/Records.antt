@@ -12,7 +12,7 @@ use Rattle.exec.specs.declared.Key.{Key}
 use Rattle.exec.specs.declared.Outcome.{Outcome}
 use Rattle.exec.specs.declared.Pool.TheVariants as Pool
 use Rattle.exec.specs.declared.Stream.{Stream}
-use Rattle.exec.specs.declared.Stream.TheVariants.{Stdout, Stderr}
+use Rattle.exec.specs.declared.Stream.TheVariants.{Stdout, Stderr, Notes}
 use Rattle.exec.specs.Outcome.{is_truncated}
 use Rattle.exec.specs.Refusal.{number}
 use Rattle.runner.specs.declared.answer.Message as Messages
@@ -106,6 +106,7 @@ unfoldable pub call_of : Conf → (now : ℕ) → (bytes : List ℕ) → Result 
 call_of conf now b (Ok (Record.Adjust units)) = Call.credit conf.key Pool.Output units ∷ []
 call_of conf now b (Ok (Record.Data n)) = Call.input conf.key (drop 9 b) ∷ []
 call_of conf now b (Ok (Record.Extended n)) = []
+call_of conf now b (Ok (Record.Notes n)) = []
 call_of conf now b (Ok Record.Eof) = Call.end_input conf.key ∷ []
 call_of conf now b (Ok Record.Close) = Call.disconnect now ∷ []
 call_of conf now b (Err x) = []
@@ -119,12 +120,14 @@ data_calls k ends b a =
     (Call.input k b ∷ cond (ends && not (is_refused a)) (Call.end_input k ∷ []) [])
 
 -- the calls that a frame's bytes make, where it is answered so: WINDOW_UPDATE credit on its stream's pool, DATA as above, RST_STREAM
--- reset; DATA on the stream of stderr none
+-- reset; DATA on any other stream than stdout's none
 unfoldable pub frame_calls : Conf → (now : ℕ) → (bytes : List ℕ) → Result Frame Refusal → Answer → List Call
 frame_calls conf now b (Ok (Frame.Update Stdout units)) a = Call.credit conf.key Pool.Stdout units ∷ []
 frame_calls conf now b (Ok (Frame.Update Stderr units)) a = Call.credit conf.key Pool.Stderr units ∷ []
+frame_calls conf now b (Ok (Frame.Update Notes units)) a = Call.credit conf.key Pool.Notes units ∷ []
 frame_calls conf now b (Ok (Frame.Data Stdout n ends)) a = data_calls conf.key ends (drop 9 b) a
 frame_calls conf now b (Ok (Frame.Data Stderr n ends)) a = []
+frame_calls conf now b (Ok (Frame.Data Notes n ends)) a = []
 frame_calls conf now b (Ok (Frame.Reset x)) a = Call.reset now ∷ []
 frame_calls conf now b (Err x) a = []
 
