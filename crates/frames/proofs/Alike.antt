@@ -14,6 +14,7 @@ use Rattle.exec.specs.Key.{admits}
 use Rattle.exec.specs.Limits.{cost, off_chunk, is_valid, bytes_with}
 use Rattle.inbox.specs.declared.Inbox.{Inbox}
 use Rattle.inbox.specs.declared.receiver.Granted.{Granted}
+use Rattle.inbox.specs.Need.{need_fits}
 use Rattle.inbox.specs.Inbox.{inbox_held, pushed}
 use Rattle.inbox.specs.Range.{ring_fits, frames_fit, inbox_fits}
 use Rattle.inbox.specs.Receiver.{units_fit}
@@ -21,11 +22,11 @@ use Rattle.inbox.specs.RangeLaws.{both}
 use Rattle.input.specs.Input as Input
 use Rattle.input.specs.Input.{off_window, is_receipt, is_paid, is_kept}
 use Rattle.output.specs.Outputs.{outputs_fit}
-use Rattle.runner.specs.State.{credits_fit}
+use Rattle.runner.specs.State.{outputs_of, credits_fit}
 use Rattle.runner.specs.declared.runner.Runner.{Runner}
 use Rattle.runner.specs.Calls as Calls
 use Rattle.runner.specs.Calls.{stores_do}
-use Rattle.runner.specs.Range.{in_range, stop}
+use Rattle.runner.specs.Range.{last_turn, in_range, stop}
 use Rattle.runner.specs.RangeLaws.{passed, unstopped}
 use Rattle.runner.specs.SmallestLaws.{input_smallest}
 use Rattle.runner.specs.Streams.{input_answer, input_next, received, end_answer}
@@ -80,8 +81,10 @@ module _ (r : Runner) (n : ℕ) (bytes : r.limits.input.unit ≡ Bytes) where
   unfolding in_range input_next input_answer Input.receive_input
   stays true x f e h = rw f h
   stays false x f e h =
-      let p = both ((outputs_fit r.limits.chunk r.outputs && credits_fit r.credits) && inbox_fits r.limits r.input.window r.input.inbox) (leb r.turn 1) h in
-      let q = both (outputs_fit r.limits.chunk r.outputs && credits_fit r.credits) (inbox_fits r.limits r.input.window r.input.inbox) p.0 in
+      let rest = outputs_fit r.limits.chunk (outputs_of r) && credits_fit r.limits r.credits in
+      let held = inbox_fits r.limits r.input.window r.input.inbox in
+      let p = both (rest && held) (leb r.turn (last_turn r.limits)) h in
+      let q = both rest held p.0 in
       let pays : is_paid r.limits r.input n ≡ true = ap is_receipt (rw f at e) in
       rw (f, pays)
       (and_true _ _ (and_true _ _ q.0 (inbox_stays r.limits.input.unit bytes r.limits.input.size r.limits.chunk n (is_kept r.limits r.input n) r.input.window r.input.inbox (paid pays) q.1)) p.1)
@@ -119,8 +122,11 @@ alike r b store lengths x bytes g e =
     let a = admits r.key r.key in
     let h = passed r (stores_do r store lengths) g in
     let p = by_key r (length b) bytes x a (rw g at e) h.0 in
-    let next : stop (input_next a r (length b)) true ≡ Ok tt = unstopped (input_next a r (length b)) true p.0 (valid a h.1) (rw (input_smallest a r (length b)) h.2) refl in
+    let next : stop (input_next a r (length b)) true ≡ Ok tt = unstopped (input_next a r (length b)) true p.0 (valid a h.1) (rw (input_smallest a r (length b)) h.2) (fits a h.3) refl in
     rw (g, next) p.1
   where
     valid : (a : Result Admission Refusal) → is_valid r.limits ≡ true → is_valid (input_next a r (length b)).limits ≡ true
     valid a h = h
+
+    fits : (a : Result Admission Refusal) → need_fits r.limits ≡ true → need_fits (input_next a r (length b)).limits ≡ true
+    fits a h = h

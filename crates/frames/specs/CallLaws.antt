@@ -1,14 +1,15 @@
 -- Laws of the frame calls: what their inner functions ask and give (a frame that was read is whole, a message's frames have room).
 use Rattle.std.specs.Prelude.{Bool, true, false, not, ◌&&◌, List, [], ◌∷◌, ◌++◌, ◌≡◌, refl, ℕ, ◌+◌, ◌-◌, ◌≤◌, leb, length, take, drop, Option, Result, Some, None, Ok, Err}
-use Rattle.std.proofs.lemmas.Bool.{false≢true}
-use Rattle.std.proofs.Common.{sym, ap, ◌∙◌, arith, leb-true, append_assoc, append-nil, length-drop, length-take-le, take_all, drop-drop}
+use Rattle.std.proofs.lemmas.Bool.{false≢true, not-true}
+use Rattle.std.proofs.Common.{sym, ap, ◌∙◌, arith, true≢false, leb-true, append_assoc, append-nil, length-drop, length-take-le, take_all, drop-drop}
 use Rattle.std.proofs.Math.Seq.{drop-length}
 use Rattle.exec.specs.declared.Limits.{Limits}
 use Rattle.exec.specs.declared.Refusal.{Refusal}
 use Rattle.exec.specs.declared.Unit as Units
 use Rattle.exec.specs.declared.Unit.TheVariants.{Bytes, Frames}
 use Rattle.exec.specs.declared.Stream.{Stream}
-use Rattle.exec.specs.declared.Stream.TheVariants.{Stdout, Stderr}
+use Rattle.exec.specs.declared.Stream.TheVariants.{Stdout, Stderr, Notes}
+use Rattle.exec.specs.Limits.{has, has_notes}
 use Rattle.exec.specs.Written.{WrittenAfter, written_after}
 use Rattle.runner.specs.declared.answer.Message.{Message}
 use Rattle.runner.specs.declared.answer.After.{After}
@@ -18,7 +19,7 @@ use Rattle.carrier.specs.Carrier.{is_bytes, accepted, room, asked}
 use Rattle.carrier.specs.SaidLaws.{Within, SaidWithin, said_within}
 use Rattle.framing.specs.declared.Frame.{Frame}
 use Rattle.framing.specs.declared.Frame.TheVariants.{Update, Data, Reset}
-use Rattle.framing.specs.Framing.{is_stream, start, size, fits, bytes_of, header, is_writable, read, lay}
+use Rattle.framing.specs.Framing.{is_stream, is_framed as has_frames, named, start, size, fits, bytes_of, header, is_writable, read, lay}
 use Rattle.framing.specs.FramingLaws.{header_laid, lay_all}
 use Rattle.framing.proofs.RoundTrip.{Says, read_is}
 use Rattle.frames.specs.Calls.{is_plain, most_payload, most_window, is_small, is_framed, reset_unless, length_all, bytes_all, laid}
@@ -39,12 +40,22 @@ framed_stream l s h = and_r _ _ h
 pub framed_plain : (l : Limits) (s : ℕ) → is_framed l s ≡ true → is_plain l ≡ true
 framed_plain l s h = and_l (is_plain l) (is_small l) (and_l (is_plain l && is_small l) (is_stream s) h)
 
+-- a stream that is open has frames
+pub framed_open : (l : Limits) (s : ℕ) (x : Stream) → is_framed l s ≡ true → has l x ≡ true → has_frames x ≡ true
+framed_open l s Stdout h o = refl
+framed_open l s Stderr h o = refl
+framed_open l s Notes h o =
+    let two = and_r (not l.shared && is_bytes l.input.unit && is_bytes l.output.unit) (not (has_notes l)) (framed_plain l s h) in
+    absurd (true≢false (sym o ∙ not-true (has_notes l) two))
+
 unit_bytes : (u : Units.Unit) → is_bytes u ≡ true → u ≡ Bytes
 unit_bytes Bytes h = refl
 unit_bytes Frames h = absurd (false≢true h)
 
 pub plain_bytes : (l : Limits) → is_plain l ≡ true → l.input.unit ≡ Bytes
-plain_bytes l h = unit_bytes l.input.unit (and_r (not l.shared) (is_bytes l.input.unit) (and_l (not l.shared && is_bytes l.input.unit) (is_bytes l.output.unit) h))
+plain_bytes l h =
+    let counted = and_l (not l.shared && is_bytes l.input.unit && is_bytes l.output.unit) (not (has_notes l)) h in
+    unit_bytes l.input.unit (and_r (not l.shared) (is_bytes l.input.unit) (and_l (not l.shared && is_bytes l.input.unit) (is_bytes l.output.unit) counted))
 
 two_most : (n a m b k c : ℕ) → leb n a && leb m b && leb k c ≡ true → (n ≤ a) × (m ≤ b)
 two_most n a m b k c h =
@@ -79,12 +90,12 @@ accepted_whole (Err x) s b f e = let z : ◌≡◌ {A = ℕ} 0 1 = cc in absurd 
 abbrev pub resets : (stdout stderr : Bool) → List Frame
 resets stdout stderr = reset_unless stdout Stdout ++ reset_unless stderr Stderr
 
--- the numbers of a message's frames fit their fields, and there is room for them
+-- a message's frames are of streams that have frames, their numbers fit their fields, and there is room for them
 unfoldable pub Layable : Message → (room : ℕ) → Type 0
 Layable (Message.Credit units) room = (units ≤ 2147483647) × (13 ≤ room)
 Layable Message.Started room = Unit
-Layable (Message.Output x n) room = (n ≤ 16777215) × (9 + n ≤ room)
-Layable (Message.End x) room = 9 ≤ room
+Layable (Message.Output x n) room = (has_frames x ≡ true) × (n ≤ 16777215) × (9 + n ≤ room)
+Layable (Message.End x) room = (has_frames x ≡ true) × (9 ≤ room)
 Layable Message.InputClosed room = Unit
 Layable (Message.Terminal outcome) room = 26 ≤ room
 
@@ -112,18 +123,19 @@ module _ (s : ℕ) where
       sym (header_laid s f b) ∙ ap (λ (t : List ℕ). t ++ drop (start f + size f) b) (sym (append-nil p)) in
       ap (λ (t : List ℕ). written_after (Ok (start f + size f)) t) l ∙ ap (λ (m : ℕ). written_after (Ok m) ((p ++ []) ++ drop m b)) n
 
-  pub lay_one : (f : Frame) (b : List ℕ) → is_stream s ≡ true → fits f ≡ true → start f + size f ≤ length b → lay s f b ≡ laid_after s (f ∷ []) b
+  pub lay_one : (f : Frame) (b : List ℕ) → is_stream s ≡ true → has_frames (named f) ≡ true → fits f ≡ true → start f + size f ≤ length b
+      → lay s f b ≡ laid_after s (f ∷ []) b
   unfolding is_writable
-  lay_one f b hs hf h = lay_all s f b h (rw (hs, hf) refl) ∙ one f b
+  lay_one f b hs hx hf h = lay_all s f b h (rw (hs, hx, hf) refl) ∙ one f b
 
   -- a reset that is laid in the first 13 bytes, and what is laid behind it
-  module _ (x : Stream) (b first : List ℕ) (u : Result ℕ Refusal) (stream : is_stream s ≡ true) (room : 13 ≤ length b)
+  module _ (x : Stream) (b first : List ℕ) (u : Result ℕ Refusal) (stream : is_stream s ≡ true) (framed : has_frames x ≡ true) (room : 13 ≤ length b)
       (laid-first : written_after u first ≡ lay s (Reset x) (take 13 b)) where
     short : length (take 13 b) ≡ 13
     short = length-take-le 13 b room
 
     told_first : written_after u first ≡ laid_after s (Reset x ∷ []) (take 13 b)
-    told_first = laid-first ∙ lay_one (Reset x) (take 13 b) stream refl (omega (arith, short))
+    told_first = laid-first ∙ lay_one (Reset x) (take 13 b) stream framed refl (omega (arith, short))
 
     pub first_taken : u ≡ Ok 13
     first_taken = ap (λ (w : WrittenAfter). w.answer) told_first
@@ -172,8 +184,8 @@ fits_said l s n f h (Ok (Some m)) k = (framed_stream l s f, message m k)
     message : (m : Message) → Within l m → Layable m n
     message (Message.Credit units) k = (omega (arith, small), omega arith)
     message Message.Started k = tt
-    message (Message.Output x i) k = (omega (arith, small), omega arith)
-    message (Message.End x) k = omega arith
+    message (Message.Output x i) k = (framed_open l s x f k.0, omega (arith, small, k.1), omega (arith, k.1))
+    message (Message.End x) k = (framed_open l s x f k, omega arith)
     message Message.InputClosed k = tt
     message (Message.Terminal outcome) k = omega arith
 fits_said l s n f h (Err x) k = tt

@@ -9,7 +9,8 @@ use Rattle.exec.specs.declared.Key.{Key}
 use Rattle.exec.specs.declared.Refusal.{Refusal}
 use Rattle.exec.specs.declared.Refusal.TheVariants.{NotFramed, BadFrame}
 use Rattle.exec.specs.declared.Stream.{Stream}
-use Rattle.exec.specs.declared.Stream.TheVariants.{Stdout, Stderr}
+use Rattle.exec.specs.declared.Stream.TheVariants.{Stdout, Stderr, Notes}
+use Rattle.exec.specs.Limits.{has_notes}
 use Rattle.runner.specs.declared.answer.Message.{Message}
 use Rattle.runner.specs.declared.runner.Runner.{Runner}
 use Rattle.runner.specs.Calls as Calls
@@ -23,9 +24,9 @@ use Rattle.framing.specs.Framing.{is_stream, start, size, bytes_of, read}
 
 -- ---- what is met before a frame: 12, 10, 46, 11, 42
 
--- a pool for each stream, and bytes counted both ways
+-- two streams with a pool for each, and bytes counted both ways
 abbrev pub is_plain : Limits → Bool
-is_plain l = not l.shared && is_bytes l.input.unit && is_bytes l.output.unit
+is_plain l = not l.shared && is_bytes l.input.unit && is_bytes l.output.unit && not (has_notes l)
 
 -- the longest payload that every peer takes (RFC 9113, 4.2), and the largest window (6.9.1)
 abbrev pub most_payload : ℕ
@@ -45,6 +46,7 @@ is_framed l s = is_plain l && is_small l && is_stream s
 abbrev pub pool_of : Stream → Pool
 pool_of Stdout = Pools.Stdout
 pool_of Stderr = Pools.Stderr
+pool_of Notes = Pools.Notes
 
 abbrev pub is_ok : Result Receipt Refusal → Bool
 is_ok (Ok x) = true
@@ -63,11 +65,12 @@ data_made ends bytes r store lengths =
     (then_end ends r.key (Calls.input r r.key bytes store lengths))
 
 -- the calls that a frame makes under the runner's own key: WINDOW_UPDATE credit on its stream's pool, DATA input and end_input,
--- RST_STREAM reset; DATA on stderr's stream none
+-- RST_STREAM reset; DATA on stderr's stream none (Notes has no stream, and is never read)
 unfoldable pub made : Frame → Runner → (at : ℕ) → (b store lengths : List ℕ) → ReadAfter
 made (Update x units) r at b store lengths = read_after (heard (Calls.credit r r.key (pool_of x) units)) store lengths
 made (Data Stdout n ends) r at b store lengths = data_made ends (drop 9 b) r store lengths
 made (Data Stderr n ends) r at b store lengths = read_after (unread BadFrame r) store lengths
+made (Data Notes n ends) r at b store lengths = read_after (unread BadFrame r) store lengths
 made (Reset x) r at b store lengths = read_after (noted (Calls.reset r at)) store lengths
 
 unfoldable pub parsed_read : Result Frame Refusal → Runner → (at : ℕ) → (b store lengths : List ℕ) → ReadAfter

@@ -11,7 +11,7 @@ use Rattle.exec.specs.declared.Receipt.TheVariants.{Applied, Late}
 use Rattle.exec.specs.declared.Refusal.{Refusal}
 use Rattle.exec.specs.declared.Stream.TheVariants.{Stdout, Stderr}
 use Rattle.exec.specs.Key.{new_key, admits}
-use Rattle.exec.specs.Limits.{bytes_window, frames_window, limits_for, cost, bytes_with}
+use Rattle.exec.specs.Limits.{bytes_window, frames_window, limits_for, has_notes, cost, bytes_with}
 use Rattle.exec.specs.Refusal.{number}
 use Rattle.exec.specs.Time.{new_timers}
 use Rattle.ring.specs.Ring.{wrap, ring_from, ring_write}
@@ -48,7 +48,7 @@ framed : (is_framed (limits 16384 2147483647 2147483647 false) 1 ≡ true)
     × (is_framed (limits 4 8 8 true) 1 ≡ false)
     × (is_framed (limits_for 4 (frames_window 2) (bytes_window 8) false) 1 ≡ false)
     × (is_framed (limits_for 4 (bytes_window 8) (frames_window 2) false) 1 ≡ false)
-unfolding limits
+unfolding limits has_notes
 framed = (refl, refl, refl, refl, refl, refl, refl)
 
 -- "s, from 1 to 2^31 − 3"
@@ -56,7 +56,7 @@ streams : (is_framed (limits 4 8 8 false) 0 ≡ false)
     × (is_framed (limits 4 8 8 false) 1 ≡ true)
     × (is_framed (limits 4 8 8 false) 2147483645 ≡ true)
     × (is_framed (limits 4 8 8 false) 2147483646 ≡ false)
-unfolding limits
+unfolding limits has_notes
 streams = (refl, refl, refl, refl)
 
 -- ---- a runner from open, and its frames on 1 and 3
@@ -70,7 +70,7 @@ abbrev own : Key
 own = new_key 7 2
 
 opened : Runner
-unfolding Calls.«open» Range.fresh Range.stop Range.in_range output_fits bytes_with admits limits
+unfolding Calls.«open» Range.fresh Range.stop Range.in_range output_fits has_notes bytes_with admits limits
 opened = (Calls.«open» own (limits 4 8 8 false) (new_timers 10 5) 1 0 (zeros 16) []).runner
 
 -- what a frame leaves that is read at instant 3, and the next message's frames, in a buffer of sevens

@@ -2,7 +2,7 @@
 ghost use Rattle.std.specs.Prelude.{◌≡◌, true, ◌≤◌, length};
 ghost use Rattle.exec.specs.Written.{written_after};
 ghost use Rattle.carrier.specs.Carrier.{read_after, accepted, write_after, room, wrote, wrote_buffer, told, asked};
-ghost use Rattle.framing.specs.Framing.{start, is_stream, read};
+ghost use Rattle.framing.specs.Framing.{start, is_stream, is_framed as has_frames, read};
 ghost use Rattle.frames.specs.Calls.{
   is_plain,
   is_small,
@@ -33,11 +33,14 @@ const MOST_WINDOW: u32 = 2147483647;
 
 // ---- what is met before a frame: 12, 10, 46, 11, 42
 
-// Whether each stream has a pool, and bytes are counted both ways.
+// Whether there are two streams, each has a pool, and bytes are counted both ways.
 fn is_plain(limits: Limits) -> bool
     ensures { result ≡ is_plain limits }
 {
-    !limits.shared && limits.input.unit == Unit::Bytes && limits.output.unit == Unit::Bytes
+    !limits.shared
+        && limits.input.unit == Unit::Bytes
+        && limits.output.unit == Unit::Bytes
+        && !limits.has_notes()
 }
 
 // Whether chunk and windows fit frames.
@@ -70,8 +73,7 @@ pub fn read_frame(
     ensures { read_after result store.new lengths.new ≡ read_frame runner at s bytes.now store.old lengths.old }
 {
     let limits = runner.limits;
-    let enough = (need::byte_need(limits) <= store.len())
-        & (need::length_need(limits) <= lengths.len());
+    let enough = need::bytes_do(limits, store.len()) & (need::length_need(limits) <= lengths.len());
     let admitted = admit(
         runner.limits(),
         enough,
@@ -93,6 +95,7 @@ fn pool_of(x: Stream) -> Pool
     match x {
         Stream::Stdout => Pool::Stdout,
         Stream::Stderr => Pool::Stderr,
+        Stream::Notes => Pool::Notes,
     }
 }
 
@@ -112,7 +115,7 @@ fn make(
     match frame {
         Frame::Update(x, units) => read_as(runner.credit(runner.key, pool_of(x), units), Some),
         Frame::Data(Stream::Stdout, _, ends) => take(runner, ends, &bytes[9..], store, lengths),
-        Frame::Data(Stream::Stderr, _, _) => After {
+        Frame::Data(Stream::Stderr | Stream::Notes, _, _) => After {
             runner,
             answer: Err(Refusal::BadFrame),
         },
@@ -156,7 +159,7 @@ pub fn write_frame(
     ensures { write_after result buffer.new ≡ write_frame runner s store.now buffer.old }
 {
     let limits = runner.limits;
-    let enough = need::byte_need(limits) <= store.len();
+    let enough = need::bytes_do(limits, store.len());
     let roomy = room(limits) <= buffer.len();
     let admitted = admit(
         runner.limits(),
@@ -242,7 +245,7 @@ fn lay_resets(s: u32, stdout: bool, stderr: bool, buffer: &mut [u8]) -> Result<u
 
 #[tactic(auto, unfolding(crate::specs::Calls::reset_unless), using(crate::specs::CallLaws::lay_one, crate::specs::CallLaws::lay_none))]
 fn lay_reset(s: u32, x: Stream, ended: bool, buffer: &mut [u8]) -> Result<usize, Refusal>
-    requires { (is_stream s ≡ true) × (13 ≤ length buffer.old) }
+    requires { (is_stream s ≡ true) × (has_frames x ≡ true) × (13 ≤ length buffer.old) }
     ensures { written_after result buffer.new ≡ laid_after s (reset_unless ended x) buffer.old }
 {
     if ended {
