@@ -134,6 +134,7 @@ parsed_does (Ok (Record.Adjust units)) s now channel b h = (refl, heard_as_lem (
 parsed_does (Ok (Record.Data n)) s now channel b h =
     (refl, heard_as_lem (Calls.input s.runner s.runner.key (drop 9 b) s.bytes s.lengths).hearing.answer)
 parsed_does (Ok (Record.Extended n)) s now channel b h = record { kept = refl; refusal = 24; answered = refl; own = refl }
+parsed_does (Ok (Record.Notes n)) s now channel b h = record { kept = refl; refusal = 24; answered = refl; own = refl }
 parsed_does (Ok Record.Eof) s now channel b h = (refl, heard_as_lem (Calls.end_input s.runner s.runner.key).answer)
 parsed_does (Ok Record.Close) s now channel b h = (refl, noted_as_lem (Calls.disconnect s.runner now).answer)
 parsed_does (Err x) s now channel b h = record { kept = refl; refusal = number x; answered = refl; own = h }

@@ -1,5 +1,7 @@
 -- Refusals change nothing: by 12, 10, 46 and 11 the guard gives back what it was given; of what is refused behind it `Safe` tells, and of
 -- the records' own refusals `Records`. Then those of open, and of what writes and reads the bytes of a record.
+use Rattle.framing.specs.Framing.{is_framed as is_framed_stream, named}
+use Rattle.inbox.specs.Need.{need_fits}
 use Rattle.runner.specs.Streams.{read_allowance_of}
 use Rattle.std.specs.Prelude.{Option, Result, Some, None, Ok, Err}
 use Rattle.exec.specs.declared.Status.{Status}
@@ -327,13 +329,14 @@ refusals = record {
   entry_number = λ s e n a. (kept s e n a).known;
   stale_kept = stale;
   stale_read = stale_entry;
-  open_number = λ conf now bytes lengths. open_by_lem conf now (is_valid conf.limits) (grant_fits conf.smallest conf.limits.input.size) (bytes_do conf.limits bytes && lengths_do conf.limits lengths);
+  open_number = λ conf now bytes lengths. open_by_lem conf now (is_valid conf.limits) (grant_fits conf.smallest conf.limits.input.size)
+      (need_fits conf.limits && (bytes_do conf.limits bytes && lengths_do conf.limits lengths));
   unopened = λ conf now bytes lengths n h store slots es e. unlimited_list es _
       (rw (open_none conf now (open_stop conf.limits conf.smallest (bytes_do conf.limits bytes && lengths_do conf.limits lengths)) n h) (none_unlimited conf.key conf.timers conf.smallest now)) e;
   write_kept = write_kept;
   lay_kept = lay_kept;
   close_kept = close_kept;
-  frame_kept = λ stream f payload buffer. write_refused (Among (25 ∷ 43 ∷ [])) refl refl buffer stream f payload;
+  frame_kept = λ stream f payload buffer. write_refused (Among (25 ∷ 42 ∷ 43 ∷ [])) refl refl buffer stream f (either (Among (25 ∷ 42 ∷ 43 ∷ [])) (is_framed_stream (named f)) Refusal.BadFrame Refusal.NotFramed refl refl) payload;
   frame_number = λ stream b x e. read_refused (Among (43 ∷ 44 ∷ [])) refl refl stream b x e;
   read_number = λ channel b x e. (let own = Among (20 ∷ 21 ∷ 22 ∷ 23 ∷ []) in subst (RefusedBy own) e (reads_by own refl refl refl refl channel b));
   request_number = λ channel b x e. subst Untold e (request_by channel b);

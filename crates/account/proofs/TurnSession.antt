@@ -144,7 +144,7 @@ module _ (bytes lengths : List ℕ) (h : 16 ≤ length bytes) where
   all_sent = (turn conf 0 bytes lengths (open_ok bytes lengths h)).rows entries (call message) complete Stdout terminal refl ∙ taken_is
 
   pub program_closed : Has (closing Stdout) (run_entries (Step.opened conf 0 bytes lengths) entries)
-  program_closed = (turn conf 0 bytes lengths (open_ok bytes lengths h)).own entries (call message) complete Stdout terminal refl
+  program_closed = (turn conf 0 bytes lengths (open_ok bytes lengths h)).own entries (call message) complete Stdout refl terminal refl
 
   -- whatever comes after
   pub stays : (ds : List Entry) → taken_in Stdout (run_entries (Step.opened conf 0 bytes lengths) (entries ++ (call message ∷ ds))) ≡ rows.taken

@@ -1,7 +1,8 @@
 -- Demand 1: a refusal carries its number and leaves state, stores and buffers unchanged. Over EVERY state, whether a list of
 -- calls from open reaches it or not. Stale and Late are answers and no refusals: Stale changes nothing either, a Late input is
 -- charged. Of the lines of a card crate `grammar` tells.
-use Rattle.std.specs.Prelude.{true, cond, ◌&&◌, ◌||◌, ◌≡◌, List, [], ◌∷◌, ℕ, leb, ltb, Option, Err}
+use Rattle.inbox.specs.Need.{byte_need}
+use Rattle.std.specs.Prelude.{◌-◌, ◌^◌, true, cond, ◌&&◌, ◌||◌, ◌≡◌, List, [], ◌∷◌, ℕ, leb, ltb, Option, Err}
 use Rattle.exec.specs.declared.Status.{Status}
 use Rattle.exec.specs.declared.Refusal.{Refusal}
 use Rattle.exec.specs.Limits.{is_valid}
@@ -53,12 +54,14 @@ pub record Refusals : Type 0 where
   pub stale_kept : (s : State) (c : Call) → answer s c ≡ Call.Stale → next s c ≡ s
   pub stale_read : (s : State) (e : Entry) → answer_entry s e ≡ Call.Stale → next_entry s e ≡ s
   -- open is refused by 10 exactly where the limits are not valid, by 46 where they are and the smallest grant is 0 or above the input's
-  -- size, by 11 where neither is so and a lent store is short, and by nothing else; it is lent the stores to read only
+  -- size, by 11 where neither is so and a lent store is short, or the need is past 2^64 - 1, and by nothing else; it is lent the stores to
+  -- read only
   pub open_number : (conf : Conf) (now : ℕ) (bytes lengths : List ℕ)
       → open_answer conf now bytes lengths
       ≡ cond (is_valid conf.limits)
       (cond (ltb 0 conf.smallest && leb conf.smallest conf.limits.input.size)
-      (cond (bytes_do conf.limits bytes && lengths_do conf.limits lengths) Call.Ok (Call.Refused 11)) (Call.Refused 46)) (Call.Refused 10)
+      (cond (leb (byte_need conf.limits) (2 ^ 64 - 1) && (bytes_do conf.limits bytes && lengths_do conf.limits lengths)) Call.Ok (Call.Refused 11)) (Call.Refused 46))
+      (Call.Refused 10)
   -- and on the runner that it then gives every call and record is refused by 10, with any stores, and after any others
   pub unopened : (conf : Conf) (now : ℕ) (bytes lengths : List ℕ) (n : ℕ) → open_answer conf now bytes lengths ≡ Call.Refused n
       → (store slots : List ℕ) (es : List Entry) (e : Entry)
@@ -67,7 +70,7 @@ pub record Refusals : Type 0 where
   pub write_kept : (channel : ℕ) (rec : Record) (payload buffer : List ℕ) → Unwritten (20 ∷ 25 ∷ []) (Codec.write channel rec payload buffer) buffer
   pub lay_kept : (channel : ℕ) (rec : Record) (buffer : List ℕ) → Unwritten (25 ∷ []) (Codec.lay channel rec buffer) buffer
   pub close_kept : (channel : ℕ) (status : Option Status) (buffer : List ℕ) → Unwritten (25 ∷ 40 ∷ []) (Exit.close channel status buffer) buffer
-  pub frame_kept : (stream : ℕ) (f : Frame) (payload buffer : List ℕ) → Unwritten (25 ∷ 43 ∷ []) (Framing.write stream f payload buffer) buffer
+  pub frame_kept : (stream : ℕ) (f : Frame) (payload buffer : List ℕ) → Unwritten (25 ∷ 42 ∷ 43 ∷ []) (Framing.write stream f payload buffer) buffer
   -- and what reads them, which changes nothing
   pub read_number : (channel : ℕ) (bytes : List ℕ) (x : Refusal) → Codec.read channel bytes ≡ Err x → among (number x) (20 ∷ 21 ∷ 22 ∷ 23 ∷ []) ≡ true
   pub request_number : (channel : ℕ) (bytes : List ℕ) (x : Refusal) → Exit.read channel bytes ≡ Err x → among (number x) (20 ∷ 21 ∷ 22 ∷ 41 ∷ []) ≡ true
