@@ -29,10 +29,10 @@ use Rattle.runner.specs.Life.{settled_next}
 use Rattle.runner.specs.Message.{choose, effect, output_sent, output_paid, wish, wish_effect}
 use Rattle.runner.specs.Streams as Streams
 use Rattle.runner.specs.Streams.{output_next, discarded_next, closed_next, failed_next, hung_up_next, credit_next, input_answer, input_next, input_lengths, end_next, written_next}
-use Rattle.calls.specs.Call.{Call}
+use Rattle.calls.specs.Call.{Call, Answer}
 use Rattle.account.specs.Step.{State, received_as, asks}
 use Rattle.account.specs.InputClaim.{is_applied}
-use Rattle.account.proofs.Plain.{said, next, answer}
+use Rattle.account.proofs.Plain.{said, next, answer, of_open, by_open}
 use Rattle.account.proofs.InputRange.{waiting, HeldIn, paid}
 use Rattle.account.proofs.InputMoves.{Moves, same, shut, close, ticks, launches, exits, detaches, cancels}
 use Rattle.budget.specs.BudgetClaim.{told_of, frame_of, left_by}
@@ -223,9 +223,16 @@ asked_goes _ r lengths = kept r.limits lengths r.input _ refl refl
 
 -- ---- a call
 
-pub goes : (c : Call) (s : State)
-    → Goes s.runner.limits s.lengths s.runner.input (next s c).lengths (next s c).runner.input (told_of (answer s c)) (frame_of c (answer s c))
-    (left_by c (answer s c) (frames_in s.runner.limits s.lengths s.runner.input))
+-- a call that leaves the state t and answers a
+abbrev GoesTo : Call → (s t : State) → Answer → Type 0
+GoesTo c s t a =
+    Goes s.runner.limits s.lengths s.runner.input t.lengths t.runner.input (told_of a) (frame_of c a) (left_by c a (frames_in s.runner.limits s.lengths s.runner.input))
+
+-- the input as it was
+stays : (s : State) → Goes s.runner.limits s.lengths s.runner.input s.lengths s.runner.input 0 0 (frames_in s.runner.limits s.lengths s.runner.input)
+stays s = kept s.runner.limits s.lengths s.runner.input _ refl refl
+
+pub goes : (c : Call) (s : State) → GoesTo c s (next s c) (answer s c)
 unfolding next answer credit_next output_next discarded_next closed_next failed_next hung_up_next settled_next written_next Streams.written_came Streams.written_lengths
 goes (Call.credit k p u) s = quiet s.runner.limits s.lengths s.runner.input _ _ (received_none _) (kept s.runner.limits s.lengths s.runner.input _ refl refl)
 goes (Call.input k b) s = input_goes (admits s.runner.key k) s.runner s.lengths (length b) s.runner.flags.finished refl
@@ -241,4 +248,10 @@ goes (Call.disconnect now) s = moved s.runner.limits s.lengths s.runner.input _ 
 goes (Call.tick now) s = moved s.runner.limits s.lengths s.runner.input _ (ticks s.runner now)
 goes Call.next_request s = asked_goes (wish s.runner) s.runner s.lengths
 goes (Call.next_message buffer) s = said_goes (choose s.runner (length buffer)) s.runner s.bytes s.lengths
+goes (Call.read_allowance x) s = of_open (λ (a : Answer). GoesTo (Call.read_allowance x) s s a) s x (Call.Value _) (stays s) (stays s)
+goes (Call.output x b) s = by_open (GoesTo (Call.output x b) s) s _ x (Call.Taken _) (λ o. stays s) (stays s)
+goes (Call.discarded x n) s = by_open (GoesTo (Call.discarded x n) s) s _ x Call.Ok (λ o. stays s) (stays s)
+goes (Call.output_closed x) s = by_open (GoesTo (Call.output_closed x) s) s _ x Call.Ok (λ o. stays s) (stays s)
+goes (Call.output_failed x) s = by_open (GoesTo (Call.output_failed x) s) s _ x Call.Ok (λ o. stays s) (stays s)
+goes (Call.output_hung_up x) s = by_open (GoesTo (Call.output_hung_up x) s) s _ x Call.Ok (λ o. stays s) (stays s)
 goes _ s = kept s.runner.limits s.lengths s.runner.input _ refl refl

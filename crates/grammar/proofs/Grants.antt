@@ -313,6 +313,7 @@ closed_answers = Call.Ok
       launch_failure = None;
       stdout_truncated = false;
       stderr_truncated = false;
+      notes_truncated = false;
       reusable = true;
     }))
     ∷ Call.Nothing

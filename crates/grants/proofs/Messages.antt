@@ -85,7 +85,9 @@ credit_or r n w =
     pick_if P _ _ _ (λ _. inr refl) (λ _.
     pick_if P _ _ _ (λ _. inr refl) (λ _.
     pick_if P _ _ _ (λ _. inr refl) (λ _.
-    pick_if P _ _ _ (λ _. inl refl) (λ c. absurd (true≢false (sym w.can ∙ c))))))))))))
+    pick_if P _ _ _ (λ _. inr refl) (λ _.
+    pick_if P _ _ _ (λ _. inr refl) (λ _.
+    pick_if P _ _ _ (λ _. inl refl) (λ c. absurd (true≢false (sym w.can ∙ c))))))))))))))
 
 -- which leaves it waiting, and next
 brief_leaves : (c : Choice) (r : Runner) → IsBrief c ≡ true → Waits r

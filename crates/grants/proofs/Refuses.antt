@@ -1,4 +1,5 @@
 -- What 46 refuses: an open, and every other call, of a smallest grant of 0 or above the input's size, behind 12 and 10.
+use Rattle.inbox.specs.Need.{need_fits}
 use Rattle.std.specs.Prelude.{Bool, true, false, cond, ◌&&◌, ◌≡◌, refl, ℕ, ◌≤◌, ◌<◌}
 use Rattle.std.proofs.lemmas.Bool.{lt-ltb, le-leb}
 use Rattle.std.proofs.lemmas.Bool.Decides.{nat_tests}
@@ -30,7 +31,7 @@ pub refuses : Refuses
 unfolding stop
 refuses = record {
   at_open = λ conf now bytes lengths v m. refusals.open_number conf now bytes lengths ∙ rw (v, misfit conf.smallest conf.limits.input.size m) refl;
-  fitting = λ conf now bytes lengths a b e. other (is_valid conf.limits) (bytes_do conf.limits bytes && lengths_do conf.limits lengths)
+  fitting = λ conf now bytes lengths a b e. other (is_valid conf.limits) (need_fits conf.limits && (bytes_do conf.limits bytes && lengths_do conf.limits lengths))
       (rw (refusals.open_number conf now bytes lengths, fit conf.smallest conf.limits.input.size a b) at e);
   in_calls = λ s c i v m. stopped s c Refusal.SmallestGrant (rw (i, v, misfit s.runner.input.window.smallest s.runner.limits.input.size m) refl);
 }

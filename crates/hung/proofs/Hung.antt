@@ -1,12 +1,15 @@
 -- The timeout ends a program that hangs: up to its tick it waits, or a termination has begun, whose give-up is not later than the timeout's;
 -- the rest is demand 3's.
+use Rattle.account.proofs.Flags.{either}
+use Rattle.exec.specs.declared.Stream.{Stream}
+use Rattle.exec.specs.Limits.{streams, has}
 use Rattle.std.specs.Prelude.{Option, Result, Some, None, Ok, Err}
 use Rattle.exec.specs.declared.Admission.TheVariants.{Own}
 use Rattle.exec.specs.declared.Admission.{Admission}
 use Rattle.runner.specs.declared.answer.Request.{Request}
 use Rattle.exec.specs.declared.LaunchFailure.{LaunchFailure}
 use Rattle.exec.specs.declared.Refusal.{Refusal}
-use mathlib.Core.Bool.{Bool, true, false, or-true}
+use mathlib.Core.Bool.{Bool, true, false, or-true, cond}
 use mathlib.Core.Path.{◌≡◌, refl, ap, ◌∙◌, subst⁻¹}
 use mathlib.Core.List.{List, [], ◌∷◌, ◌++◌}
 use Prim.Native.Nat.{ℕ, ◌+◌, ◌^◌, ◌≤◌, ◌<◌}
@@ -165,6 +168,10 @@ module _ (conf : Conf) (d t : ℕ) (below : t + conf.timers.grace + conf.timers.
   held_detach now c s e l h =
       let u : Runner = ticked s now in held_detach_if u.flags.finished u.flags.detached now c u (ticked_timers now s e) l (held_ticked now s e l h)
 
+  -- a call that names a stream: where that is not open, nothing changes
+  held_named : (s u : State) (x : Stream) → Held u.runner → Held s.runner → Held (cond (has s.runner.limits x) u s).runner
+  held_named s u x h k = either (λ (v : State). Held v.runner) (has s.runner.limits x) u s h k
+
   -- each call but an exit, by its time
   waits_next : (c : Call) (s : State) → s.runner.timers ≡ conf.timers → RunsOn t c → Waits d s.runner → Held (next s c).runner
   unfolding next credit_next input_next end_next launched_next output_next discarded_next closed_next failed_next hung_up_next written_next close_runner_input settled_next
@@ -177,6 +184,11 @@ module _ (conf : Conf) (d t : ℕ) (below : t + conf.timers.grace + conf.timers.
   waits_next (Call.launched y) s e q h = left (waits_launched d (awaits_launch s.runner) y s.runner h)
   waits_next Call.next_request s e q h = left (waits_wished d (wish s.runner) s.runner h)
   waits_next (Call.next_message b) s e q h = left (waits_effect d (choose s.runner (length b)) s.runner h)
+  waits_next (Call.output x b) s e q h = held_named s _ x (left h) (left h)
+  waits_next (Call.discarded x n) s e q h = held_named s _ x (left h) (left h)
+  waits_next (Call.output_closed x) s e q h = held_named s _ x (left h) (left h)
+  waits_next (Call.output_failed x) s e q h = held_named s _ x (left h) (left h)
+  waits_next (Call.output_hung_up x) s e q h = held_named s _ x (left h) (left h)
   waits_next _ s e q h = left h
 
   held_next : (c : Call) (s : State) → s.runner.timers ≡ conf.timers → RunsOn t c → Held s.runner → Held (next s c).runner
@@ -197,13 +209,14 @@ module _ (conf : Conf) (d t : ℕ) (below : t + conf.timers.grace + conf.timers.
   due_ticked s f e l (right h) = (low_ticked (Soon sum) (soon_lower sum) t s h).hold
 
   -- from a runner not finished, up to Terminal
-  from_tick : (n : ℕ) (ds es : List Call) (s : State) → s.runner.flags.finished ≡ false → s.runner.timers ≡ conf.timers → d ≤ t → Held s.runner → sum ≤ n → 3 + streams conf.limits ≤ messages es
+  from_tick : (n : ℕ) (ds es : List Call) (s : State) → s.runner.flags.finished ≡ false → s.runner.timers ≡ conf.timers → d ≤ t → Held s.runner → sum ≤ n → 3 + streams s.runner.limits ≤ messages es
       → any_terminal (run s (Call.tick t ∷ (ds ++ (Call.tick n ∷ es)))) ≡ true
   unfolding next
   from_tick n ds es s f e l h m v =
       let u : State = next s (Call.tick t) in
       let r : any_terminal (run u (ds ++ (Call.tick n ∷ es))) ≡ true = either_part ds (Call.tick n ∷ es) u (tick_fin t s.runner f)
-      (λ g. from_call sum n (Call.tick n) es (after_all u ds) g m (before_list sum ds u (due_ticked s.runner f e l h)) refl v) in
+      (λ g. from_call sum n (Call.tick n) es (after_all u ds) g m (before_list sum ds u (due_ticked s.runner f e l h)) refl
+      (subst⁻¹ (λ (x : Conf). 3 + streams x.limits ≤ messages es) (conf_list (Call.tick t ∷ ds) s) v)) in
       rw r (or-true (is_terminal (answer s (Call.tick t))))
 
 -- ---- the whole list
@@ -224,7 +237,8 @@ plain conf now bytes lengths cs ds es d t n e l u below m v =
     let opened : o.runner.timers ≡ conf.timers = ap (λ (x : Conf). x.timers) (opened_conf conf now bytes lengths) in
     let after : (after_all o cs).runner.timers ≡ conf.timers = ap (λ (x : Conf). x.timers) (conf_list cs o) ∙ opened in
     either_part cs (Call.tick t ∷ (ds ++ (Call.tick n ∷ es))) o (live_open conf now bytes lengths)
-    (λ f. from_tick conf d t below n ds es (after_all o cs) f after l (held_list conf d t below cs o opened u (left (waits_open conf now d bytes lengths e))) m v)
+    (λ f. from_tick conf d t below n ds es (after_all o cs) f after l (held_list conf d t below cs o opened u (left (waits_open conf now d bytes lengths e))) m
+    (subst⁻¹ (λ (x : Conf). 3 + streams x.limits ≤ messages es) (conf_list cs o ∙ opened_conf conf now bytes lengths) v))
 
 -- THE TIMEOUT ENDS A PROGRAM THAT HANGS, for a runner that open answered ok, stores of any content, and every list of calls, records and frames
 pub hung : (conf : Conf) (now : ℕ) (bytes lengths : List ℕ) → Opens conf now bytes lengths → Hung conf now bytes lengths

@@ -72,6 +72,7 @@ timed_out = record {
   launch_failure = None;
   stdout_truncated = true;
   stderr_truncated = true;
+  notes_truncated = false;
   reusable = false;
 }
 

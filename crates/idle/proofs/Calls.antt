@@ -17,7 +17,7 @@ use Rattle.exec.specs.declared.Cause.TheVariants.{Dropped, Reset, Disconnected}
 use Rattle.exec.specs.declared.Settlement.{Settlement}
 use Rattle.exec.specs.declared.Stream.{Stream}
 use Rattle.exec.specs.Key.{admits}
-use Rattle.exec.specs.Limits.{output_pool}
+use Rattle.exec.specs.Limits.{output_pool, has_notes}
 use Rattle.exec.specs.Time.{earliest}
 use Rattle.lifecycle.specs.Life.{is_fenced, expected_by, settle_with}
 use Rattle.choice.specs.declared.Choice.{Choice}
@@ -29,8 +29,8 @@ use Rattle.runner.specs.Calls as Calls
 use Rattle.runner.specs.Calls.{noting, calling, stores_do, input_by, output_by, written_by, request_by, message_by, unless as given}
 use Rattle.runner.specs.Life.{awaits_launch, is_cleaned_up, close_runner_input, note_started, note_launch, launched_next, settled_next, deadline_of, is_ready, outcome_of, cancel_answer, cancel_next}
 use Rattle.runner.specs.Message.{MessageAfter, sendable_of, choose, output_paid, output_sent, effect, payload, buffer_after, said_for, wish, wish_effect}
-use Rattle.runner.specs.Range.{in_range, stop, bytes_do, lengths_do}
-use Rattle.runner.specs.State.{at, out_of}
+use Rattle.runner.specs.Range.{in_range, stop, bytes_do, lengths_do, stop_at}
+use Rattle.runner.specs.State.{at, out_of, outputs_of}
 use Rattle.runner.specs.Streams.{InputAfter, is_shut, room, received, output_took, output_taken, output_next, output_store, read_allowance_of, discarded_next, closed_next, failed_next, hung_up_next, credit_in, credit_answer, credit_next, input_answer, input_next, input_store, input_lengths, end_answer, end_next, pending_of, written_next, written_came, written_lengths}
 use Rattle.calls.specs.Call as Call
 use Rattle.calls.specs.Call.{Call, Answer}
@@ -131,7 +131,7 @@ first_with r g b =
 pub deadline_shows : (r : Runner) → deadline_of (calm r) ≡ deadline_of r
 unfolding deadline_of
 deadline_shows r =
-    let a : Bool = awaits_launch r in let f : Bool = is_fenced r.life.settling in let h : Bool = any_held r.outputs in
+    let a : Bool = awaits_launch r in let f : Bool = is_fenced r.life.settling in let h : Bool = any_held (outputs_of r) in
     ap (λ (g : (Option ℕ)). first_with r g (cond (a || (f && h)) (abandon_shown r) None)) (give_up_lem (is_cleaned_up r) r.clocks.give_up_at)
     ∙ ap (first_with r (cond (not (is_cleaned_up r)) r.clocks.give_up_at None)) (abandon a f h r.clocks.abandon_at)
   where

@@ -201,7 +201,7 @@ told_in_frames = ended Settlement.Settled (idle 0
     ∷ [])
 
 abbrev whole : Outcome
-whole = record { status = None; cause = None; launch_failure = None; stdout_truncated = false; stderr_truncated = false; reusable = true }
+whole = record { status = None; cause = None; launch_failure = None; stdout_truncated = false; stderr_truncated = false; notes_truncated = false; reusable = true }
 
 pub told_idle : AllIdle (begins none) told_in_frames
     × (answers_of (amid (begins none) told_in_frames)

@@ -16,7 +16,7 @@ use Rattle.lifecycle.specs.Setters.{set_give_up_at, set_settling}
 use Rattle.output.specs.Outputs.{any_held}
 use Rattle.runner.specs.declared.runner.Runner.{Runner}
 use Rattle.runner.specs.Life.{awaits_launch, is_cleaned_up, end_grace, give_up, abandon_launch, abandon_open_streams, begin_termination, pass_grace, terminate, pass_timeout, pass_settlement, give_up_unless_clean, pass_give_up, drop_launch, drop_streams, pass_abandonment, fire, ticked, deadline_of, timeout_cleared}
-use Rattle.runner.specs.State.{with_clocks, with_life}
+use Rattle.runner.specs.State.{with_clocks, with_life, outputs_of}
 use Rattle.std.proofs.lemmas.Bool.{and_from, and_right, or_parts, not_from_false}
 use Rattle.std.proofs.Math.Bool.{or-false}
 use Rattle.account.proofs.Flags.{either}
@@ -40,7 +40,7 @@ earliest_due (Some a) (Some b) now = by (ltb b a) (leb a now) (leb b now) refl r
 
 -- abandonment counts while there is something for it to do
 abbrev abandons : Runner → Bool
-abandons r = awaits_launch r || (is_fenced r.life.settling && any_held r.outputs)
+abandons r = awaits_launch r || (is_fenced r.life.settling && any_held (outputs_of r))
 
 -- what is not due, where the deadline is not
 module _ (now : ℕ) (r : Runner) where
@@ -92,13 +92,13 @@ module _ (now : ℕ) (r : Runner) where
       by false c e = rw e refl
 
   -- abandonment is not due, or finds nothing to abandon
-  nothing_to_abandon : (a f h : Bool) → awaits_launch r ≡ a → is_fenced r.life.settling ≡ f → any_held r.outputs ≡ h → (a || (f && h)) ≡ false
+  nothing_to_abandon : (a f h : Bool) → awaits_launch r ≡ a → is_fenced r.life.settling ≡ f → any_held (outputs_of r) ≡ h → (a || (f && h)) ≡ false
       → calm (drop_streams (drop_launch r)) ≡ calm r
   unfolding drop_streams drop_launch
   nothing_to_abandon true f h ea ef eh e = absurd (true≢false e)
   nothing_to_abandon false true true ea ef eh e = absurd (true≢false e)
   nothing_to_abandon false true false ea ef eh e =
-      moot_drops true r (and_from _ _ (and_from _ _ (not_from_false (awaits_launch r) ea) ef) (not_from_false (any_held r.outputs) eh))
+      moot_drops true r (and_from _ _ (and_from _ _ (not_from_false (awaits_launch r) ea) ef) (not_from_false (any_held (outputs_of r)) eh))
   nothing_to_abandon false false h ea ef eh e =
       let l : drop_launch r ≡ r = rw ea in
       let s : drop_streams r ≡ r = rw ef in
@@ -112,7 +112,7 @@ module _ (now : ℕ) (r : Runner) where
           → calm (cond d (drop_streams (drop_launch r)) r) ≡ calm r
       by a false ea ed e = refl
       by true true ea ed e = absurd (true≢false (sym ed ∙ e))
-      by false true ea ed e = nothing_to_abandon (awaits_launch r) (is_fenced r.life.settling) (any_held r.outputs) refl refl refl ea
+      by false true ea ed e = nothing_to_abandon (awaits_launch r) (is_fenced r.life.settling) (any_held (outputs_of r)) refl refl refl ea
 
   fire_idle : Waits → calm (fire r now) ≡ calm r
   unfolding fire pass_timeout pass_grace pass_settlement

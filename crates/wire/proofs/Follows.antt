@@ -1,7 +1,7 @@
 -- Over whatever wire: where each entry is heard as its messages are told, so is a list; and what the peer has of it is what the
 -- messages give.
 use Rattle.std.specs.Prelude.{Option, Result, Some, None, Ok, Err}
-use mathlib.Core.Bool.{Bool, true, false, cond, ◌||◌, true≢false}
+use mathlib.Core.Bool.{Bool, true, false, cond, ◌||◌, true≢false, not}
 use mathlib.Core.Path.{◌≡◌, refl, sym, ap, ◌∙◌, subst, subst⁻¹}
 use mathlib.Core.List.{List, [], ◌∷◌, ◌++◌, append-nil, append_assoc}
 use Prim.Native.Nat.{ℕ, suc, ◌+◌}

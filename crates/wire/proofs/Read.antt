@@ -10,7 +10,7 @@ use lib.Dec.{eqb}
 use lib.IntN.{negsuc}
 use lib.ListN.{length, take, drop, get_or, length-append}
 use lib.Seq.{take_at}
-use borrow.Author.Tests.{leb-true, eq-eqb, ne_eqb}
+use borrow.Author.Tests.{leb-true, eq-eqb, ne_eqb, eqb-true}
 use Rattle.exec.specs.declared.Limits.{Limits}
 use Rattle.exec.specs.declared.Status.{Status}
 use Rattle.exec.specs.declared.Status.TheVariants.{Exited}
@@ -36,7 +36,8 @@ use Rattle.codec.specs.Codec as Codec
 use Rattle.codec.specs.Codec.{start, size, Fits, laid_record}
 use Rattle.codec.specs.CodecLaws.{Holds, start_least}
 use Rattle.codec.proofs.RoundTrip.{read_is}
-use Rattle.codec.specs.RoundTrip.{payload_back, laid_front, laid_reads}
+use Rattle.codec.specs.RoundTrip.{payload_back, laid_front}
+use Rattle.codec.proofs.RoundTrip.{laid_reads}
 use Rattle.exits.specs.Exit as Exits
 use Rattle.exits.specs.Exit.{request, is_told, is_untold, ending}
 use Rattle.exits.specs.RoundTrip.{Tells, forth}

@@ -64,6 +64,7 @@ cut = record {
   launch_failure = None;
   stdout_truncated = true;
   stderr_truncated = false;
+  notes_truncated = false;
   reusable = true;
 }
 
