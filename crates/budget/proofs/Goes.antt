@@ -29,6 +29,7 @@ use Rattle.runner.specs.Life.{settled_next}
 use Rattle.runner.specs.Message.{choose, effect, output_sent, output_paid, wish, wish_effect}
 use Rattle.runner.specs.Streams as Streams
 use Rattle.runner.specs.Streams.{output_next, discarded_next, closed_next, failed_next, hung_up_next, credit_next, input_answer, input_next, input_lengths, end_next, written_next}
+use Rattle.calls.specs.Call as Call
 use Rattle.calls.specs.Call.{Call, Answer}
 use Rattle.account.specs.Step.{State, received_as, asks}
 use Rattle.account.specs.InputClaim.{is_applied}

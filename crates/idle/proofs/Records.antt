@@ -12,7 +12,7 @@ use lib.Dec.{leb, eqb}
 use lib.ListN.{length, take, drop}
 use Rattle.exec.specs.declared.Pool.TheVariants as Pools
 use Rattle.exec.specs.declared.Refusal.TheVariants.{UntoldStatus, NotAChannel, NotFramed}
-use Rattle.exec.specs.declared.Stream.TheVariants.{Stdout, Stderr}
+use Rattle.exec.specs.declared.Stream.TheVariants.{Stdout, Stderr, Notes}
 use Rattle.codec.specs.declared.Record.{Record}
 use Rattle.codec.specs.Codec as Codec
 use Rattle.framing.specs.declared.Frame.{Frame}
@@ -77,6 +77,7 @@ unfolding Channel.made next answer
 record_made (Record.Adjust n) now b s = credit_sees s Pools.Output n
 record_made (Record.Data n) now b s = input_sees s (drop 9 b)
 record_made (Record.Extended n) now b s = getting s _
+record_made (Record.Notes n) now b s = getting s _
 record_made Record.Eof now b s = end_sees s
 record_made Record.Close now b s =
     as_noted (Calls.disconnect (calm s.runner) now).answer (Calls.disconnect s.runner now).answer (call_sees (Call.disconnect now) s)
@@ -135,6 +136,7 @@ unfolding Frames.made next answer
 frame_made (Frame.Update x n) now b s = credit_sees s (Frames.pool_of x) n
 frame_made (Frame.Data Stdout n ends) now b s = data_sees ends (drop 9 b) s
 frame_made (Frame.Data Stderr n ends) now b s = getting s _
+frame_made (Frame.Data Notes n ends) now b s = getting s _
 frame_made (Frame.Reset x) now b s =
     as_noted (Calls.reset (calm s.runner) now).answer (Calls.reset s.runner now).answer (call_sees (Call.reset now) s)
 
