@@ -40,13 +40,16 @@ framed_stream l s h = and_r _ _ h
 pub framed_plain : (l : Limits) (s : ℕ) → is_framed l s ≡ true → is_plain l ≡ true
 framed_plain l s h = and_l (is_plain l) (is_small l) (and_l (is_plain l && is_small l) (is_stream s) h)
 
+-- limits of frames have two streams
+pub framed_two : (l : Limits) (s : ℕ) → is_framed l s ≡ true → has_notes l ≡ false
+framed_two l s h = not-true (has_notes l) (and_r (not l.shared && is_bytes l.input.unit && is_bytes l.output.unit) (not (has_notes l)) (framed_plain l s h))
+
 -- a stream that is open has frames
 pub framed_open : (l : Limits) (s : ℕ) (x : Stream) → is_framed l s ≡ true → has l x ≡ true → has_frames x ≡ true
 framed_open l s Stdout h o = refl
 framed_open l s Stderr h o = refl
 framed_open l s Notes h o =
-    let two = and_r (not l.shared && is_bytes l.input.unit && is_bytes l.output.unit) (not (has_notes l)) (framed_plain l s h) in
-    absurd (true≢false (sym o ∙ not-true (has_notes l) two))
+    absurd (true≢false (sym o ∙ framed_two l s h))
 
 unit_bytes : (u : Units.Unit) → is_bytes u ≡ true → u ≡ Bytes
 unit_bytes Bytes h = refl

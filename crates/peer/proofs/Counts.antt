@@ -2,7 +2,7 @@
 use mathlib.Core.Bool.{Bool, true, false, cond, not, ◌&&◌, ◌||◌, true≢false}
 use mathlib.Core.Path.{◌≡◌, refl, sym, ap, ◌∙◌, subst⁻¹}
 use mathlib.Core.List.{List, [], ◌∷◌, ◌++◌, append-nil}
-use Prim.Native.Nat.{◌+◌}
+use Prim.Native.Nat.{ℕ, ◌+◌}
 use native.Mathlib.Omega.{arith}
 use Rattle.exec.specs.declared.Outcome.{Outcome}
 use Rattle.exec.specs.declared.Stream.{Stream}
@@ -20,36 +20,36 @@ use Rattle.wire.specs.Heard.{joined, count, once, told_by}
 use Rattle.wire.proofs.Ends.{ends_all, OnceAt, Once, ends_so}
 use Rattle.wire.proofs.Follows.{count_append}
 use Rattle.wire.proofs.Order.{Final}
-use Rattle.peer.specs.Framed.{Heard, Reset, bytes_in, units_in, is_ended, is_reset, is_on, is_unread, speaks}
+use Rattle.peer.specs.Framed.{Heard, Reset, bytes_in, units_in, is_ended, is_reset, is_on, is_unread, reset_in, speaks}
 
 -- ---- a message
 
--- of the resets of a Terminal holds what holds of none, of one, and of two
-resets_by : (P : List Heard → Type 0) → P [] → P (Reset Stdout ∷ []) → P (Reset Stderr ∷ []) → P (Reset Stdout ∷ Reset Stderr ∷ [])
-    → (o : Outcome) (t u v : Bool) → P (speaks (record { stdout = t; stderr = u; notes = v }) (Call.Terminal o))
-resets_by P none out err two o true true v = none
-resets_by P none out err two o true false v = err
-resets_by P none out err two o false true v = out
-resets_by P none out err two o false false v = two
+-- of the resets of a Terminal holds what holds of none, and of one more
+resets_by : (P : List Heard → Type 0) → P [] → ((x : Stream) (hs : List Heard) → P hs → P (Reset x ∷ hs)) → (o : Outcome) (e : Each Bool) → P (speaks e (Call.Terminal o))
+resets_by P none more o e = by e.stdout Stdout (by e.stderr Stderr (by e.notes Notes none))
+  where
+    by : (b : Bool) (x : Stream) {hs : List Heard} → P hs → P (cond b [] (Reset x ∷ []) ++ hs)
+    by true x p = p
+    by false x p = more x _ p
 
 pub bytes_told : (x : Stream) (e : Each Bool) (m : Message) → joined (bytes_in x) (speaks e m) ≡ carried_by x m
 bytes_told x e (Call.Output y b) = append-nil _
-bytes_told x e (Call.Terminal o) = resets_by (λ (hs : List Heard). joined (bytes_in x) hs ≡ []) refl refl refl refl o e.stdout e.stderr e.notes
+bytes_told x e (Call.Terminal o) = resets_by (λ (hs : List Heard). joined (bytes_in x) hs ≡ []) refl (λ y hs h. h) o e
 bytes_told x e _ = refl
 
 pub units_told : (e : Each Bool) (m : Message) → joined units_in (speaks e m) ≡ credit_in m
-units_told e (Call.Terminal o) = resets_by (λ (hs : List Heard). joined units_in hs ≡ []) refl refl refl refl o e.stdout e.stderr e.notes
+units_told e (Call.Terminal o) = resets_by (λ (hs : List Heard). joined units_in hs ≡ []) refl (λ y hs h. h) o e
 units_told e _ = refl
 
 pub unread_none : (e : Each Bool) (m : Message) → count is_unread (speaks e m) ≡ 0
-unread_none e (Call.Terminal o) = resets_by (λ (hs : List Heard). count is_unread hs ≡ 0) refl refl refl refl o e.stdout e.stderr e.notes
+unread_none e (Call.Terminal o) = resets_by (λ (hs : List Heard). count is_unread hs ≡ 0) refl (λ y hs h. h) o e
 unread_none e _ = refl
 
 -- ---- how many
 
 module _ (x : Stream) where
   ended_told : (e : Each Bool) (m : Message) → count (is_ended x) (speaks e m) ≡ once (is_end x m)
-  ended_told e (Call.Terminal o) = resets_by (λ (hs : List Heard). count (is_ended x) hs ≡ 0) refl refl refl refl o e.stdout e.stderr e.notes
+  ended_told e (Call.Terminal o) = resets_by (λ (hs : List Heard). count (is_ended x) hs ≡ 0) refl (λ y hs h. h) o e
   ended_told e _ = refl
 
   -- an End of a stream whose End was not told makes one more
@@ -72,58 +72,51 @@ module _ (x : Stream) where
       let d = ends_told ms (ends_by m e) f.1 in
       omega arith
 
-  -- Terminal, which is the last, is one reset of a stream whose End was not told
-  -- (frames have two streams: the End of a third counts as told)
-  one_reset : (x : Stream) (o : Outcome) (t u : Bool) → let e : Each Bool = record { stdout = t; stderr = u; notes = true } in count (is_reset x) (speaks e (Call.Terminal o)) ≡ once (not (one x e))
-  one_reset Stdout o true true = refl
-  one_reset Stdout o true false = refl
-  one_reset Stdout o false true = refl
-  one_reset Stdout o false false = refl
-  one_reset Stderr o true true = refl
-  one_reset Stderr o true false = refl
-  one_reset Stderr o false true = refl
-  one_reset Stderr o false false = refl
-  one_reset Notes o true true = refl
-  one_reset Notes o true false = refl
-  one_reset Notes o false true = refl
-  one_reset Notes o false false = refl
+  -- of a stream's own frames there is one where it is reset
+  single : (p : Heard → Bool) → ((y : Stream) → p (Reset y) ≡ same_stream y x) → (y : Stream) (b : Bool) → count p (cond b [] (Reset y ∷ [])) ≡ cond (same_stream y x) (once (not b)) 0
+  single p h y true = by (same_stream y x)
+    where
+      by : (b : Bool) → ◌≡◌ {A = ℕ} 0 (cond b 0 0)
+      by true = refl
+      by false = refl
+  single p h y false = rw (h y) refl
 
-  pub resets_told : (ms : List Message) (e : Each Bool) → e.notes ≡ true → Final ms
+  -- Terminal, which is the last, is one reset of a stream whose End was not told
+  resets_are : (p : Heard → Bool) → ((y : Stream) → p (Reset y) ≡ same_stream y x) → (o : Outcome) (e : Each Bool) → count p (speaks e (Call.Terminal o)) ≡ once (not (one x e))
+  resets_are p h o e =
+      let a = count_append p (reset_in e Stdout) (reset_in e Stderr ++ (reset_in e Notes ++ [])) in
+      let b = count_append p (reset_in e Stderr) (reset_in e Notes ++ []) in
+      let c = count_append p (reset_in e Notes) [] in
+      let k = single p h Stdout e.stdout in let l = single p h Stderr e.stderr in let m = single p h Notes e.notes in
+      omega (arith, a, b, c, k, l, m, own x)
+    where
+      own : (x : Stream) → cond (same_stream Stdout x) (once (not e.stdout)) 0 + (cond (same_stream Stderr x) (once (not e.stderr)) 0 + cond (same_stream Notes x) (once (not e.notes)) 0)
+          ≡ once (not (one x e))
+      own Stdout = omega arith
+      own Stderr = omega arith
+      own Notes = omega arith
+
+  pub resets_told : (ms : List Message) (e : Each Bool) → Final ms
       → count (is_reset x) (told_by speaks e ms) ≡ once (any terminal_message ms && not (one x (ends_all ms e)))
-  resets_told [] e n f = refl
-  resets_told (m ∷ ms) e n f = by m f.0 (resets_told ms (ends_by m e) (stays m) f.1)
+  resets_told [] e f = refl
+  resets_told (m ∷ ms) e f = by m f.0 (resets_told ms (ends_by m e) f.1)
     where
       by : (m : Message) → (terminal_message m ≡ true → ms ≡ [])
           → count (is_reset x) (told_by speaks (ends_by m e) ms) ≡ once (any terminal_message ms && not (one x (ends_all ms (ends_by m e))))
           → count (is_reset x) (speaks e m ++ told_by speaks (ends_by m e) ms) ≡ once ((terminal_message m || any terminal_message ms) && not (one x (ends_all ms (ends_by m e))))
       by (Call.Terminal o) f h =
           subst⁻¹ (λ (ns : List Message). count (is_reset x) (speaks e (Call.Terminal o) ++ told_by speaks e ns) ≡ once (not (one x (ends_all ns e)))) (f refl)
-          (ap (count (is_reset x)) (append-nil (speaks e (Call.Terminal o))) ∙ rw n (one_reset x o e.stdout e.stderr))
+          (ap (count (is_reset x)) (append-nil (speaks e (Call.Terminal o))) ∙ resets_are (is_reset x) (λ y. refl) o e)
       by _ f h = h
 
-      stays : (m : Message) → (ends_by m e).notes ≡ true
-      stays (Call.End Notes) = refl
-      stays (Call.End Stdout) = n
-      stays (Call.End Stderr) = n
-      stays _ = n
-
   -- of a stream whose End was told no frame is any more
-  no_reset : (x : Stream) (o : Outcome) (t u v : Bool) → let e : Each Bool = record { stdout = t; stderr = u; notes = v } in one x e ≡ true → count (is_on x) (speaks e (Call.Terminal o)) ≡ 0
-  no_reset Stdout o true true v h = refl
-  no_reset Stdout o true false v h = refl
-  no_reset Stdout o false u v h = absurd (true≢false (sym h))
-  no_reset Stderr o true true v h = refl
-  no_reset Stderr o false true v h = refl
-  no_reset Stderr o t false v h = absurd (true≢false (sym h))
-  no_reset Notes o true true v h = refl
-  no_reset Notes o true false v h = refl
-  no_reset Notes o false true v h = refl
-  no_reset Notes o false false v h = refl
+  no_reset : (o : Outcome) (e : Each Bool) → one x e ≡ true → count (is_on x) (speaks e (Call.Terminal o)) ≡ 0
+  no_reset o e t = resets_are (is_on x) (λ y. refl) o e ∙ rw t refl
 
   none_of : (e : Each Bool) (m : Message) → one x e ≡ true → is_of x m ≡ false → count (is_on x) (speaks e m) ≡ 0
   none_of e (Call.Output y b) t f = rw f refl
   none_of e (Call.End y) t f = rw f refl
-  none_of e (Call.Terminal o) t f = no_reset x o e.stdout e.stderr e.notes t
+  none_of e (Call.Terminal o) t f = no_reset o e t
   none_of e _ t f = refl
 
   pub none_on : (ms : List Message) (e : Each Bool) → one x e ≡ true → any (is_of x) ms ≡ false → count (is_on x) (told_by speaks e ms) ≡ 0

@@ -36,6 +36,7 @@ use Rattle.wire.proofs.Ends.{ends, ends_all}
 use Rattle.wire.proofs.Order.{from_open, ordered}
 use Rattle.wire.proofs.Follows.{count_append, all_front, once_true, Hears, unheard, Steps, told_append, joined_told, none_told, said_append, call_unsaid, read_unsaid, unmade_unsaid, unsent, silent_wire, told_ends, told_once, follows_so, has_sent, has_front, has_whole}
 use Rattle.peer.specs.Framed.{front, on_wire, cut_by, bytes_in, units_in, is_ended, is_reset, is_on, is_unread, heard, speaks}
+use Rattle.exec.specs.Limits.{has as has_stream, has_notes}
 use Rattle.peer.specs.Claim.{Lone, heard_of, Peer}
 use Rattle.peer.proofs.Read.{good, frame_told}
 use Rattle.peer.proofs.Counts.{bytes_told, units_told, unread_none, ends_told, resets_told, none_on}
@@ -45,7 +46,8 @@ use Rattle.peer.proofs.Counts.{bytes_told, units_told, unread_none, ends_told, r
 -- a framed runner is none for records
 unchanneled : (l : Limits) (s : ℕ) → is_framed l s ≡ true → is_channel l ≡ false
 unchanneled l s h =
-    let p = and_l (not l.shared && is_bytes l.input.unit) (is_bytes l.output.unit) (framed_plain l s h) in
+    let q = and_l (not l.shared && is_bytes l.input.unit && is_bytes l.output.unit) (not (has_notes l)) (framed_plain l s h) in
+    let p = and_l (not l.shared && is_bytes l.input.unit) (is_bytes l.output.unit) q in
     let t : l.shared ≡ false = not-true l.shared (and_l (not l.shared) (is_bytes l.input.unit) p) in
     rw t refl
 
@@ -123,9 +125,8 @@ module _ (conf : Conf) (now : ℕ) (bytes lengths : List ℕ) (s : ℕ) (op : Op
       ≡ once (any terminal_message (said conf now bytes lengths es) && not (any (is_end x) (said conf now bytes lengths es)))
   resets_at es x o l =
       let ms : List Message = said conf now bytes lengths es in
-      let none : not (has_notes conf.limits) ≡ true = rw (two_streams conf s framed) refl in
       ap (count (is_reset x)) (follows es l)
-      ∙ resets_told x ms (no_ends conf.limits) none (from_open conf now bytes lengths op es).1.final
+      ∙ resets_told x ms (no_ends conf.limits) (from_open conf now bytes lengths op es).1.final
       ∙ ap (λ (b : Bool). once (any terminal_message ms && not b)) (told_open es x o)
 
   over_at : (es : List Entry) (x : Stream) → has_stream conf.limits x ≡ true → AllOf (Lone s) es → any terminal_message (said conf now bytes lengths es) ≡ true

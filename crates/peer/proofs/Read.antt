@@ -1,10 +1,11 @@
 -- A frame that is written, at the peer: it is heard as what is to be heard of the message that was told.
+use mathlib.Core.Bool.{false≢true, true}
 use Rattle.std.specs.Prelude.{◌≡◌, refl, Bool, true, false, List, [], ◌∷◌, ◌++◌, map, ℕ, ◌+◌, eqb, length, take, drop, Option, Result, Some, None, Ok, Err}
 use Rattle.std.proofs.Common.{ap, ◌∙◌, arith, eq-eqb, ne_eqb, le-leb, length-drop, length-take-le}
 use mathlib.Core.Path.{subst⁻¹}
 use Rattle.exec.specs.declared.Refusal.{Refusal}
 use Rattle.exec.specs.declared.Stream.{Stream}
-use Rattle.exec.specs.declared.Stream.TheVariants.{Stdout, Stderr}
+use Rattle.exec.specs.declared.Stream.TheVariants.{Stdout, Stderr, Notes}
 use Rattle.exec.specs.Each.{Each}
 use Rattle.runner.specs.declared.answer.Message.{Message}
 use Rattle.runner.specs.Range.{stop, bytes_do}
@@ -14,10 +15,10 @@ use Rattle.carrier.specs.SaidLaws.{Pays, asked_long}
 use Rattle.carrier.specs.Writes.{Writes, taken, writes}
 use Rattle.framing.specs.declared.Frame.{Frame}
 use Rattle.framing.specs.declared.Frame.TheVariants.{Update, Data, Reset}
-use Rattle.framing.specs.Framing.{is_stream, start, size, fits, bytes_of, is_writable, read}
+use Rattle.framing.specs.Framing.{is_stream, start, size, fits, bytes_of, is_writable, read, named, is_framed as has_frames}
 use Rattle.framing.proofs.RoundTrip.{Says, back, payload_back, long, read_is}
 use Rattle.frames.specs.Calls.{is_framed, reset_unless, sent_as, length_all, bytes_all, laid, laying, carriage, write_frame}
-use Rattle.frames.specs.CallLaws.{framed_stream, Layable, Sayable, said_fits}
+use Rattle.frames.specs.CallLaws.{framed_stream, Layable, Sayable, said_fits, framed_two}
 use Rattle.frames.proofs.Laid.{AllWithin, laid_front, pays}
 use Rattle.calls.specs.Call as Call
 use Rattle.account.specs.Step.{State}
@@ -39,6 +40,7 @@ use Rattle.peer.proofs.Cut.{cut_first}
 abbrev as_heard : Frame → (payload : List ℕ) → Heard
 as_heard (Update Stdout units) p = Window units
 as_heard (Update Stderr units) p = Unread
+as_heard (Update Notes units) p = Unread
 as_heard (Data x n false) p = Bytes x p
 as_heard (Data x n true) p = read_if (eqb (9 + n) 9) (Ended x)
 as_heard (Reset x) p = Framed.Reset x
@@ -68,6 +70,9 @@ module _ (s : ℕ) where
           → hear s (bytes_of s f p) ≡ as_heard f p
       by (Update Stdout units) e h d n = rw (e, h.frame.0, h.frame.2, here) (ap Window h.frame.3)
       by (Update Stderr units) e h d n = rw (e, h.frame.0, h.frame.2, apart, beside) refl
+      by (Update Notes units) e h d n = absurd (false≢true h.framed)
+      by (Data Notes k ends) e h d n = absurd (false≢true h.framed)
+      by (Reset Notes) e h d n = absurd (false≢true h.framed)
       by (Data Stdout k false) e h d n = rw (e, h.frame.0, h.frame.2, here, h.frame.3) (ap (Bytes Stdout) d)
       by (Data Stderr k false) e h d n = rw (e, h.frame.0, h.frame.2, apart, beside, h.frame.3) (ap (Bytes Stderr) d)
       by (Data Stdout k true) e h d n = rw (e, h.frame.0, h.frame.2, here, h.frame.3) (ap (λ (m : ℕ). read_if (eqb m 9) (Ended Stdout)) n)
@@ -92,12 +97,12 @@ module _ (s : ℕ) where
   laid_heard fs b w h = subst⁻¹ (λ (l : List ℕ). Hears (heard s) l (all_as fs b)) (laid_front s fs b h) (all_heard fs b w h)
 
   module _ (stream : is_stream s ≡ true) where
-    writable : (f : Frame) → fits f ≡ true → is_writable s f ≡ true
+    writable : (f : Frame) → has_frames (named f) ≡ true → fits f ≡ true → is_writable s f ≡ true
     unfolding is_writable
-    writable f h = rw (stream, h) refl
+    writable f n h = rw (n, stream, h) refl
 
-    reset_fits : (x : Stream) → is_writable s (Reset x) ≡ true
-    reset_fits x = writable (Reset x) refl
+    reset_fits : (x : Stream) → has_frames x ≡ true → is_writable s (Reset x) ≡ true
+    reset_fits x n = writable (Reset x) n refl
 
     -- A MESSAGE THAT IS LAID IS WHAT THE PEER HEARS
     module _ (t u : Bool) where
@@ -105,24 +110,24 @@ module _ (s : ℕ) where
       lays = laying s t u
 
       abbrev ends_are : Each Bool
-      ends_are = record { stdout = t; stderr = u }
+      ends_are = record { stdout = t; stderr = u; notes = true }
 
       message_heard : (m : Message) (b : List ℕ) → Layable m (length b)
           → Hears (heard s) (take (lays.size m) (lays.lay m b)) (told_by speaks ends_are (said_in (message_in m (lays.size m) (lays.lay m b))))
       unfolding Layable sent_as Pays
-      message_heard (Message.Credit units) b h = laid_heard (Update Stdout units ∷ []) b (writable _ (le-leb units 2147483647 h.0), tt) (omega (arith, h.1), tt)
+      message_heard (Message.Credit units) b h = laid_heard (Update Stdout units ∷ []) b (writable _ refl (le-leb units 2147483647 h.0), tt) (omega (arith, h.1), tt)
       message_heard (Message.Output x n) b h =
-          subst⁻¹ (λ (p : List ℕ). Hears (heard s) (take (9 + n + 0) (laid s (Data x n false ∷ []) b)) (Bytes x p ∷ [])) (pays s t u x n b h.1)
-          (laid_heard (Data x n false ∷ []) b (writable _ (le-leb n 16777215 h.0), tt) (h.1, tt))
-      message_heard (Message.End x) b h = laid_heard (Data x 0 true ∷ []) b (writable _ refl, tt) (h, tt)
+          subst⁻¹ (λ (p : List ℕ). Hears (heard s) (take (9 + n + 0) (laid s (Data x n false ∷ []) b)) (Bytes x p ∷ [])) (pays s t u x n b h.2)
+          (laid_heard (Data x n false ∷ []) b (writable _ h.0 (le-leb n 16777215 h.1), tt) (h.2, tt))
+      message_heard (Message.End x) b h = laid_heard (Data x 0 true ∷ []) b (writable _ h.0 refl, tt) (h.1, tt)
       message_heard (Message.Terminal o) b h = terminal t u
         where
           terminal : (t u : Bool) → let fs = reset_unless t Stdout ++ reset_unless u Stderr in
-              Hears (heard s) (take (length_all fs) (laid s fs b)) (speaks (record { stdout = t; stderr = u }) (Call.Terminal o) ++ [])
+              Hears (heard s) (take (length_all fs) (laid s fs b)) (speaks (record { stdout = t; stderr = u; notes = true }) (Call.Terminal o) ++ [])
           terminal true true = laid_heard [] b tt tt
-          terminal true false = laid_heard (Reset Stderr ∷ []) b (reset_fits Stderr, tt) (omega (arith, h), tt)
-          terminal false true = laid_heard (Reset Stdout ∷ []) b (reset_fits Stdout, tt) (omega (arith, h), tt)
-          terminal false false = laid_heard (Reset Stdout ∷ Reset Stderr ∷ []) b (reset_fits Stdout, (reset_fits Stderr, tt)) (omega (arith, h), (omega (arith, h), tt))
+          terminal true false = laid_heard (Reset Stderr ∷ []) b (reset_fits Stderr refl, tt) (omega (arith, h), tt)
+          terminal false true = laid_heard (Reset Stdout ∷ []) b (reset_fits Stdout refl, tt) (omega (arith, h), tt)
+          terminal false false = laid_heard (Reset Stdout ∷ Reset Stderr ∷ []) b (reset_fits Stdout refl, (reset_fits Stderr refl, tt)) (omega (arith, h), (omega (arith, h), tt))
       message_heard _ b h = laid_heard [] b tt tt
 
       told_heard : (a : Result (Option Message) Refusal) (b : List ℕ) → Sayable s a (length b)
@@ -144,8 +149,10 @@ module _ (st : State) (f : Fine st) (s : ℕ) (framed : is_framed st.runner.limi
   unfolding told
   written_heard met w (taken u h) =
       let a = asked 9 st.runner st.bytes buffer in
-      told_heard s (framed_stream st.runner.limits s framed) (out_of Stdout st.runner).ended (out_of Stderr st.runner).ended a.saying.answer a.buffer
-      (said_fits st.runner s st.bytes buffer a.saying a.buffer refl framed h (asked_long 9 st.runner st.bytes buffer (omega (arith, h))))
+      let two : ends st.runner ≡ record { stdout = (out_of Stdout st.runner).ended; stderr = (out_of Stderr st.runner).ended; notes = true }
+      = rw (framed_two st.runner.limits s framed) refl in
+      rw two (told_heard s (framed_stream st.runner.limits s framed) (out_of Stdout st.runner).ended (out_of Stderr st.runner).ended a.saying.answer a.buffer
+      (said_fits st.runner s st.bytes buffer a.saying a.buffer refl framed h (asked_long 9 st.runner st.bytes buffer (omega (arith, h)))))
   written_heard met w _ = λ rest. refl
 
   -- A FRAME THAT IS WRITTEN IS HEARD AS ITS MESSAGE

@@ -10,7 +10,7 @@ use Rattle.exec.specs.declared.Settlement.TheVariants as Settlement
 use Rattle.exec.specs.declared.Stream.{Stream}
 use Rattle.exec.specs.declared.Stream.TheVariants.{Stdout, Stderr}
 use Rattle.exec.specs.Key.{admits}
-use Rattle.exec.specs.Limits.{cost, bytes_with, has_notes}
+use Rattle.exec.specs.Limits.{cost, bytes_with, has_notes, has}
 use Rattle.ring.specs.Ring.{wrap, ring_read, ring_from, ring_write}
 use Rattle.ring.specs.Runs.{copied}
 use Rattle.octets.specs.Bytes.{number_at, be32_at, be24_at}
@@ -179,6 +179,7 @@ lone : AllOf (Lone 1) entries
 lone = (refl, (tt, (tt, (refl, (refl, (refl, (refl, (refl, (refl, (refl, (refl, (refl, (refl, (refl, (refl, (refl, (refl, (refl, tt))))))))))))))))))
 
 claimed : Peer conf 0 (zeros 16) [] 1
+unfolding has_notes
 claimed = known conf 0 (zeros 16) [] 1 (open_ok (zeros 16) [] (omega arith)) refl
 
 -- the peer has all that the program handed over
@@ -192,5 +193,5 @@ session_whole = (
 lone_broken : AllOf (Lone 1) broken
 lone_broken = (refl, (tt, (refl, (refl, (refl, (refl, (tt, (refl, (refl, (refl, (refl, (refl, tt))))))))))))
 
-pub broken_over : (x : Stream) → count (is_ended x) (heard_of conf 0 (zeros 16) [] 1 broken) + count (is_reset x) (heard_of conf 0 (zeros 16) [] 1 broken) ≡ 1
-broken_over x = claimed.over broken x lone_broken computed.6
+pub broken_over : (x : Stream) → has conf.limits x ≡ true → count (is_ended x) (heard_of conf 0 (zeros 16) [] 1 broken) + count (is_reset x) (heard_of conf 0 (zeros 16) [] 1 broken) ≡ 1
+broken_over x o = claimed.over broken x o lone_broken computed.6
