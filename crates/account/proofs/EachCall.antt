@@ -41,7 +41,7 @@ use Rattle.calls.specs.Call.{Conf, Call, Answer, is_refused}
 use Rattle.account.specs.Step.{State, received_as}
 use Rattle.account.specs.Account
 use Rattle.account.specs.Account.{Tally, tally_of, marked, sent_by, mk, adds, add, hear, heard, on_tally, taken_by, launch_r, close_r, hang_r, settling_r}
-use Rattle.account.proofs.Plain.{said, next, answer, if_open, by_open}
+use Rattle.account.proofs.Plain.{said, next, answer, if_open, by_open, open_keeps}
 use Rattle.account.proofs.Stages.{launched_if}
 use Rattle.account.proofs.Rings.{ring}
 use Rattle.account.proofs.Sides.{on_out, on_one_lem, third, third_or, is_over, place, placed, base_behind, bases_apart}
@@ -304,9 +304,6 @@ output_length x b st s o n f =
     let i = f.inside in let w = f.within in let z = base_behind s.limits x in let p = placed s.limits x o in
     write_length (base x s.limits.chunk) s.limits.chunk (out_of x s).start (out_of x s).queued b (keeps (is_shut x s) (out_of x s).discarding (room x s) (length b)) st (omega arith) (omega arith) has (omega arith)
 
-open_length : (s t : State) (x : Stream) → length t.bytes ≡ length s.bytes → length (cond (has s.runner.limits x) t s).bytes ≡ length s.bytes
-open_length s t x h = either (λ (u : State). length u.bytes ≡ length s.bytes) (has s.runner.limits x) t s h refl
-
 bytes_length : (c : Call) (s : State) → RangedS s → Roomy s → length (next s c).bytes ≡ length s.bytes
 unfolding next input_store
 bytes_length (Call.input k b) s r m =
@@ -314,10 +311,10 @@ bytes_length (Call.input k b) s r m =
     taken_length (is_taken x u) b s.bytes u m r.2.1 (kept_room b s r)
 bytes_length (Call.output x b) s r m =
     by_open (λ (t : State) (q : Answer). length t.bytes ≡ length s.bytes) s _ x Call.Ok (λ o. output_length x b s.bytes s.runner o m (r.0 x)) refl
-bytes_length (Call.discarded x n) s r m = open_length s _ x refl
-bytes_length (Call.output_closed x) s r m = open_length s _ x refl
-bytes_length (Call.output_failed x) s r m = open_length s _ x refl
-bytes_length (Call.output_hung_up x) s r m = open_length s _ x refl
+bytes_length (Call.discarded x n) s r m = open_keeps (λ (t : State). length t.bytes ≡ length s.bytes) s _ x refl refl
+bytes_length (Call.output_closed x) s r m = open_keeps (λ (t : State). length t.bytes ≡ length s.bytes) s _ x refl refl
+bytes_length (Call.output_failed x) s r m = open_keeps (λ (t : State). length t.bytes ≡ length s.bytes) s _ x refl refl
+bytes_length (Call.output_hung_up x) s r m = open_keeps (λ (t : State). length t.bytes ≡ length s.bytes) s _ x refl refl
 bytes_length _ s r m = refl
 
 pub roomy_next : (c : Call) (s : State) → RangedS s → Roomy s → Roomy (next s c)

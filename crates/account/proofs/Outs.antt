@@ -2,7 +2,7 @@
 -- an output in nine ways.
 use Rattle.std.specs.Prelude.{Option, Some}
 use Rattle.runner.specs.declared.answer.Request.{Request}
-use mathlib.Core.Bool.{Bool, false, cond, ◌||◌, true≢false}
+use mathlib.Core.Bool.{Bool, false, ◌||◌, true≢false}
 use mathlib.Core.Path.{◌≡◌, refl, subst⁻¹}
 use Prim.Native.Nat.{ℕ}
 use lib.Dec.{ltb}
@@ -11,7 +11,7 @@ use mathlib.Core.List.{List}
 use Rattle.exec.specs.declared.Cause.{Cause}
 use Rattle.exec.specs.declared.Stream.{Stream}
 use Rattle.exec.specs.Key.{admits}
-use Rattle.exec.specs.Limits.{has, has_notes}
+use Rattle.exec.specs.Limits.{has_notes}
 use Rattle.choice.specs.declared.Choice.{Choice}
 use Rattle.output.specs.declared.Output.{Output}
 use Rattle.output.specs.Output.{grace_ended, given_up, abandoned, asked_out, closed_out, failed_out, hung_up, lost_out, intake}
@@ -23,8 +23,7 @@ use Rattle.runner.specs.Streams.{is_shut, room, output_next, discarded_next, clo
 use Rattle.calls.specs.Call.{Call}
 use Rattle.account.specs.Step.{State}
 use Rattle.account.specs.Claim.{is_message}
-use Rattle.account.proofs.Plain.{said, next, answer}
-use Rattle.account.proofs.Flags.{either}
+use Rattle.account.proofs.Plain.{said, next, answer, open_keeps}
 use Rattle.account.proofs.Sides.{out_each, on_out}
 use Rattle.account.proofs.Timers.{Kept, tick_keeps, cancel_keeps, detach_keeps, exited_keeps, launched_keeps}
 
@@ -64,10 +63,6 @@ module _ (P : Stream → Output → Type 0) (h : Stands P) where
     abandons = λ r p x. rw (out_each (has_notes r.limits) r.outputs abandoned refl x) (h.abandons x (out_of x r) (p x));
   }
 
-  -- a call that names a stream: where that is not open, nothing changes
-  named : (x : Stream) (s t : State) → All P s.runner → All P t.runner → All P (cond (has s.runner.limits x) t s).runner
-  named x s t p q = either (λ (u : State). All P u.runner) (has s.runner.limits x) t s q p
-
   wished_keeps : (w : Option Request) (r : Runner) → All P r → All P (wish_effect w r)
   unfolding wish_effect
   wished_keeps (Some (Request.Discard x)) r p = on x asked_out r (h.asked x (out_of x r)) p
@@ -86,9 +81,9 @@ module _ (P : Stream → Output → Type 0) (h : Stands P) where
   quiet_keeps Call.next_request s e p = wished_keeps (wish s.runner) s.runner p
   quiet_keeps (Call.output x b) s e p =
       let r : Runner = s.runner in
-      named x s _ p (on x (intake (is_shut x r) (out_of x r).discarding (room x r) (length b)) r (h.takes x r.flags.gave_up (out_of x r).discarding (room x r) (length b) (out_of x r)) p)
-  quiet_keeps (Call.discarded x n) s e p = named x s _ p (on x (lost_out (ltb 0 n)) s.runner (h.loses x (ltb 0 n) (out_of x s.runner)) p)
-  quiet_keeps (Call.output_closed x) s e p = named x s _ p (on x closed_out s.runner (h.closes x (out_of x s.runner)) p)
-  quiet_keeps (Call.output_failed x) s e p = named x s _ p (on x failed_out s.runner (h.fails x (out_of x s.runner)) p)
-  quiet_keeps (Call.output_hung_up x) s e p = named x s _ p (on x hung_up s.runner (h.hangs x (out_of x s.runner)) p)
+      open_keeps (λ (u : State). All P u.runner) s _ x (on x (intake (is_shut x r) (out_of x r).discarding (room x r) (length b)) r (h.takes x r.flags.gave_up (out_of x r).discarding (room x r) (length b) (out_of x r)) p) p
+  quiet_keeps (Call.discarded x n) s e p = open_keeps (λ (u : State). All P u.runner) s _ x (on x (lost_out (ltb 0 n)) s.runner (h.loses x (ltb 0 n) (out_of x s.runner)) p) p
+  quiet_keeps (Call.output_closed x) s e p = open_keeps (λ (u : State). All P u.runner) s _ x (on x closed_out s.runner (h.closes x (out_of x s.runner)) p) p
+  quiet_keeps (Call.output_failed x) s e p = open_keeps (λ (u : State). All P u.runner) s _ x (on x failed_out s.runner (h.fails x (out_of x s.runner)) p) p
+  quiet_keeps (Call.output_hung_up x) s e p = open_keeps (λ (u : State). All P u.runner) s _ x (on x hung_up s.runner (h.hangs x (out_of x s.runner)) p) p
   quiet_keeps _ s e p = p

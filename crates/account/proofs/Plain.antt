@@ -123,6 +123,10 @@ by_open P s t x a h k = by (has s.runner.limits x) h
     by true h = h refl
     by false h = k
 
+-- of the state alone
+pub open_keeps : (P : State → Type 0) (s t : State) (x : Stream) → P t → P s → P (cond (has s.runner.limits x) t s)
+open_keeps P s t x h k = by_open (λ (u : State) (a : Answer). P u) s t x Call.Ok (λ o. h) k
+
 -- the stores that a call is lent do
 unfoldable pub enough : State → Call → Bool
 enough s (Call.input k b) = bytes_do s.runner.limits s.bytes && lengths_do s.runner.limits s.lengths

@@ -48,7 +48,7 @@ use Rattle.runner.specs.Streams as Streams
 use Rattle.runner.specs.Streams.{is_shut, credits_in, credits_after, credit_next, is_taken, input_next, input_lengths, end_next, written_next, output_next, discarded_next, closed_next, failed_next, hung_up_next}
 use Rattle.calls.specs.Call.{Conf, Call}
 use Rattle.account.specs.Step.{State}
-use Rattle.account.proofs.Plain.{next, begun, after_all}
+use Rattle.account.proofs.Plain.{next, begun, after_all, open_keeps}
 use Rattle.account.proofs.Streams.{Fits}
 use Rattle.account.proofs.Sides.{out_each, out_open, of_every, on_out}
 use Rattle.std.proofs.lemmas.Bool.{and_from, or_left, or_right}
@@ -177,10 +177,6 @@ module _ (ls : List ℕ) where
 abbrev pub RangedS : State → Type 0
 RangedS s = Ranged s.lengths s.runner
 
--- a call that names a stream: where that is not open, nothing changes
-named : (x : Stream) (s t : State) → RangedS s → RangedS t → RangedS (cond (has s.runner.limits x) t s)
-named x s t h k = either RangedS (has s.runner.limits x) t s k h
-
 pub range_next : (c : Call) (s : State) → RangedS s → RangedS (next s c)
 unfolding next credit_next input_next input_lengths end_next output_next discarded_next closed_next failed_next hung_up_next written_next Streams.written_lengths settled_next
 range_next (Call.credit k p u) s h =
@@ -195,16 +191,16 @@ range_next (Call.cancel now k c) s h = cancel_keeps _ (timed s.lengths) (admits 
 range_next (Call.launched x) s h = launched_keeps _ (timed s.lengths) x s.runner h
 range_next (Call.output x b) s h =
     let r : Runner = s.runner in
-    named x s _ h (
+    open_keeps RangedS s _ x (
       on_out (has_notes r.limits) r.outputs (Queue r.limits.chunk) x _ (kept_range r.limits.chunk (out_of x r).start (out_of x r).queued (is_shut x r) (out_of x r).discarding (length b) (h.0 x)) h.0,
       h.1,
       h.2,
       h.3,
-    )
-range_next (Call.discarded x n) s h = named x s _ h (queue_kept s.lengths x (lost_out (ltb 0 n)) s.runner refl refl h)
-range_next (Call.output_closed x) s h = named x s _ h (queue_kept s.lengths x closed_out s.runner refl refl h)
-range_next (Call.output_failed x) s h = named x s _ h (queue_kept s.lengths x failed_out s.runner refl refl h)
-range_next (Call.output_hung_up x) s h = named x s _ h (queue_kept s.lengths x hung_up s.runner refl refl h)
+    ) h
+range_next (Call.discarded x n) s h = open_keeps RangedS s _ x (queue_kept s.lengths x (lost_out (ltb 0 n)) s.runner refl refl h) h
+range_next (Call.output_closed x) s h = open_keeps RangedS s _ x (queue_kept s.lengths x closed_out s.runner refl refl h) h
+range_next (Call.output_failed x) s h = open_keeps RangedS s _ x (queue_kept s.lengths x failed_out s.runner refl refl h) h
+range_next (Call.output_hung_up x) s h = open_keeps RangedS s _ x (queue_kept s.lengths x hung_up s.runner refl refl h) h
 range_next (Call.input_written n) s h = (h.0, h.1, written_range s.runner.limits s.lengths n s.runner.input h.2, h.3)
 range_next Call.input_closed s h = (timed s.lengths).closes s.runner h
 range_next (Call.exited now x) s h = exited_keeps _ (timed s.lengths) now x s.runner h

@@ -1,5 +1,5 @@
 -- Every call keeps the phase that an Applied cancel begins, and after give-up lets the messages left be no more.
-use Rattle.exec.specs.Limits.{has, has_notes}
+use Rattle.exec.specs.Limits.{has_notes}
 use Rattle.std.specs.Prelude.{Option, Result, Some, None, Ok, Err}
 use Rattle.exec.specs.declared.Admission.TheVariants.{Own}
 use Rattle.exec.specs.declared.Admission.{Admission}
@@ -35,7 +35,7 @@ use Rattle.runner.specs.Streams.{room, output_filled, output_next, discarded_nex
 use Rattle.runner.specs.Message.{choose, plain, output_paid, output_sent, effect, wish, handed, wish_effect}
 use Rattle.calls.specs.Call.{Call}
 use Rattle.account.specs.Step.{State}
-use Rattle.account.proofs.Plain.{next}
+use Rattle.account.proofs.Plain.{next, open_keeps}
 use Rattle.account.proofs.Flags.{either}
 use Rattle.account.proofs.Stages.{grace_if, terminate_if, timeout_if, give_up_if, drop_launch_if, abandon_streams_if, abandon_if, stage1, stage2, stage3, stage4, stage5, tick_if, tick_is, cancel_if, late, detached_now, detach_if, exited_if, launched_if, cancel_next}
 use Rattle.account.proofs.Streams.{wider}
@@ -249,10 +249,6 @@ module _ (P : Option ℕ → Type 0) (lower : (d e : Option ℕ) → P d → P (
   low_effect (Choice.Output x n) s h = low_sent x n s h
   low_effect _ s h = record { hold = h; less = λ n. le_refl (left_over s) }
 
-  -- a call that names a stream: where that is not open, nothing changes
-  named : (x : Stream) (s t : State) → Phase P s.runner → Low s.runner t.runner → Low s.runner (cond (has s.runner.limits x) t s).runner
-  named x s t h q = either (λ (u : State). Low s.runner u.runner) (has s.runner.limits x) t s q (same h)
-
   -- every call keeps the phase, and after give-up lets the messages left be no more
   pub low_next : (c : Call) (s : State) → Phase P s.runner → Low s.runner (next s c).runner
   unfolding next credit_next input_next end_next launched_next output_next discarded_next closed_next failed_next hung_up_next written_next settled_next receive_input written_input
@@ -270,11 +266,11 @@ module _ (P : Option ℕ → Type 0) (lower : (d e : Option ℕ) → P d → P (
   low_next (Call.launched x) s h = low_launched_if (awaits_launch s.runner) x s.runner refl h
   low_next (Call.output x b) s h =
       let r : Runner = s.runner in
-      named x s _ h (low_high r (output_filled r x (length b)) _ (low_out x r _ (kept_intake r.flags.gave_up (room x r) (length b) (out_of x r)) h))
-  low_next (Call.discarded x n) s h = named x s _ h (low_at x (lost_out (ltb 0 n)) s.runner (kept_discard (ltb 0 n)) h)
-  low_next (Call.output_closed x) s h = named x s _ h (low_at x closed_out s.runner kept_close h)
-  low_next (Call.output_failed x) s h = named x s _ h (low_at x failed_out s.runner kept_fail h)
-  low_next (Call.output_hung_up x) s h = named x s _ h (low_at x hung_up s.runner kept_hang h)
+      open_keeps (λ (u : State). Low r u.runner) s _ x (low_high r (output_filled r x (length b)) _ (low_out x r _ (kept_intake r.flags.gave_up (room x r) (length b) (out_of x r)) h)) (same h)
+  low_next (Call.discarded x n) s h = open_keeps (λ (u : State). Low s.runner u.runner) s _ x (low_at x (lost_out (ltb 0 n)) s.runner (kept_discard (ltb 0 n)) h) (same h)
+  low_next (Call.output_closed x) s h = open_keeps (λ (u : State). Low s.runner u.runner) s _ x (low_at x closed_out s.runner kept_close h) (same h)
+  low_next (Call.output_failed x) s h = open_keeps (λ (u : State). Low s.runner u.runner) s _ x (low_at x failed_out s.runner kept_fail h) (same h)
+  low_next (Call.output_hung_up x) s h = open_keeps (λ (u : State). Low s.runner u.runner) s _ x (low_at x hung_up s.runner kept_hang h) (same h)
   low_next (Call.input_written n) s h =
       let r : Runner = s.runner in
       low_input r _ (kept_written r.input.closed r.input (close_when_taken (pop_in r.limits n s.lengths r.input)) refl h.0) h

@@ -36,7 +36,7 @@ use Rattle.account.specs.Step as Step
 use Rattle.account.specs.Step.{State, received_as}
 use Rattle.account.specs.Records.{run_entries, calls_of}
 use Rattle.account.specs.Units.{units_in, is_late, late_cost, cleared, lost_by, lost, Units}
-use Rattle.account.proofs.Plain.{next, answer, begun}
+use Rattle.account.proofs.Plain.{next, answer, begun, open_keeps}
 use Rattle.account.proofs.Finish.{framed, framed_conf, fin_stays, ends, ends_by, ends_fin}
 use Rattle.account.proofs.Demand.{Fine, fine_next, next_same, answer_same, fine_open, open_same, lent_open}
 use Rattle.account.proofs.Records.{to_calls}
@@ -142,7 +142,7 @@ moved r r' m = moved_units r.limits r.input r'.input m
 
 -- a call that names a stream leaves the input
 named_units : (s t : State) (x : Stream) → t.runner.input ≡ s.runner.input → units_in s.runner.limits (cond (has s.runner.limits x) t s).runner.input + 0 ≡ units_of s
-named_units s t x e = either (λ (u : State). units_in s.runner.limits u.runner.input + 0 ≡ units_of s) (has s.runner.limits x) t s (rw e (omega arith)) (omega arith)
+named_units s t x e = open_keeps (λ (u : State). units_in s.runner.limits u.runner.input + 0 ≡ units_of s) s t x (rw e (omega arith)) (omega arith)
 
 units_step : (c : Call) (s : State) (over : Bool) → s.runner.flags.finished ≡ over → Fine s → units_in s.runner.limits (next s c).runner.input + lost_by over s c ≡ units_of s
 unfolding lost_by next answer credit_next output_next discarded_next closed_next failed_next hung_up_next settled_next written_next

@@ -35,7 +35,7 @@ use Rattle.account.specs.Step as Step
 use Rattle.account.specs.Step.{State}
 use Rattle.account.specs.Claim.{Opens, is_terminal, any_terminal, messages}
 use Rattle.account.specs.Records.{call, next_entry, after_entries, run_entries, made, calls_of}
-use Rattle.account.proofs.Plain.{next, answer, begun, after_all, run}
+use Rattle.account.proofs.Plain.{next, answer, begun, after_all, run, open_keeps}
 use Rattle.account.proofs.Stages.{grace_if, timeout_if, give_up_if, drop_launch_if, abandon_streams_if, abandon_if, stage2, stage3, stage4, stage5, tick_if, tick_is, cancel_if, late, detach_if, launched_if, cancel_next}
 use Rattle.account.proofs.Lives.{Frame, ticked_frame, tick_fin}
 use Rattle.account.proofs.Finish.{framed, framed_conf, conf_list}
@@ -168,10 +168,6 @@ module _ (conf : Conf) (d t : ℕ) (below : t + conf.timers.grace + conf.timers.
   held_detach now c s e l h =
       let u : Runner = ticked s now in held_detach_if u.flags.finished u.flags.detached now c u (ticked_timers now s e) l (held_ticked now s e l h)
 
-  -- a call that names a stream: where that is not open, nothing changes
-  held_named : (s u : State) (x : Stream) → Held u.runner → Held s.runner → Held (cond (has s.runner.limits x) u s).runner
-  held_named s u x h k = either (λ (v : State). Held v.runner) (has s.runner.limits x) u s h k
-
   -- each call but an exit, by its time
   waits_next : (c : Call) (s : State) → s.runner.timers ≡ conf.timers → RunsOn t c → Waits d s.runner → Held (next s c).runner
   unfolding next credit_next input_next end_next launched_next output_next discarded_next closed_next failed_next hung_up_next written_next close_runner_input settled_next
@@ -184,11 +180,11 @@ module _ (conf : Conf) (d t : ℕ) (below : t + conf.timers.grace + conf.timers.
   waits_next (Call.launched y) s e q h = left (waits_launched d (awaits_launch s.runner) y s.runner h)
   waits_next Call.next_request s e q h = left (waits_wished d (wish s.runner) s.runner h)
   waits_next (Call.next_message b) s e q h = left (waits_effect d (choose s.runner (length b)) s.runner h)
-  waits_next (Call.output x b) s e q h = held_named s _ x (left h) (left h)
-  waits_next (Call.discarded x n) s e q h = held_named s _ x (left h) (left h)
-  waits_next (Call.output_closed x) s e q h = held_named s _ x (left h) (left h)
-  waits_next (Call.output_failed x) s e q h = held_named s _ x (left h) (left h)
-  waits_next (Call.output_hung_up x) s e q h = held_named s _ x (left h) (left h)
+  waits_next (Call.output x b) s e q h = open_keeps (λ (u : State). Held u.runner) s _ x (left h) (left h)
+  waits_next (Call.discarded x n) s e q h = open_keeps (λ (u : State). Held u.runner) s _ x (left h) (left h)
+  waits_next (Call.output_closed x) s e q h = open_keeps (λ (u : State). Held u.runner) s _ x (left h) (left h)
+  waits_next (Call.output_failed x) s e q h = open_keeps (λ (u : State). Held u.runner) s _ x (left h) (left h)
+  waits_next (Call.output_hung_up x) s e q h = open_keeps (λ (u : State). Held u.runner) s _ x (left h) (left h)
   waits_next _ s e q h = left h
 
   held_next : (c : Call) (s : State) → s.runner.timers ≡ conf.timers → RunsOn t c → Held s.runner → Held (next s c).runner

@@ -21,7 +21,7 @@ use Rattle.runner.specs.Streams.{output_next, discarded_next, closed_next, faile
 use Rattle.calls.specs.Call.{Call}
 use Rattle.account.specs.Step.{State}
 use Rattle.account.proofs.Flags.{either}
-use Rattle.account.proofs.Plain.{next}
+use Rattle.account.proofs.Plain.{next, open_keeps}
 use Rattle.talk.proofs.Told.{speaks}
 
 -- heard: a Started, an Output or an End; awaits: the launch is awaited; message: its Started is not told yet
@@ -145,4 +145,9 @@ module _ (heard : Bool) where
   begins_on (Call.disconnect now) s e p = detaches now Cause.Disconnected s.runner p
   begins_on (Call.tick now) s e p = ticks now s.runner p
   begins_on Call.next_request s e p = wishes (wish s.runner) s.runner p
+  begins_on (Call.output x b) s e p = open_keeps (λ (u : State). P u.runner) s _ x p p
+  begins_on (Call.discarded x n) s e p = open_keeps (λ (u : State). P u.runner) s _ x p p
+  begins_on (Call.output_closed x) s e p = open_keeps (λ (u : State). P u.runner) s _ x p p
+  begins_on (Call.output_failed x) s e p = open_keeps (λ (u : State). P u.runner) s _ x p p
+  begins_on (Call.output_hung_up x) s e p = open_keeps (λ (u : State). P u.runner) s _ x p p
   begins_on _ s e p = p

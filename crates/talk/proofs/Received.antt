@@ -1,4 +1,5 @@
 -- Credit and input: the judge accepts those that the runner applied, and is in step with it behind them.
+use Rattle.exec.specs.declared.Stream.{Stream}
 use Rattle.std.specs.Prelude.{◌≡◌, refl, Bool, true, false, cond, not, ◌&&◌, ◌||◌, List, [], ◌∷◌, ℕ, ◌+◌, leb, ltb, length, Result, Ok, Err}
 use Rattle.std.proofs.lemmas.Bool.{and_parts, leb-true, le-ltb}
 use Rattle.std.proofs.Common.{ap, ◌∙◌, arith}

@@ -16,7 +16,7 @@ use Rattle.runner.specs.State.{credit_at}
 use Rattle.runner.specs.Streams.{is_taken, output_next, discarded_next, closed_next, failed_next, hung_up_next, end_next, written_next}
 use Rattle.calls.specs.Call.{Call}
 use Rattle.account.specs.Step.{State}
-use Rattle.account.proofs.Plain.{next}
+use Rattle.account.proofs.Plain.{next, open_keeps}
 use Rattle.account.proofs.Timers.{Kept, tick_keeps, cancel_keeps, detach_keeps, exited_keeps, launched_keeps}
 use Rattle.judge.specs.declared.Judge.{Judge}
 use Rattle.talk.proofs.Input.{HearsIn, closes, tells, ends, writes}
@@ -75,4 +75,9 @@ module _ (j : Judge) where
   rest_on (Call.disconnect now) s e h = detach_keeps _ timed now Cause.Disconnected s.runner h
   rest_on (Call.tick now) s e h = tick_keeps _ timed now s.runner h
   rest_on Call.next_request s e h = wishes (wish s.runner) s.runner h
+  rest_on (Call.output x b) s e h = open_keeps (λ (u : State). Rest j u.runner) s _ x h h
+  rest_on (Call.discarded x n) s e h = open_keeps (λ (u : State). Rest j u.runner) s _ x h h
+  rest_on (Call.output_closed x) s e h = open_keeps (λ (u : State). Rest j u.runner) s _ x h h
+  rest_on (Call.output_failed x) s e h = open_keeps (λ (u : State). Rest j u.runner) s _ x h h
+  rest_on (Call.output_hung_up x) s e h = open_keeps (λ (u : State). Rest j u.runner) s _ x h h
   rest_on _ s e h = h
