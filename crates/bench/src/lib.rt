@@ -117,7 +117,7 @@ pub fn running(limits: Limits, timeout: u64, store: &[u8], lengths: &[u32], unit
         window,
         available: units,
     };
-    let credits = [stdout, Credit::new(window)];
+    let credits = [stdout, Credit::new(window), Credit::new(window)];
     r.credits = credits;
     r
 }

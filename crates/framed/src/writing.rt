@@ -71,7 +71,7 @@ fn one(to: &mut impl Write, store: &mut [u8]) -> io::Result<()> {
 fn none(to: &mut impl Write, store: &mut [u8]) -> io::Result<()> {
     writeln!(to, "# Terminal with no End missing")?;
     let mut buffer = [CANARY; 48];
-    reset(to, &Stream::ALL, store, &mut buffer)?;
+    reset(to, &[Stream::Stdout, Stream::Stderr], store, &mut buffer)?;
     kept(to, &buffer[43..])
 }
 
