@@ -1,0 +1,3 @@
+-- What a stream that is not open is to a maker.
+pub mod Alike
+pub mod UnopenedClaim
