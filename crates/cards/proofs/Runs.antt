@@ -114,13 +114,13 @@ module _ (o : Opening) (op : Opens o.conf o.now (zeros 65536) (zeros 1024)) wher
   whole : (ls xs : List Line) (x : Stream) → Follow s ls → (u : Untruncated x ls xs) → Ends xs u.line
   whole ls xs x f u = ends xs u.behind u.line (rw u.stands at f) (ap is_terminal u.says)
 
-  pub of_turn : (ls : List Line) → Follow s ls → Turn ls
+  pub of_turn : (ls : List Line) → Follow s ls → Turn o ls
   of_turn ls f = record {
     rows = λ x xs u. (let z = whole ls xs x f u in rw (← z.before) (t3.rows (entered (calls_of xs)) (call z.c) u.outcome x (z.says ∙ u.says) u.reports));
-    own = λ x xs u. (let z = whole ls xs x f u in rw (← z.before) (t3.own (entered (calls_of xs)) (call z.c) u.outcome x (z.says ∙ u.says) u.reports));
-    undropped = λ x xs n u p d. (let z = whole ls xs x f u in
-        t3.undropped (entered (calls_of xs)) (call z.c) u.outcome x n (z.says ∙ u.says) u.reports p (has_entered _ (calls_of xs) d));
-    unfailed = λ x xs u d. (let z = whole ls xs x f u in t3.unfailed (entered (calls_of xs)) (call z.c) u.outcome x (z.says ∙ u.says) u.reports (has_entered _ (calls_of xs) d));
+    own = λ x xs i u. (let z = whole ls xs x f u in rw (← z.before) (t3.own (entered (calls_of xs)) (call z.c) u.outcome x i (z.says ∙ u.says) u.reports));
+    undropped = λ x xs n i u p d. (let z = whole ls xs x f u in
+        t3.undropped (entered (calls_of xs)) (call z.c) u.outcome x n i (z.says ∙ u.says) u.reports p (has_entered _ (calls_of xs) d));
+    unfailed = λ x xs i u d. (let z = whole ls xs x f u in t3.unfailed (entered (calls_of xs)) (call z.c) u.outcome x i (z.says ∙ u.says) u.reports (has_entered _ (calls_of xs) d));
     final = λ x xs ys l e h. (let z = ends xs ys l (rw e at f) h in
         let calls = ap calls_of e ∙ calls_append xs (l ∷ ys) ∙ ap (λ (k : Option Call). calls_of xs ++ (made_of k ++ calls_of ys)) z.is in
         let all : entered (calls_of ls) ≡ entered (calls_of xs) ++ (call z.c ∷ entered (calls_of ys)) = ap entered calls ∙ entered_append (calls_of xs) (z.c ∷ calls_of ys) in

@@ -95,7 +95,7 @@ abbrev opening : Opening
 opening = record { conf = timed None; now = 1000 }
 
 first : answer_of First (bytes "open,1000,7,2,4,B,8,B,8,0,never,10,5") ≡ record { stage = Running (just_opened opening); answer = Call.Ok }
-unfolding calls timeout open_of is_open opening_of limits_of timers_of smallest_of
+unfolding calls timeout open_of is_open opening_of limits_of timers_of smallest_of has_notes
 first =
     let line = bytes "open,1000,7,2,4,B,8,B,8,0,never,10,5" in
     let e : line_open line ≡ Some opening = refl in

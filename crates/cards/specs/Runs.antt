@@ -1,4 +1,5 @@
 -- A card that opens a runner makes one of demand 3's lists, and prints its answers: so demand 3 and the turn hold of what is printed.
+use Rattle.exec.specs.Limits.{has, streams}
 use Rattle.std.specs.Prelude.{true, false, ◌≡◌, List, [], ◌∷◌, ◌++◌, ℕ, ◌+◌, ◌^◌, ◌≤◌, ◌<◌, Some, None}
 use mathlib.Core.List.{map}
 use Rattle.exec.specs.declared.Cause.{Cause}
@@ -69,10 +70,10 @@ pub record Demand (o : Opening) (lines : List Line) : Type 0 where
   -- an Applied cancel is the first of the three events
   pub first : (xs ys : List Line) (l : Line) (t : ℕ) (k : Key) (c : Cause) → lines ≡ xs ++ (l ∷ ys) → l.call ≡ Some (Call.cancel t k c) → l.answer ≡ Call.Applied
       → (tick_a t (account_after o xs)).rep.begun ≡ false
-  -- and Terminal has come by the fifth message asked for after a tick at or past t + grace + settlement
+  -- and Terminal has come by message 3 + the number of streams asked for after a tick at or past t + grace + settlement
   pub late : (xs ys zs : List Line) (l m : Line) (t n : ℕ) (k : Key) (c : Cause) → lines ≡ xs ++ (l ∷ (ys ++ (m ∷ zs)))
       → l.call ≡ Some (Call.cancel t k c) → l.answer ≡ Call.Applied → m.call ≡ Some (Call.tick n)
-      → t + o.conf.timers.grace + o.conf.timers.settlement < 2 ^ 64 → t + o.conf.timers.grace + o.conf.timers.settlement ≤ n → 5 ≤ messages (calls_of zs)
+      → t + o.conf.timers.grace + o.conf.timers.settlement < 2 ^ 64 → t + o.conf.timers.grace + o.conf.timers.settlement ≤ n → 3 + streams o.conf.limits ≤ messages (calls_of zs)
       → any_terminal (dones_of lines) ≡ true
   -- no line is refused by 10, 11, 12 or 46, nor by any number but these
   pub numbers : (xs ys : List Line) (l : Line) (n : ℕ) → lines ≡ xs ++ (l ∷ ys) → l.answer ≡ Call.Refused n → among n of_lines ≡ true
@@ -87,14 +88,14 @@ pub record Untruncated (x : Stream) (lines before : List Line) : Type 0 where
   pub reports : is_truncated outcome x ≡ false
 
 -- the turn
-pub record Turn (lines : List Line) : Type 0 where
+pub record Turn (o : Opening) (lines : List Line) : Type 0 where
   -- then the bytes sent of it before are the bytes taken of it, all of them
   pub rows : (x : Stream) (before : List Line) → Untruncated x lines before → sent_in x (entries_of (dones_of before)) ≡ taken_in x (entries_of (dones_of before))
-  -- and the program itself closed it
-  pub own : (x : Stream) (before : List Line) → Untruncated x lines before → Has (closing x) (entries_of (dones_of before))
+  -- and, if it is open, the program itself closed it
+  pub own : (x : Stream) (before : List Line) → has o.conf.limits x ≡ true → Untruncated x lines before → Has (closing x) (entries_of (dones_of before))
   -- and it reported no byte of it discarded, and no failure to read it, whatever that was answered
-  pub undropped : (x : Stream) (before : List Line) (n : ℕ) → Untruncated x lines before → 0 < n → Has (Call.discarded x n) (calls_of before) → ⊥
-  pub unfailed : (x : Stream) (before : List Line) → Untruncated x lines before → Has (Call.output_failed x) (calls_of before) → ⊥
+  pub undropped : (x : Stream) (before : List Line) (n : ℕ) → has o.conf.limits x ≡ true → Untruncated x lines before → 0 < n → Has (Call.discarded x n) (calls_of before) → ⊥
+  pub unfailed : (x : Stream) (before : List Line) → has o.conf.limits x ≡ true → Untruncated x lines before → Has (Call.output_failed x) (calls_of before) → ⊥
   -- and behind any Terminal no line adds to the bytes taken or sent of a stream
   pub final : (x : Stream) (before behind : List Line) (l : Line) → lines ≡ before ++ (l ∷ behind) → is_terminal l.answer ≡ true
       → (taken_in x (entries_of (dones_of lines)) ≡ taken_in x (entries_of (dones_of before)))
@@ -129,7 +130,7 @@ pub record CardRuns (card printed : List ℕ) : Type 0 where
   pub uncalled : (xs ys : List Line) (l : Line) → rest ≡ xs ++ (l ∷ ys) → l.call ≡ None → l.answer ≡ Call.Refused 30
   -- so demand 3 and the turn hold of what is printed, up to any line
   pub demand : (ls ms : List Line) → rest ≡ ls ++ ms → Demand opening ls
-  pub turn : (ls ms : List Line) → rest ≡ ls ++ ms → Turn ls
+  pub turn : (ls ms : List Line) → rest ≡ ls ++ ms → Turn opening ls
 
 -- WHAT THE LINES OF ANY CARD ARE REFUSED BY: 1 to 6, 10, 11, 30 or 46
 abbrev pub Numbers : (card : List ℕ) → Type 0

@@ -14,7 +14,7 @@ use Rattle.exec.specs.declared.Status.{Status}
 use Rattle.exec.specs.declared.Stream.TheVariants.{Stdout, Stderr}
 use Rattle.exec.specs.declared.Window.{Window}
 use Rattle.exec.specs.Key.{new_key, admits}
-use Rattle.exec.specs.Limits.{cost, bytes_with, bytes_window, frames_window, limits_for}
+use Rattle.exec.specs.Limits.{cost, bytes_with, bytes_window, frames_window, limits_for, has_notes}
 use Rattle.decimal.specs.Decimal.{signed_of, digits_of, digits_before}
 use Rattle.ring.specs.Frames.{pop_from}
 use Rattle.ring.specs.Ring.{wrap}
@@ -68,7 +68,7 @@ opens : Opens (granting 4 (bytes_window 8) 1) 0 (zeros 65536) (zeros 1024)
     × Opens (granting 4 (bytes_window 8) 4) 0 (zeros 65536) (zeros 1024)
     × Opens (granting 4 (bytes_window 8) 8) 0 (zeros 65536) (zeros 1024)
     × Opens (granting 4 (frames_window 2) 2) 0 (zeros 65536) (zeros 1024)
-unfolding Calls.«open» bytes_with
+unfolding Calls.«open» bytes_with has_notes
 opens = rw (zeros_length 65536, zeros_length 1024) (refl, refl, refl, refl)
 
 -- ---- left out, it is 1: what is taken is granted at the next message, however few
@@ -105,14 +105,14 @@ unfolding calls zeros
 are_each = refl
 
 each_answered : (bs lengths : List ℕ) → answers_of (run (begun (granting 4 (bytes_window 8) 1) 0 bs lengths) each_calls) ≡ each_answers
-unfolding Plain.next Plain.answer Plain.said admits cost if_else order Message.choose Message.effect Range.fresh Life.note_started Life.note_launch Life.launched_next Streams.input_answer Streams.input_next Input.receive_answer Input.receive_input Streams.written_next Streams.written_came Input.written_input Input.written_came
+unfolding Plain.next Plain.answer Plain.said admits cost if_else order Message.choose Message.effect Range.fresh Life.note_started Life.note_launch Life.launched_next Streams.input_answer Streams.input_next Input.receive_answer Input.receive_input Streams.written_next Streams.written_came Input.written_input Input.written_came has_notes
 each_answered bs lengths = refl
 
 pub each_at_once : (prints (bytes "open,0,7,2,4,B,8,B,8,0,never,10,5\nlaunched,0,-,-\nmessage,16\nmessage,16\ninput,7,2,616263\ninput_written,1\nmessage,16\n")
     ≡ bytes "1,ok,-,-\n2,ok,-,-\n3,Credit,8,-\n4,Started,-,-\n5,Applied,-,-\n6,ok,0,-\n7,Credit,1,-\n")
     × (prints (bytes "open,0,7,2,4,B,8,B,8,0,never,10,5,1\nlaunched,0,-,-\nmessage,16\nmessage,16\ninput,7,2,616263\ninput_written,1\nmessage,16\n")
     ≡ bytes "1,ok,-,-\n2,ok,-,-\n3,Credit,8,-\n4,Started,-,-\n5,Applied,-,-\n6,ok,0,-\n7,Credit,1,-\n")
-unfolding calls timeout open_of is_open opening_of limits_of timers_of smallest_of lines_in line_text answer_text digits_of digits_before
+unfolding calls timeout open_of is_open opening_of limits_of timers_of smallest_of lines_in line_text answer_text digits_of digits_before has_notes
 each_at_once = (
   called_card _ (bytes "open,0,7,2,4,B,8,B,8,0,never,10,5") (granting 4 (bytes_window 8) 1) each_lines each_calls each_answers refl refl refl opens.0 are_each
       (each_answered (zeros 65536) (zeros 1024)),
@@ -172,12 +172,12 @@ unfolding calls zeros
 are_four = refl
 
 four_answered : (bs lengths : List ℕ) → answers_of (run (begun (granting 4 (bytes_window 8) 4) 0 bs lengths) four_calls) ≡ four_answers
-unfolding Plain.next Plain.answer Plain.said admits cost if_else order Message.sendable_of Message.choose Message.effect Range.fresh Life.note_started Life.note_launch Life.launched_next Life.is_ready Streams.input_answer Streams.input_next Input.receive_answer Input.receive_input Streams.written_next Streams.written_came Input.written_input Input.written_came
+unfolding Plain.next Plain.answer Plain.said admits cost if_else order Message.sendable_of Message.choose Message.effect Range.fresh Life.note_started Life.note_launch Life.launched_next Life.is_ready Streams.input_answer Streams.input_next Input.receive_answer Input.receive_input Streams.written_next Streams.written_came Input.written_input Input.written_came has_notes
 four_answered bs lengths = refl
 
 pub four_at_once : prints (bytes "open,0,7,2,4,B,8,B,8,0,never,10,5,4\nlaunched,0,-,-\nmessage,16\nmessage,16\ninput,7,2,61626364\ninput_written,3\nmessage,16\ninput_written,1\nmessage,16\nmessage,16\ninput,7,2,61\ninput_written,1\nmessage,16\n")
     ≡ bytes "1,ok,-,-\n2,ok,-,-\n3,Credit,8,-\n4,Started,-,-\n5,Applied,-,-\n6,ok,0,-\n7,none,-,-\n8,ok,0,-\n9,Credit,4,-\n10,none,-,-\n11,Applied,-,-\n12,ok,0,-\n13,none,-,-\n"
-unfolding calls timeout open_of is_open opening_of limits_of timers_of smallest_of lines_in line_text answer_text digits_of digits_before
+unfolding calls timeout open_of is_open opening_of limits_of timers_of smallest_of lines_in line_text answer_text digits_of digits_before has_notes
 four_at_once =
     called_card _ (bytes "open,0,7,2,4,B,8,B,8,0,never,10,5,4") (granting 4 (bytes_window 8) 4) four_lines four_calls four_answers refl refl refl opens.1 are_four
     (four_answered (zeros 65536) (zeros 1024))
@@ -235,7 +235,7 @@ are_two = refl
 
 -- only the first two lengths are written
 two_answered : (bs : List ℕ) (m n : ℕ) (rest : List ℕ) → answers_of (run (begun (granting 4 (frames_window 2) 2) 0 bs (m ∷ n ∷ rest)) two_calls) ≡ two_answers
-unfolding Plain.next Plain.answer Plain.said admits cost wrap if_else order pop_from Message.sendable_of Message.choose Message.effect Range.fresh Life.note_started Life.note_launch Life.launched_next Life.is_ready Streams.input_answer Streams.input_next Streams.input_lengths Input.receive_answer Input.receive_input Input.receive_lengths Streams.written_next Streams.written_came Streams.written_lengths Input.written_input Input.written_came Input.written_lengths
+unfolding Plain.next Plain.answer Plain.said admits cost wrap if_else order pop_from Message.sendable_of Message.choose Message.effect Range.fresh Life.note_started Life.note_launch Life.launched_next Life.is_ready Streams.input_answer Streams.input_next Streams.input_lengths Input.receive_answer Input.receive_input Input.receive_lengths Streams.written_next Streams.written_came Streams.written_lengths Input.written_input Input.written_came Input.written_lengths has_notes
 two_answered bs m n rest = refl
 
 two_zeros : zeros 1024 ≡ 0 ∷ 0 ∷ zeros 1022
@@ -244,7 +244,7 @@ two_zeros = refl
 
 pub two_at_once : prints (bytes "open,0,7,2,4,F,2,B,8,0,never,10,5,2\nlaunched,0,-,-\nmessage,16\nmessage,16\ninput,7,2,6162\ninput,7,2,63\ninput_written,1\nmessage,16\ninput_written,1\nmessage,16\ninput_written,1\nmessage,16\nmessage,16\n")
     ≡ bytes "1,ok,-,-\n2,ok,-,-\n3,Credit,2,-\n4,Started,-,-\n5,Applied,-,-\n6,Applied,-,-\n7,ok,1,-\n8,none,-,-\n9,ok,1,-\n10,none,-,-\n11,ok,1,-\n12,Credit,2,-\n13,none,-,-\n"
-unfolding calls timeout open_of is_open opening_of limits_of timers_of smallest_of lines_in line_text answer_text digits_of digits_before
+unfolding calls timeout open_of is_open opening_of limits_of timers_of smallest_of lines_in line_text answer_text digits_of digits_before has_notes
 two_at_once =
     called_card _ (bytes "open,0,7,2,4,F,2,B,8,0,never,10,5,2") (granting 4 (frames_window 2) 2) two_lines two_calls two_answers refl refl refl opens.3 are_two
     (rw two_zeros (two_answered (zeros 65536) 0 0 (zeros 1022)))
@@ -324,12 +324,12 @@ unfolding calls zeros
 are_closed = refl
 
 closed_answered : (bs lengths : List ℕ) → answers_of (run (begun (granting 4 (bytes_window 8) 4) 0 bs lengths) closed_calls) ≡ closed_answers
-unfolding Plain.next Plain.answer Plain.said admits cost if_else order Message.sendable_of Message.choose Message.effect Range.fresh Life.note_started Life.note_launch Life.launched_next Life.is_ready Life.outcome_of Life.close_runner_input Life.pass_grace Life.pass_timeout Life.pass_settlement Life.pass_give_up Life.pass_abandonment Life.fire Life.ticked Life.note_exit Life.note_exit_once Life.exited_next Life.settled_next Streams.input_answer Streams.input_next Streams.closed_next Input.receive_answer Input.receive_input Streams.written_next Streams.written_came Input.written_input Input.written_came
+unfolding Plain.next Plain.answer Plain.said admits cost if_else order Message.sendable_of Message.choose Message.effect Range.fresh Life.note_started Life.note_launch Life.launched_next Life.is_ready Life.outcome_of Life.close_runner_input Life.pass_grace Life.pass_timeout Life.pass_settlement Life.pass_give_up Life.pass_abandonment Life.fire Life.ticked Life.note_exit Life.note_exit_once Life.exited_next Life.settled_next Streams.input_answer Streams.input_next Streams.closed_next Input.receive_answer Input.receive_input Streams.written_next Streams.written_came Input.written_input Input.written_came has_notes
 closed_answered bs lengths = refl
 
 pub closed_below : prints (bytes "open,0,7,2,4,B,8,B,8,0,never,10,5,4\nlaunched,0,-,-\nmessage,16\nmessage,16\ninput,7,2,616263\ninput_written,3\nmessage,16\ninput_closed\nmessage,16\nmessage,16\noutput_closed,Stdout\noutput_closed,Stderr\nexited,20,E0\nsettled,Settled\nmessage,16\nmessage,16\nmessage,16\nmessage,16\n")
     ≡ bytes "1,ok,-,-\n2,ok,-,-\n3,Credit,8,-\n4,Started,-,-\n5,Applied,-,-\n6,ok,0,-\n7,none,-,-\n8,ok,-,-\n9,InputClosed,-,-\n10,none,-,-\n11,ok,-,-\n12,ok,-,-\n13,ok,-,-\n14,ok,-,-\n15,End,Stdout,-\n16,End,Stderr,-\n17,Terminal,-,-,E0,-,-,00,1\n18,none,-,-\n"
-unfolding calls timeout open_of is_open opening_of limits_of timers_of smallest_of lines_in line_text answer_text digits_of digits_before signed_of
+unfolding calls timeout open_of is_open opening_of limits_of timers_of smallest_of lines_in line_text answer_text digits_of digits_before signed_of has_notes
 closed_below =
     called_card _ (bytes "open,0,7,2,4,B,8,B,8,0,never,10,5,4") (granting 4 (bytes_window 8) 4) closed_lines closed_calls closed_answers refl refl refl opens.1 are_closed
     (closed_answered (zeros 65536) (zeros 1024))
@@ -338,7 +338,7 @@ closed_below =
 
 taken : (prints (bytes "open,0,7,2,4,B,8,B,8,0,never,10,5,0004\n") ≡ bytes "1,ok,-,-\n")
     × (prints (bytes "open,0,7,2,4,B,8,B,8,0,never,10,5,8\n") ≡ bytes "1,ok,-,-\n")
-unfolding calls timeout open_of is_open opening_of limits_of timers_of smallest_of lines_in line_text answer_text digits_of digits_before
+unfolding calls timeout open_of is_open opening_of limits_of timers_of smallest_of lines_in line_text answer_text digits_of digits_before has_notes
 taken = (
   card_opened _ (bytes "open,0,7,2,4,B,8,B,8,0,never,10,5,0004") (granting 4 (bytes_window 8) 4) 0 [] refl refl refl opens.1,
   card_opened _ (bytes "open,0,7,2,4,B,8,B,8,0,never,10,5,8") (granting 4 (bytes_window 8) 8) 0 [] refl refl refl opens.2,
@@ -366,7 +366,7 @@ refuses : Refuses (granting 4 (bytes_window 8) 0) SmallestGrant
     × Refuses (granting 0 (bytes_window 8) 0) NoLimits
     × Refuses (granting 40000 (bytes_window 8) 0) SmallestGrant
     × Refuses (granting 40000 (bytes_window 8) 1) StoreShort
-unfolding Calls.«open» bytes_with
+unfolding Calls.«open» bytes_with has_notes
 refuses = (refl, refl, refl, refl, refl, rw (zeros_length 65536) refl)
 
 pub refused : (prints (bytes "open,0,7,2,4,B,8,B,8,0,never,10,5,0\ndeadline\n") ≡ bytes "1,refused,46,-\n2,refused,30,-\n")
@@ -375,7 +375,7 @@ pub refused : (prints (bytes "open,0,7,2,4,B,8,B,8,0,never,10,5,0\ndeadline\n") 
     × (prints (bytes "open,0,7,2,0,B,8,B,8,0,never,10,5,0\ndeadline\n") ≡ bytes "1,refused,10,-\n2,refused,30,-\n")
     × (prints (bytes "open,0,7,2,40000,B,8,B,8,0,never,10,5,0\ndeadline\n") ≡ bytes "1,refused,46,-\n2,refused,30,-\n")
     × (prints (bytes "open,0,7,2,40000,B,8,B,8,0,never,10,5,1\ndeadline\n") ≡ bytes "1,refused,11,-\n2,refused,30,-\n")
-unfolding calls timeout open_of is_open opening_of limits_of timers_of smallest_of lines_in line_text answer_text digits_of digits_before
+unfolding calls timeout open_of is_open opening_of limits_of timers_of smallest_of lines_in line_text answer_text digits_of digits_before has_notes
 refused = (
   refused_card _ (bytes "open,0,7,2,4,B,8,B,8,0,never,10,5,0") (granting 4 (bytes_window 8) 0) SmallestGrant refl refl refl refuses.0,
   refused_card _ (bytes "open,0,7,2,4,B,8,B,8,0,never,10,5,9") (granting 4 (bytes_window 8) 9) SmallestGrant refl refl refl refuses.1,
@@ -390,7 +390,7 @@ pub unread : (prints (bytes "open,0,7,2,4,B,8,B,8,0,never,10,5,\ndeadline\n") �
     × (prints (bytes "open,0,7,2,4,B,8,B,8,0,never,10,5,-\ndeadline\n") ≡ bytes "1,refused,30,-\n2,refused,30,-\n")
     × (prints (bytes "open,0,7,2,4,B,8,B,8,0,never,10,5,4294967296\ndeadline\n") ≡ bytes "1,refused,30,-\n2,refused,30,-\n")
     × (prints (bytes "open,0,7,2,4,B,8,B,8,0,never,10,5,4,4\ndeadline\n") ≡ bytes "1,refused,30,-\n2,refused,30,-\n")
-unfolding calls timeout open_of is_open opening_of limits_of timers_of smallest_of lines_in answer_of answered first line_text answer_text digits_of digits_before
+unfolding calls timeout open_of is_open opening_of limits_of timers_of smallest_of lines_in answer_of answered first line_text answer_text digits_of digits_before has_notes
 unread = (
   (by_line (bytes "open,0,7,2,4,B,8,B,8,0,never,10,5,\ndeadline\n")).printed,
   (by_line (bytes "open,0,7,2,4,B,8,B,8,0,never,10,5,-\ndeadline\n")).printed,

@@ -11,7 +11,7 @@ use lib.ListN.{length, get_or}
 use Rattle.exec.specs.declared.Cause.TheVariants as Cause
 use Rattle.exec.specs.Key.{new_key}
 use Rattle.exec.specs.Time.{after, earliest, timeout_at}
-use Rattle.exec.specs.Limits.{bytes_with, bytes_window, limits_for}
+use Rattle.exec.specs.Limits.{bytes_with, bytes_window, limits_for, has_notes}
 use Rattle.output.specs.Output.{output_fits}
 use Rattle.runner.specs.Calls as Calls
 use Rattle.runner.specs.Life as Life
@@ -48,7 +48,7 @@ still (Some t) = refl
 
 -- of a fresh runner no other timer runs
 fresh_deadline : (conf : Conf) (now : ℕ) (bs lengths : List ℕ) → Plain.answer (begun conf now bs lengths) Call.deadline ≡ Call.Time (timeout_at conf.timers.timeout now)
-unfolding Plain.answer Range.fresh Life.deadline_of
+unfolding Plain.answer Range.fresh Life.deadline_of has_notes
 fresh_deadline conf now bs lengths = ap Call.Time (still (timeout_at conf.timers.timeout now))
 
 deadline_line : (s : State) → (answer_of (Running s) (bytes "deadline")).answer ≡ Step.answer s Call.deadline
@@ -110,7 +110,7 @@ abbrev pub timed : Option ℕ → Conf
 timed x = record { key = new_key 7 2; limits = limits_for 4 (bytes_window 8) (bytes_window 8) false; timers = record { timeout = x; grace = 10; settlement = 5 }; smallest = 1 }
 
 pub opens : (x : Option ℕ) (now : ℕ) → Opens (timed x) now (zeros 65536) (zeros 1024)
-unfolding Calls.«open» bytes_with
+unfolding Calls.«open» bytes_with has_notes
 opens x now =
     let b : 16 ≤ length (zeros 65536) = rw (zeros_length 65536) (omega arith) in
     let l : 0 ≤ length (zeros 1024) = omega arith in
@@ -135,7 +135,7 @@ cards_met : (asked (bytes "open,5,7,2,4,B,8,B,8,0,-,10,5") ≡ Call.Ok ∷ Call.
     × (asked (bytes "open,0,7,2,4,B,8,B,8,0,18446744073709551615,10,5") ≡ Call.Ok ∷ Call.Time (Some 18446744073709551615) ∷ [])
     × (asked (bytes "open,1,7,2,4,B,8,B,8,0,18446744073709551615,10,5") ≡ Call.Ok ∷ Call.Time None ∷ [])
     × (answer_of First (bytes "open,5,7,2,4,B,8,B,8,0,18446744073709551616,10,5") ≡ bad Over)
-unfolding calls timeout open_of is_open opening_of limits_of timers_of smallest_of answer_of answered first
+unfolding calls timeout open_of is_open opening_of limits_of timers_of smallest_of answer_of answered first has_notes
 cards_met = (
   every_card.missing (bytes "open,5,7,2,4,B,8,B,8,0,-,10,5") 5 (met (bytes "open,5,7,2,4,B,8,B,8,0,-,10,5") hour 5 refl refl, refl) refl,
   every_card.never (bytes "open,5,7,2,4,B,8,B,8,0,never,10,5") 5 (met (bytes "open,5,7,2,4,B,8,B,8,0,never,10,5") None 5 refl refl, refl) refl,
@@ -171,12 +171,12 @@ times_out = Call.Ok
     ∷ []
 
 hung_answers : (bs lengths : List ℕ) → answers_from (Running (begun (timed hour) 5 bs lengths)) hung ≡ times_out
-unfolding hung calls answer_of answered later Step.next Step.answer Calls.launched Calls.tick Calls.deadline Calls.next_request Range.fresh Range.stop Range.in_range bytes_with output_fits Life.close_runner_input Life.end_grace Life.begin_termination Life.terminate Life.pass_grace Life.pass_timeout Life.pass_settlement Life.give_up_unless_clean Life.pass_give_up Life.drop_launch Life.drop_streams Life.pass_abandonment Life.fire Life.ticked Life.deadline_of Life.note_started Life.note_launch Life.launched_next Message.wish_for Message.wish Message.wish_effect
+unfolding hung calls answer_of answered later Step.next Step.answer Calls.launched Calls.tick Calls.deadline Calls.next_request Range.fresh Range.stop Range.in_range bytes_with output_fits Life.close_runner_input Life.end_grace Life.begin_termination Life.terminate Life.pass_grace Life.pass_timeout Life.pass_settlement Life.give_up_unless_clean Life.pass_give_up Life.drop_launch Life.drop_streams Life.pass_abandonment Life.fire Life.ticked Life.deadline_of Life.note_started Life.note_launch Life.launched_next Message.wish_for Message.wish Message.wish_effect has_notes
 hung_answers bs lengths = refl
 
 left_open : prints (bytes "open,5,7,2,4,B,8,B,8,0,-,10,5\nlaunched,0,-,-\ndeadline\ntick,3600000000004\nrequest\ntick,3600000000005\nrequest\ndeadline\n")
     ≡ text_from 0 (Call.Ok ∷ times_out)
-unfolding hung calls timeout open_of is_open opening_of limits_of timers_of smallest_of lines_in bytes
+unfolding hung calls timeout open_of is_open opening_of limits_of timers_of smallest_of lines_in bytes has_notes
 left_open = opened_card _ (bytes "open,5,7,2,4,B,8,B,8,0,-,10,5") (timed hour) 5 hung times_out refl refl refl (opens hour 5) hung_answers
 
 -- ---- never: no limit, not the largest number either
@@ -194,12 +194,12 @@ abbrev goes_on : List Answer
 goes_on = Call.Ok ∷ Call.Time None ∷ Call.Ok ∷ Call.Nothing ∷ Call.Time None ∷ []
 
 overnight_answers : (bs lengths : List ℕ) → answers_from (Running (begun (timed None) 0 bs lengths)) overnight ≡ goes_on
-unfolding overnight calls answer_of answered later Step.next Step.answer Calls.launched Calls.tick Calls.deadline Calls.next_request Range.fresh Range.stop Range.in_range bytes_with output_fits Life.pass_grace Life.pass_timeout Life.pass_settlement Life.pass_give_up Life.pass_abandonment Life.fire Life.ticked Life.deadline_of Life.note_started Life.note_launch Life.launched_next Message.wish_for Message.wish Message.wish_effect
+unfolding overnight calls answer_of answered later Step.next Step.answer Calls.launched Calls.tick Calls.deadline Calls.next_request Range.fresh Range.stop Range.in_range bytes_with output_fits Life.pass_grace Life.pass_timeout Life.pass_settlement Life.pass_give_up Life.pass_abandonment Life.fire Life.ticked Life.deadline_of Life.note_started Life.note_launch Life.launched_next Message.wish_for Message.wish Message.wish_effect has_notes
 overnight_answers bs lengths = refl
 
 no_limit : prints (bytes "open,0,7,2,4,B,8,B,8,0,never,10,5\nlaunched,0,-,-\ndeadline\ntick,18446744073709551615\nrequest\ndeadline\n")
     ≡ text_from 0 (Call.Ok ∷ goes_on)
-unfolding overnight calls timeout open_of is_open opening_of limits_of timers_of smallest_of lines_in bytes
+unfolding overnight calls timeout open_of is_open opening_of limits_of timers_of smallest_of lines_in bytes has_notes
 no_limit = opened_card _ (bytes "open,0,7,2,4,B,8,B,8,0,never,10,5") (timed None) 0 overnight goes_on refl refl refl (opens None 0) overnight_answers
 
 -- ---- opened at the last instant from which the hour ends, and one later
@@ -217,12 +217,12 @@ never_ends = Call.Ok ∷ Call.Time None ∷ Call.Ok ∷ Call.Nothing ∷ []
 latest_answers : (bs lengths : List ℕ)
     → (answers_from (Running (begun (timed hour) 18446740473709551615 bs lengths)) latest ≡ just_ends)
     × (answers_from (Running (begun (timed hour) 18446740473709551616 bs lengths)) latest ≡ never_ends)
-unfolding latest calls answer_of answered later Step.next Step.answer Calls.launched Calls.tick Calls.deadline Calls.next_request Range.fresh Range.stop Range.in_range bytes_with output_fits Life.close_runner_input Life.end_grace Life.begin_termination Life.terminate Life.pass_grace Life.pass_timeout Life.pass_settlement Life.give_up_unless_clean Life.pass_give_up Life.drop_launch Life.drop_streams Life.pass_abandonment Life.fire Life.ticked Life.deadline_of Life.note_started Life.note_launch Life.launched_next Message.wish_for Message.wish Message.wish_effect
+unfolding latest calls answer_of answered later Step.next Step.answer Calls.launched Calls.tick Calls.deadline Calls.next_request Range.fresh Range.stop Range.in_range bytes_with output_fits Life.close_runner_input Life.end_grace Life.begin_termination Life.terminate Life.pass_grace Life.pass_timeout Life.pass_settlement Life.give_up_unless_clean Life.pass_give_up Life.drop_launch Life.drop_streams Life.pass_abandonment Life.fire Life.ticked Life.deadline_of Life.note_started Life.note_launch Life.launched_next Message.wish_for Message.wish Message.wish_effect has_notes
 latest_answers bs lengths = (refl, refl)
 
 last_hour : (prints (bytes "open,18446740473709551615,7,2,4,B,8,B,8,0,-,10,5\nlaunched,0,-,-\ndeadline\ntick,18446744073709551615\nrequest\n") ≡ text_from 0 (Call.Ok ∷ just_ends))
     × (prints (bytes "open,18446740473709551616,7,2,4,B,8,B,8,0,-,10,5\nlaunched,0,-,-\ndeadline\ntick,18446744073709551615\nrequest\n") ≡ text_from 0 (Call.Ok ∷ never_ends))
-unfolding latest calls timeout open_of is_open opening_of limits_of timers_of smallest_of lines_in bytes
+unfolding latest calls timeout open_of is_open opening_of limits_of timers_of smallest_of lines_in bytes has_notes
 last_hour = (
   opened_card _ (bytes "open,18446740473709551615,7,2,4,B,8,B,8,0,-,10,5") (timed hour) 18446740473709551615 latest just_ends refl refl refl (opens hour 18446740473709551615) (λ bs lengths. (latest_answers bs lengths).0),
   opened_card _ (bytes "open,18446740473709551616,7,2,4,B,8,B,8,0,-,10,5") (timed hour) 18446740473709551616 latest never_ends refl refl refl (opens hour 18446740473709551616) (λ bs lengths. (latest_answers bs lengths).1),
@@ -231,5 +231,5 @@ last_hour = (
 -- ---- any other text opens nothing
 
 misspelt : prints (bytes "open,5,7,2,4,B,8,B,8,0,Never,10,5\ndeadline\n") ≡ text_from 0 (Call.Refused 30 ∷ Call.Refused 30 ∷ [])
-unfolding calls timeout open_of is_open opening_of limits_of timers_of smallest_of lines_in bytes answer_of answered first
+unfolding calls timeout open_of is_open opening_of limits_of timers_of smallest_of lines_in bytes answer_of answered first has_notes
 misspelt = (by_line (bytes "open,5,7,2,4,B,8,B,8,0,Never,10,5\ndeadline\n")).printed

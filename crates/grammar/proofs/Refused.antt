@@ -1,4 +1,5 @@
 -- A refused line changes nothing: the card's refusals give back the stage, and a call that is refused leaves its state.
+use Rattle.inbox.specs.Need.{need_fits}
 use Rattle.std.specs.Prelude.{Option, Result, Some, None, Ok, Err}
 use Rattle.exec.specs.declared.Refusal.{Refusal}
 use mathlib.Core.Bool.{true, ◌&&◌}
@@ -51,7 +52,7 @@ open_first o =
     subst⁻¹ First (refusals.open_number o.conf o.now (zeros 65536) (zeros 1024))
     (either First (is_valid l) _ _
     (either First (grant_fits o.conf.smallest l.input.size) _ _
-    (either First (bytes_do l (zeros 65536) && lengths_do l (zeros 1024)) _ _ (λ n e. cc) (refused_first 11 refl)) (refused_first 46 refl)) (refused_first 10 refl))
+    (either First (need_fits l && (bytes_do l (zeros 65536) && lengths_do l (zeros 1024))) _ _ (λ n e. cc) (refused_first 11 refl)) (refused_first 46 refl)) (refused_first 10 refl))
 
 abbrev Unopened : Answered → Type 0
 Unopened x = (n : ℕ) → x.answer ≡ Call.Refused n → (x.stage ≡ Over) × IsFirst n

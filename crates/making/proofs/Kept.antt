@@ -8,11 +8,11 @@ use Rattle.exec.specs.declared.Key.{Key}
 use Rattle.exec.specs.declared.Pool.{Pool}
 use Rattle.exec.specs.declared.Stream.{Stream}
 use Rattle.exec.specs.Key.{admits}
-use Rattle.exec.specs.Limits.{output_pool}
+use Rattle.exec.specs.Limits.{output_pool, has_notes}
 use Rattle.runner.specs.declared.runner.Runner.{Runner}
 use Rattle.runner.specs.Calls.{calling, credit, stores_do, input_by, input, output_by, output, written_by, input_written, message_by, next_message}
 use Rattle.runner.specs.Message.{choose, effect, say, output_sent, output_paid}
-use Rattle.runner.specs.Range.{bytes_do, lengths_do, stop}
+use Rattle.runner.specs.Range.{bytes_do, lengths_do, stop, stop_at}
 use Rattle.runner.specs.State.{with_input, with_outputs, with_flow}
 use Rattle.runner.specs.Streams.{credit_answer, credit_next, received, input_next, output_took, output_next, written_next}
 
@@ -25,10 +25,10 @@ unfolding credit credit_next
 credit_kept r k p units = by (stop r true)
   where
     next : Runner
-    next = credit_next (admits r.key k) (output_pool r.limits.shared p) r units
+    next = credit_next (admits r.key k) (output_pool r.limits.shared (has_notes r.limits) p) r units
 
     answer : Result Receipt Refusal
-    answer = credit_answer (admits r.key k) (output_pool r.limits.shared p) r units
+    answer = credit_answer (admits r.key k) (output_pool r.limits.shared (has_notes r.limits) p) r units
 
     by : (x : Result (Unit {0}) Refusal) → (calling x answer next r).runner ≡ credit_moved r (calling x answer next r).runner
     by (Ok tt) = refl
@@ -52,7 +52,7 @@ output_moved r next = with_flow r.credits r.turn r.flags next.high_water (with_o
 
 pub output_kept : (r : Runner) (x : Stream) (bytes store : List ℕ) → (output r x bytes store).taking.runner ≡ output_moved r (output r x bytes store).taking.runner
 unfolding output output_took output_next
-output_kept r x bytes store = by (stop r (bytes_do r.limits store))
+output_kept r x bytes store = by (stop_at r x (bytes_do r.limits store))
   where
     by : (z : Result (Unit {0}) Refusal) → (output_by z r x bytes store).taking.runner ≡ output_moved r (output_by z r x bytes store).taking.runner
     by (Ok tt) = refl
