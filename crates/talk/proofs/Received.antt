@@ -13,8 +13,6 @@ use Rattle.exec.specs.declared.Receipt.{Receipt}
 use Rattle.exec.specs.declared.Refusal.{Refusal}
 use Rattle.exec.specs.Key.{admits}
 use Rattle.exec.specs.Limits.{cost, is_valid, output_pool, has_notes}
-use Rattle.exec.specs.Row.{at}
-use Rattle.exec.specs.Stream.{index}
 use Rattle.credit.specs.declared.sender.Credit.{Credit}
 use Rattle.credit.specs.Sender.{grantable}
 use Rattle.input.specs.Input as Input
