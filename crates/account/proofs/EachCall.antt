@@ -21,7 +21,6 @@ use Rattle.exec.specs.declared.Stream.TheVariants.{Stdout, Stderr, Notes}
 use Rattle.exec.specs.Each.{Each}
 use Rattle.exec.specs.Key.{admits}
 use Rattle.exec.specs.Limits.{input_bytes as inbox_size, has, has_notes}
-use Rattle.exec.specs.Stream.{same_stream}
 use Rattle.ring.specs.Ring.{ring_write}
 use Rattle.ring.specs.RingLaws.{read_none, write_length, write_other}
 use Rattle.inbox.specs.Need.{byte_need}

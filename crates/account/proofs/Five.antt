@@ -224,8 +224,20 @@ unfolding choose is_ready
 choose_late s n d k f i =
     let x = stream_at s.turn in
     rw (
-      no_send s n x d, no_send s n (following x) d, no_send s n (following (following x)) d, f, i, k.launch, k.exit,
-      k.closed Stdout, k.closed Stderr, k.closed Notes, k.settled, (d Stdout).none, (d Stderr).none, (d Notes).none,
+      no_send s n x d,
+      no_send s n (following x) d,
+      no_send s n (following (following x)) d,
+      f,
+      i,
+      k.launch,
+      k.exit,
+      k.closed Stdout,
+      k.closed Stderr,
+      k.closed Notes,
+      k.settled,
+      (d Stdout).none,
+      (d Stderr).none,
+      (d Notes).none,
     ) refl
 
 pub data Progress (s : Runner) (n : ℕ) : Type 0 where

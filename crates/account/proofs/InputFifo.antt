@@ -157,7 +157,7 @@ output_flow x b s o h =
     let k : ℕ = keeps_of (is_shut x r) (out_of x r).discarding (room x r) (length b) in
     let few = keeps_less (is_shut x r) (out_of x r).discarding (room x r) (length b) in
     let kr = keeps_fit (is_shut x r) (out_of x r).discarding (room x r) (length b) in
-    let i = (h.sound.ranged.0 x).inside in let m = (h.sound.ranged.0 x).within in let a = w.area in let g = w.begins in 
+    let i = (h.sound.ranged.0 x).inside in let m = (h.sound.ranged.0 x).within in let a = w.area in let g = w.begins in
     let d : base x c + c ≤ inbox_base r.limits = subst (λ (q : ℕ). q + c ≤ inbox_base r.limits) (placed r.limits x o) (base_behind r.limits x) in
     let z = write_other (base x c) c (out_of x r).start (out_of x r).queued b k s.bytes (omega arith) (omega arith) few (omega arith)
     (inbox_base r.limits) (inbox_size r.limits) r.input.inbox.start r.input.inbox.length a (omega arith) w.most (inr d) in

@@ -19,7 +19,6 @@ use Rattle.calls.specs.Call.{Call, Answer, Message, is_refused, count}
 use Rattle.account.specs.Account
 use Rattle.account.specs.Account.{Account, Replay, Tally, mk, marked, marked_unless, taken_by, sent_by, tally_of, heard, hear, adds, add}
 use Rattle.account.proofs.Sides.{one_both, one_per, on_each, on_two}
-use Rattle.account.proofs.Flags.{either}
 
 abbrev pub All : (Stream → Bool → Tally → Type 0) → Account → Type 0
 All P a = (x : Stream) → P x (one x a.rep.closed) (tally_of x a)

@@ -21,7 +21,7 @@ use Rattle.exec.specs.declared.Unit as units
 use Rattle.exec.specs.declared.Unit.TheVariants.{Bytes, Frames}
 use Rattle.exec.specs.Key.{admits}
 use Rattle.exec.specs.Limits.{cost, bytes_with, input_bytes, is_valid, output_pool, pool_of, has, has_notes}
-use Rattle.exec.specs.Stream.{index, following, turn_after}
+use Rattle.exec.specs.Stream.{index, turn_after}
 use Rattle.ring.specs.Ring.{wrap}
 use Rattle.ring.specs.RingLaws.{wrap_lt, read_none}
 use Rattle.credit.specs.declared.sender.Credit.{Credit}
@@ -33,7 +33,7 @@ use Rattle.inbox.specs.Receiver.{units_fit}
 use Rattle.credit.specs.Sender.{new_credit, grantable, grant, spent}
 use Rattle.input.specs.declared.Input.{Input}
 use Rattle.output.specs.declared.Output.{Output}
-use Rattle.output.specs.Output.{new_output, grace_ended, given_up, abandoned, sent_out, ended_out, asked_out, lost_out, closed_out, failed_out, hung_up, keeps, keeps_fit, output_fits}
+use Rattle.output.specs.Output.{grace_ended, given_up, abandoned, sent_out, ended_out, asked_out, lost_out, closed_out, failed_out, hung_up, keeps, keeps_fit, output_fits}
 use Rattle.choice.specs.declared.Choice.{Choice}
 use Rattle.runner.specs.declared.runner.Runner.{Runner}
 use Rattle.runner.specs.Life.{close_runner_input, settled_next}

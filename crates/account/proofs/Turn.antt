@@ -66,7 +66,7 @@ unmarked t e = (or_parts (ltb (length t.sent) (length t.taken)) t.mark e).1
 
 shut_takes : (c : Call) (s : State) → Shut s.runner → (x : Stream) (b : List ℕ) → c ≡ Call.output x b → count (answer s c) ≡ 0
 unfolding answer output_taken
-shut_takes c s h x b e = rw e (of_open (λ r. count r ≡ 0) s x (Call.Taken (output_taken s.runner x (length b))) (rw (h x) refl) refl)
+shut_takes c s h x b e = rw e (of_open (λ r. count r ≡ 0) s x (Call.Taken _) (rw (h x) refl) refl)
 
 -- Terminal comes where each stream is closed
 delivered_closed : (d : Bool) (o : Output) → (is_done o && (o.ended || d)) ≡ true → o.closed ≡ true

@@ -1,5 +1,5 @@
 -- Which ends were told: each once, and no message of a stream comes after its End.
-use mathlib.Core.Bool.{Bool, true, false, cond, not, ◌&&◌, ◌||◌, or_assoc, true≢false}
+use mathlib.Core.Bool.{Bool, true, false, cond, not, ◌||◌, or_assoc, true≢false}
 use mathlib.Core.Path.{◌≡◌, refl, sym, ap, ◌∙◌, subst, subst⁻¹}
 use mathlib.Core.List.{List, [], ◌∷◌, ◌++◌}
 use Prim.Native.Nat.{ℕ, min}

@@ -132,7 +132,7 @@ module _ (conf : Conf) (now : ℕ) (bytes lengths : List ℕ) (op : Opens conf n
 
   pub fresh_muted : Muted opened.runner
   unfolding fresh
-  fresh_muted = subst⁻¹ (λ (s : State). Muted s.runner) (open_same conf now bytes lengths op) 
+  fresh_muted = subst⁻¹ (λ (s : State). Muted s.runner) (open_same conf now bytes lengths op)
       (λ x. out_open (λ (o : Output). o.ended ≡ true → (o.closed ≡ true) × (o.queued ≡ 0)) (has_notes conf.limits) (λ e. absurd (false≢true e)) (λ e. (refl, refl)) x)
 
   pub from_open : (es : List Entry) → Tells opened.runner (after_entries opened es).runner (said_from opened es) × Finishes opened.runner (after_entries opened es).runner (said_from opened es)

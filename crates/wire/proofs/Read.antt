@@ -65,7 +65,7 @@ use Rattle.wire.specs.Heard.{written, told_by}
 use Rattle.wire.specs.Channel.{packet, packets, on_wire, Heard, Window, Bytes, Eof, Exit, Close, hear, heard, exit_of, speaks}
 use Rattle.wire.specs.Claim.{OfChannel}
 use Rattle.std.proofs.lemmas.List.{map-append}
-use Rattle.wire.proofs.Ends.{Muted, ends, at, end_untold}
+use Rattle.wire.proofs.Ends.{Muted, ends}
 
 -- ---- one record
 

@@ -33,7 +33,7 @@ use Rattle.wire.specs.Heard.{AllOf, joined, count, once, told_by}
 use Rattle.wire.specs.Channel.{packets, on_wire, Heard, Close, bytes_in, units_in, is_eof, is_close, is_unread, hear, heard, exit_of, speaks}
 use Rattle.wire.specs.Claim.{OfChannel, Lone, heard_of, Wire}
 use Rattle.wire.proofs.Ends.{ends, ends_all}
-use Rattle.wire.proofs.Order.{from_open, silent_at, ordered}
+use Rattle.wire.proofs.Order.{from_open, silent_at}
 use Rattle.wire.proofs.Read.{record_told}
 use Rattle.std.proofs.lemmas.List.{map-append}
 use Rattle.wire.proofs.Follows.{joined_append, all_front, once_true, Hears, unheard, Steps, joined_told, none_told, none_carried, said_append, call_unsaid, read_unsaid, unmade_unsaid, unsent, silent_wire, told_ends, told_once, follows_so, has, has_sent, has_front, has_whole}

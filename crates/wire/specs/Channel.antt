@@ -1,6 +1,6 @@
 -- A channel of RFC 4254 as a wire: the records that the sender puts on it, what its peer's readers make of them, and what is to be
 -- heard of a message. The sender cuts what a write left by its answer; the peer has the bytes, and no message, length or answer.
-use Rattle.std.specs.Prelude.{Bool, true, false, cond, ◌&&◌, List, [], ◌∷◌, ◌++◌, map, ℕ, ◌-◌, eqb, length, take, drop, get_or, Option, Result, Some, None, Ok, Err}
+use Rattle.std.specs.Prelude.{Bool, true, false, cond, List, [], ◌∷◌, ◌++◌, map, ℕ, ◌-◌, eqb, length, take, drop, get_or, Option, Result, Some, None, Ok, Err}
 use Rattle.runner.specs.declared.answer.Message.{Message}
 use Rattle.codec.specs.declared.Record.{Record}
 use Rattle.exec.specs.declared.Status.{Status}
