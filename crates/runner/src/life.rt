@@ -81,7 +81,11 @@ impl Runner {
         ensures { result ≡ end_grace self }
     {
         self.clocks.grace_until = None;
-        let outputs = each(self.limits.has_notes(), self.outputs, |output| output.end_grace());
+        let outputs = each(
+            self.limits.has_notes(),
+            self.outputs,
+            |output| output.end_grace(),
+        );
         self.outputs = outputs;
         self
     }
@@ -92,7 +96,11 @@ impl Runner {
         ensures { result ≡ give_up self }
     {
         self.clocks = self.clocks.stop_waiting();
-        let outputs = each(self.limits.has_notes(), self.outputs, |output| output.give_up());
+        let outputs = each(
+            self.limits.has_notes(),
+            self.outputs,
+            |output| output.give_up(),
+        );
         self.outputs = outputs;
         self.life = self.life.give_up();
         self.flags.gave_up = true;
@@ -116,7 +124,11 @@ impl Runner {
         ensures { result ≡ abandon_open_streams self }
     {
         self.clocks.abandon_at = None;
-        let outputs = each(self.limits.has_notes(), self.outputs, |output| output.abandon());
+        let outputs = each(
+            self.limits.has_notes(),
+            self.outputs,
+            |output| output.abandon(),
+        );
         self.outputs = outputs;
         self
     }

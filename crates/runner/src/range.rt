@@ -83,8 +83,7 @@ impl Runner {
         let first = self.credits[0];
         let second = self.credits[1];
         let third = self.credits[2];
-        (output::outputs::within(outputs, limits.chunk)
-            & credits_fit(limits, first, second, third))
+        (output::outputs::within(outputs, limits.chunk) & credits_fit(limits, first, second, third))
             & (self.turn <= last_turn(limits))
     }
 
@@ -175,10 +174,13 @@ impl Runner {
         requires { F.IsAlwaysCallable next }
         ensures { Notes (F.post next self) met self result }
     {
-        self.call(met, |runner| After {
-            runner: next(runner),
-            answer: Ok(()),
-        })
+        self.call(
+            met,
+            |runner| After {
+                runner: next(runner),
+                answer: Ok(()),
+            },
+        )
     }
 
     // A message of the peer's: what it does under the execution's own key.

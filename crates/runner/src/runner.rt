@@ -377,7 +377,10 @@ impl Runner {
     pub fn dropped(self, now: u64) -> After<()>
         ensures { result ≡ dropped self now }
     {
-        self.note(self.check(true), |runner| runner.detach(now, Cause::Dropped))
+        self.note(
+            self.check(true),
+            |runner| runner.detach(now, Cause::Dropped),
+        )
     }
 
     // Ends the workload, as the session with the peer was reset, and detaches the runner from the peer.
@@ -393,7 +396,10 @@ impl Runner {
     pub fn disconnect(self, now: u64) -> After<()>
         ensures { result ≡ disconnect self now }
     {
-        self.note(self.check(true), |runner| runner.detach(now, Cause::Disconnected))
+        self.note(
+            self.check(true),
+            |runner| runner.detach(now, Cause::Disconnected),
+        )
     }
 
     // Fires the timers whose instants `now` has reached. They are handed a copy, and what they do not move is left in its place, so
