@@ -39,11 +39,7 @@ pub fn seen(notes: bool, outputs: [Output; 3]) -> [Output; 3]
 }
 
 // Each that is open changed alike, given whether Notes is.
-pub fn each<F: Fn(Output) -> Output>(
-    notes: bool,
-    outputs: [Output; 3],
-    change: F,
-) -> [Output; 3]
+pub fn each<F: Fn(Output) -> Output>(notes: bool, outputs: [Output; 3], change: F) -> [Output; 3]
     requires { F.IsAlwaysCallable change }
     ensures { Changes notes (F.post change) outputs result }
 {
