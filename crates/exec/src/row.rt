@@ -16,6 +16,10 @@ pub fn put<T: Copy>(index: usize, item: T, row: [T; 3]) -> [T; 3]
     [
         if index == 0 { item } else { row[0] },
         if index == 1 { item } else { row[1] },
-        if (index == 0) | (index == 1) { row[2] } else { item },
+        if (index == 0) | (index == 1) {
+            row[2]
+        } else {
+            item
+        },
     ]
 }
