@@ -1,4 +1,4 @@
--- The fourth part: Terminal by the fifth message after the late tick.
+-- The fourth part: Terminal by message 3 + the number of streams after the late tick.
 use Rattle.output.specs.Outputs.{notes}
 use Rattle.output.specs.Output.{over as over_output, ended_out}
 use Rattle.std.specs.Prelude.{Option, Result, Some, None, Ok, Err}

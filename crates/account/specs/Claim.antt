@@ -144,7 +144,8 @@ pub record Demand3 (conf : Conf) (now : ℕ) (bytes lengths : List ℕ) : Type 0
   -- an Applied cancel is itself the first of the three events: none had come before it, nor in its own tick
   pub first : (cs : List Call) (t : ℕ) (k : Key) (c : Cause) → answer (after (opened conf now bytes lengths) cs) (cancel t k c) ≡ Applied
       → (tick_a t (account_of conf now bytes lengths cs)).rep.begun ≡ false
-  -- after a cancel Applied at t, Terminal has come by the fifth next_message after a tick at or past t + grace + settlement
+  -- after a cancel Applied at t, Terminal has come by next_message 3 + the number of streams (with two the fifth) after a tick at or past
+  -- t + grace + settlement
   pub late : (cs ds es : List Call) (t n : ℕ) (k : Key) (c : Cause) → answer (after (opened conf now bytes lengths) cs) (cancel t k c) ≡ Applied
       → t + conf.timers.grace + conf.timers.settlement < 2 ^ 64 → t + conf.timers.grace + conf.timers.settlement ≤ n → 3 + streams conf.limits ≤ messages es
       → any_terminal (run (opened conf now bytes lengths) (cs ++ (cancel t k c ∷ (ds ++ (tick n ∷ es))))) ≡ true

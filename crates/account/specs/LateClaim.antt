@@ -52,8 +52,8 @@ tick_of conf memory_bound = None
 tick_of conf buffered = None
 tick_of conf high_water = None
 
--- after a cancel Applied at t, Terminal has come by the fifth message asked for, by call or by record, after an entry whose call
--- ticks at or past t + grace + settlement: a call, or a CLOSE that is read, which disconnects
+-- after a cancel Applied at t, Terminal has come by message 3 + the number of streams asked for, by call or by record, after an entry whose
+-- call ticks at or past t + grace + settlement: a call, or a CLOSE that is read, which disconnects
 abbrev pub LateAny : Conf → ℕ → (bytes lengths : List ℕ) → Type 0
 LateAny conf now bytes lengths =
     (cs ds es : List Entry) (t n : ℕ) (k : Key) (c : Cause) (e : Entry) (ticks : Call)

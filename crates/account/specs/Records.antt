@@ -236,8 +236,8 @@ pub record Whole (conf : Conf) (now : ℕ) (bytes lengths : List ℕ) : Type 0 w
   -- an Applied cancel is itself the first of the three events: none had come before it, nor in its own tick
   pub first : (es : List Entry) (t : ℕ) (k : Key) (c : Cause) → answer_entry (after_entries (opened conf now bytes lengths) es) (call (Call.cancel t k c)) ≡ Call.Applied
       → (tick_a t (entry_account conf now bytes lengths es)).rep.begun ≡ false
-  -- after a cancel Applied at t, Terminal has come by the fifth message asked for, by call or by record, after a tick at or past
-  -- t + grace + settlement; what is refused asks for none
+  -- after a cancel Applied at t, Terminal has come by message 3 + the number of streams (with two the fifth) asked for, by call or by record,
+  -- after a tick at or past t + grace + settlement; what is refused asks for none
   pub late : (cs ds es : List Entry) (t n : ℕ) (k : Key) (c : Cause) → answer_entry (after_entries (opened conf now bytes lengths) cs) (call (Call.cancel t k c)) ≡ Call.Applied
       → t + conf.timers.grace + conf.timers.settlement < 2 ^ 64 → t + conf.timers.grace + conf.timers.settlement ≤ n
       → 3 + streams conf.limits ≤ messages (calls_of conf (run_entries (next_entry (after_entries (next_entry (after_entries (opened conf now bytes lengths) cs) (call (Call.cancel t k c))) ds) (call (Call.tick n))) es))

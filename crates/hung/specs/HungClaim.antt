@@ -1,6 +1,6 @@
 -- A program that hangs: its timeout passes. Where up to a tick at t, at or past the timeout's instant, no exit was reported of it and no call had a time
--- above t, Terminal has come by the fifth message asked for after a tick at or past t + grace + settlement, whatever else was called before, and
--- whatever between the two ticks and after them.
+-- above t, Terminal has come by message 3 + the number of streams (with two the fifth) asked for after a tick at or past t + grace + settlement,
+-- whatever else was called before, and whatever between the two ticks and after them.
 use Rattle.exec.specs.Limits.{streams}
 use Rattle.std.specs.Prelude.{true, ◌≡◌, List, [], ◌∷◌, ◌++◌, ℕ, ◌+◌, ◌^◌, ◌≤◌, ◌<◌, Option, Some}
 use Rattle.exec.specs.declared.Status.{Status}
