@@ -1,68 +1,22 @@
 -- What next_message says in the part of the buffer that it is lent, and what is left of the buffer around it.
-use Rattle.std.specs.Prelude.{Bool, true, false, not, ◌&&◌, List, ◌≡◌, refl, ℕ, ◌+◌, ◌-◌, ◌≤◌, min, ltb, length, take, drop, Option, Result, Some, None, Ok, Err}
-use Rattle.std.proofs.lemmas.Bool.{false≢true}
-use Rattle.std.proofs.Common.{◌∙◌, arith, ltb-true, length-append, length-drop, length-take-le}
+use Rattle.std.specs.Prelude.{true, List, ◌≡◌, refl, ℕ, ◌+◌, ◌-◌, ◌≤◌, min, length, take, drop, Option, Result, Some, None, Ok, Err}
+use Rattle.std.proofs.Common.{◌∙◌, arith, length-append, length-drop, length-take-le}
 use Rattle.exec.specs.declared.Limits.{Limits}
 use Rattle.exec.specs.declared.Refusal.{Refusal}
 use Rattle.exec.specs.declared.Stream.{Stream}
-use Rattle.exec.specs.declared.Stream.TheVariants.{Stdout, Stderr, Notes}
-use Rattle.exec.specs.Limits.{has, has_notes, pool_of}
-use Rattle.inbox.specs.RangeLaws.{both}
-use Rattle.choice.specs.Order.{order}
+use Rattle.exec.specs.Limits.{has, pool_of}
 use Rattle.choice.specs.declared.Choice.{Choice}
 use Rattle.runner.specs.declared.answer.Message.{Message}
 use Rattle.runner.specs.declared.runner.Runner.{Runner}
 use Rattle.runner.specs.Calls as Calls
 use Rattle.runner.specs.Calls.{message_by}
-use Rattle.runner.specs.Life.{awaits_launch}
-use Rattle.runner.specs.Message.{untold, choose, said_for, buffer_after, sendable_of}
-use Rattle.runner.specs.MessageLaws.{pick_if, chosen, open_sends, least, payload_length}
+use Rattle.runner.specs.Message.{choose, said_for, buffer_after, sendable_of}
+use Rattle.runner.specs.MessageLaws.{chosen, names_open, least, payload_length}
 use Rattle.runner.specs.Range.{bytes_do, stop}
 use Rattle.runner.specs.RangeLaws.{is_good_lem}
 use Rattle.runner.specs.State.{out_of, credit_at}
 use Rattle.carrier.specs.Carrier.{part_back, asked, Laying, wrote, wrote_buffer, told}
 use Rattle.carrier.specs.CarrierLaws.{part_kept, part_long, part_beyond}
-
--- ---- an End and an Output are of a stream that is open
-
--- a stream that is not open is over, so that no end of it is to be told
-untold_open : (r : Runner) (x : Stream) → untold r x ≡ true → has r.limits x ≡ true
-untold_open r Stdout e = refl
-untold_open r Stderr e = refl
-untold_open r Notes e = by (has_notes r.limits) refl
-  where
-    by : (b : Bool) → has_notes r.limits ≡ b → b ≡ true
-    by true h = refl
-    by false h = absurd (false≢true (rw h at e))
-
-abbrev NamesOpen : Runner → Choice → Type 0
-NamesOpen r (Choice.End x) = has r.limits x ≡ true
-NamesOpen r (Choice.Output x n) = has r.limits x ≡ true
-NamesOpen r _ = Unit
-
-names_open : (r : Runner) (buffer : ℕ) (c : Choice) → c ≡ choose r buffer → NamesOpen r c
-unfolding choose order
-names_open r buffer c e =
-    let P = NamesOpen r in
-    let known = not (awaits_launch r) in
-    let end : (x : Stream) → (known && untold r x) ≡ true → has r.limits x ≡ true = λ x u. untold_open r x (both known (untold r x) u).1 in
-    let output : (x : Stream) → (known && ltb 0 (sendable_of r buffer x)) ≡ true → has r.limits x ≡ true =
-    λ x s. let n = sendable_of r buffer x in open_sends r buffer x (ltb-true 0 n (both known (ltb 0 n) s).1) in
-    let named : P (choose r buffer) =
-    pick_if P _ _ _ (λ _. tt) (λ _.
-    pick_if P _ _ _ (λ _. pick_if P _ _ _ (λ _. tt) (λ _. tt)) (λ _.
-    pick_if P _ _ _ (λ _. tt) (λ _.
-    pick_if P _ _ _ (λ _. tt) (λ _.
-    pick_if P _ _ _ (λ _. tt) (λ _.
-    pick_if P _ _ _ (end Stdout) (λ _.
-    pick_if P _ _ _ (end Stderr) (λ _.
-    pick_if P _ _ _ (end Notes) (λ _.
-    pick_if P _ _ _ (output _) (λ _.
-    pick_if P _ _ _ (output _) (λ _.
-    pick_if P _ _ _ (output _) (λ _.
-    pick_if P _ _ _ (λ _. tt) (λ _.
-    pick_if P _ _ _ (λ _. tt) (λ _. tt))))))))))))) in
-    rw e named
 
 -- ---- of a runner in range with its stores: an Output and an End are of a stream that is open, an Output is of a chunk at most, and
 -- Credit of the input's window

@@ -1,7 +1,6 @@
 -- The outputs side by side, in the order of Stream::ALL: that of one stream, and what is asked of every one.
 use Rattle.std.specs.Prelude.{ℕ, ◌≡◌, Bool, cond, ◌&&◌, List, [], ◌∷◌, get_or}
 use Rattle.exec.specs.declared.Stream.{Stream}
-use Rattle.exec.specs.declared.Stream.TheVariants.{Stdout, Stderr, Notes}
 use Rattle.exec.specs.Stream.{is_stdout, is_stderr, is_notes, pick, every_stream, any_stream, sum_of_streams}
 use Rattle.output.specs.declared.Output.{Output}
 use Rattle.output.specs.Output.{new_output, over, is_held, is_delivered, output_fits, output_within}

@@ -3,7 +3,7 @@ use Rattle.std.specs.Prelude.{◌≡◌, refl, Bool, true, false, cond, ◌&&◌
 use Rattle.std.proofs.Math.Bool.{not}
 use Prim.Native.Nat.{ℕ, ◌+◌, ◌≤◌, ◌<◌, min}
 use Rattle.std.proofs.Common.{arith, ltb-true, leb-true}
-use Rattle.std.proofs.lemmas.Bool.{not-true}
+use Rattle.std.proofs.lemmas.Bool.{not-true, false≢true}
 use Rattle.std.proofs.Math.Dec.{ltb}
 use Rattle.exec.specs.declared.Stream.{Stream}
 use Rattle.exec.specs.declared.Stream.TheVariants.{Stdout, Stderr, Notes}
@@ -161,6 +161,28 @@ open_sends r buffer Notes h = by (has_notes r.limits) refl
     by false e =
         let z : sendable_of r buffer Notes ≡ 0 = rw e (silent r.limits.output.unit (credit_at (pool_of r.limits Notes) r.credits).available r.limits.chunk buffer) in
         absurd (omega (arith, h, z))
+
+-- ---- a choice names only a stream that is open
+
+-- (of one that is not the End counts as told)
+untold_open : (r : Runner) (x : Stream) → untold r x ≡ true → has r.limits x ≡ true
+untold_open r Stdout e = refl
+untold_open r Stderr e = refl
+untold_open r Notes e = by (has_notes r.limits) refl
+  where
+    by : (b : Bool) → has_notes r.limits ≡ b → b ≡ true
+    by true h = refl
+    by false h = absurd (false≢true (rw h at e))
+
+abbrev pub NamesOpen : Runner → Choice → Type 0
+NamesOpen r (Choice.End x) = has r.limits x ≡ true
+NamesOpen r (Choice.Output x n) = has r.limits x ≡ true
+NamesOpen r _ = Unit
+
+pub names_open : (r : Runner) (buffer : ℕ) (c : Choice) → c ≡ choose r buffer → NamesOpen r c
+names_open r buffer (Choice.End x) e = untold_open r x (shown r buffer (Choice.End x) e).2
+names_open r buffer (Choice.Output x n) e = let c = chosen r buffer x n e in open_sends r buffer x (omega (arith, c.bytes, c.some_bytes))
+names_open r buffer _ e = tt
 
 module _ (r : Runner) (x : Stream) (n : ℕ) (store buffer : List ℕ) (h : InRange r) (need : byte_need r.limits ≤ length store)
     (e : Choice.Output x n ≡ choose r (length buffer)) where

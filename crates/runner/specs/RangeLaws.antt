@@ -8,7 +8,7 @@ use Rattle.exec.specs.declared.Refusal.TheVariants.{Pool, NoLimits, StoreShort, 
 use Rattle.exec.specs.declared.Stream.{Stream}
 use Rattle.exec.specs.declared.Stream.TheVariants.{Stdout, Stderr, Notes}
 use Rattle.exec.specs.Limits.{is_valid}
-use Rattle.exec.specs.Limits.{has, has_notes}
+use Rattle.exec.specs.Limits.{has}
 use Rattle.exec.specs.Stream.{every_stream_lem}
 use Rattle.inbox.specs.Need.{need_fits}
 use Rattle.inbox.specs.Range.{inbox_fits, inbox_within}

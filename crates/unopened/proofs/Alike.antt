@@ -16,13 +16,14 @@ use Rattle.runner.specs.Calls as Calls
 use Rattle.runner.specs.Calls.{calling, noting, stores_do, input_by, output_by, written_by, request_by, message_by}
 use Rattle.runner.specs.Life.{close_runner_input, cancel_answer, launched_next, exited_next, settled_next, detach_next, ticked, deadline_of}
 use Rattle.runner.specs.Message.{choose, wish}
+use Rattle.runner.specs.MessageLaws.{names_open}
 use Rattle.runner.specs.Range.{bytes_do, lengths_do, stop, stop_at}
 use Rattle.runner.specs.RangeLaws.{goes_at}
 use Rattle.runner.specs.State.{at}
 use Rattle.runner.specs.Streams.{input_next, input_answer, input_store, input_lengths, received, end_answer, end_next, read_allowance_of, discarded_next, closed_next, failed_next, hung_up_next, pending_of, written_next, written_came, written_lengths}
 use Rattle.unopened.specs.Alike.{kept, input_kept, output_kept, written_kept, message_kept, Alike}
 use Rattle.unopened.proofs.Blind as Blind
-use Rattle.unopened.proofs.Named.{chosen, wished}
+use Rattle.unopened.proofs.Named.{wished}
 
 module _ (o : Output) (c : Credit) (r : Runner) (h : has_notes r.limits ≡ false) where
   abbrev r′ : Runner
@@ -81,7 +82,7 @@ module _ (o : Output) (c : Credit) (r : Runner) (h : has_notes r.limits ≡ fals
   message_alike : (m : Result (Unit {0}) Refusal) (store buffer : List ℕ) → message_by m r′ store buffer ≡ message_kept like (message_by m r store buffer)
   message_alike (Ok tt) store buffer =
       let m = choose r (length buffer) in
-      rw (Blind.choose_blind o c r h (length buffer), Blind.effect_blind o c r h m (chosen r (length buffer)), Blind.said_blind o c r h m, Blind.buffer_blind o c r h m store buffer) refl
+      rw (Blind.choose_blind o c r h (length buffer), Blind.effect_blind o c r h m (names_open r (length buffer) m refl), Blind.said_blind o c r h m, Blind.buffer_blind o c r h m store buffer) refl
   message_alike (Err z) store buffer = refl
 
   -- ---- answers

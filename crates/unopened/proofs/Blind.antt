@@ -28,12 +28,12 @@ use Rattle.runner.specs.declared.runner.Runner.{Runner}
 use Rattle.runner.specs.Life.{awaits_launch, is_cleaned_up, is_ready, outcome_of, close_runner_input, end_grace, give_up, abandon_launch, abandon_open_streams, begin_termination, pass_grace, terminate, pass_timeout, pass_settlement, give_up_unless_clean, pass_give_up, drop_launch, drop_streams, pass_abandonment, fire, ticked, is_late, cancel_next, note_started, note_launch, launched_next, note_exit, is_over, note_exit_once, timeout_cleared, exited_next, settled_next, silenced, give_up_soon, cut_off, cut_off_once, detach_next}
 use Rattle.runner.specs.Message.{sendable_of, choose, plain, output_paid, output_sent, effect, payload, said_for, buffer_after, wish, wish_effect}
 use Rattle.runner.specs.declared.answer.Request.{Request}
-use Rattle.runner.specs.MessageLaws.{open_sends}
+use Rattle.runner.specs.MessageLaws.{NamesOpen, open_sends}
 use Rattle.runner.specs.Range.{in_range, stop}
 use Rattle.runner.specs.State.{with_clocks, with_life, at, credit_at, put_credit}
 use Rattle.runner.specs.Streams.{credits_in, credit_in, credit_answer, credit_next, output_taken, output_next, output_store, output_took}
 use Rattle.choice.specs.declared.Choice.{Choice}
-use Rattle.unopened.proofs.Named.{Chosen, Wished}
+use Rattle.unopened.proofs.Named.{Wished}
 use Rattle.unopened.specs.Alike.{output_kept}
 use Rattle.unopened.specs.UnopenedClaim.{replaced}
 
@@ -327,7 +327,7 @@ module _ (o : Output) (c : Credit) where
         let b = own_account r.limits x h e in
         rw (account_blind i r.credits b, put_blind i (spent (credit_at i r.credits) (cost r.limits.output.unit n)) r.credits b) refl
 
-    pub effect_blind : (m : Choice) → Chosen r m → effect m (other r) ≡ other (effect m r)
+    pub effect_blind : (m : Choice) → NamesOpen r m → effect m (other r) ≡ other (effect m r)
     unfolding effect output_sent output_paid
     effect_blind (Choice.End x) e = ap plain (at_blind r h x ended_out e)
     effect_blind (Choice.Output x n) e =

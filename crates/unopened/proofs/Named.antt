@@ -1,66 +1,25 @@
 -- A message names only a stream that is open, and so does a request.
-use Rattle.std.specs.Prelude.{ℕ, Bool, true, false, not, ◌&&◌, ◌≡◌, refl, List, ltb, length, Option, Result, Some, None, Ok, Err}
-use Rattle.std.proofs.Common.{ltb-true}
-use Rattle.std.proofs.lemmas.Bool.{false≢true, true≢false}
+use Rattle.std.specs.Prelude.{ℕ, Bool, true, false, ◌≡◌, refl, List, length, Option, Result, Some, None, Ok, Err}
+use Rattle.std.proofs.lemmas.Bool.{true≢false}
 use Rattle.exec.specs.declared.Cause.{Cause}
 use Rattle.exec.specs.declared.Refusal.{Refusal}
 use Rattle.exec.specs.declared.Stream.{Stream}
 use Rattle.exec.specs.declared.Stream.TheVariants.{Stdout, Stderr, Notes}
 use Rattle.exec.specs.Limits.{has, has_notes}
 use Rattle.exec.specs.Outcome.{is_truncated}
-use Rattle.inbox.specs.RangeLaws.{both}
-use Rattle.choice.specs.Order.{order}
 use Rattle.choice.specs.declared.Choice.{Choice}
 use Rattle.runner.specs.declared.answer.Message.{Message}
 use Rattle.runner.specs.declared.answer.Request.{Request}
 use Rattle.runner.specs.declared.runner.Runner.{Runner}
 use Rattle.runner.specs.Calls as Calls
 use Rattle.runner.specs.Calls.{asked_for, message_by, request_by}
-use Rattle.runner.specs.Life.{awaits_launch, outcome_of}
-use Rattle.runner.specs.Message.{sendable_of, untold, choose, said_for, wish_for, wish}
-use Rattle.runner.specs.MessageLaws.{pick_if, open_sends}
+use Rattle.runner.specs.Life.{outcome_of}
+use Rattle.runner.specs.Message.{choose, said_for, wish_for, wish}
+use Rattle.runner.specs.MessageLaws.{NamesOpen, names_open}
 use Rattle.runner.specs.Range.{bytes_do, stop}
 use Rattle.runner.specs.State.{out_of}
 
 -- ---- a message names only a stream that is open
-
--- one that is not open is over, so that its end is not to be told
-untold_open : (r : Runner) (x : Stream) → untold r x ≡ true → has r.limits x ≡ true
-untold_open r Stdout e = refl
-untold_open r Stderr e = refl
-untold_open r Notes e = by (has_notes r.limits) refl
-  where
-    by : (b : Bool) → has_notes r.limits ≡ b → b ≡ true
-    by true h = refl
-    by false h = absurd (false≢true (rw h at e))
-
--- of a choice: the stream that it names is open
-abbrev pub Chosen : Runner → Choice → Type 0
-Chosen r (Choice.End x) = has r.limits x ≡ true
-Chosen r (Choice.Output x n) = has r.limits x ≡ true
-Chosen r _ = Unit
-
-pub chosen : (r : Runner) (buffer : ℕ) → Chosen r (choose r buffer)
-unfolding choose order
-chosen r buffer =
-    let P = Chosen r in
-    let known = not (awaits_launch r) in
-    let end : (x : Stream) → (known && untold r x) ≡ true → has r.limits x ≡ true = λ x e. untold_open r x (both known (untold r x) e).1 in
-    let output : (x : Stream) → (known && ltb 0 (sendable_of r buffer x)) ≡ true → has r.limits x ≡ true =
-    λ x e. let n = sendable_of r buffer x in open_sends r buffer x (ltb-true 0 n (both known (ltb 0 n) e).1) in
-    pick_if P _ _ _ (λ _. tt) (λ _.
-    pick_if P _ _ _ (λ _. pick_if P _ _ _ (λ _. tt) (λ _. tt)) (λ _.
-    pick_if P _ _ _ (λ _. tt) (λ _.
-    pick_if P _ _ _ (λ _. tt) (λ _.
-    pick_if P _ _ _ (λ _. tt) (λ _.
-    pick_if P _ _ _ (end Stdout) (λ _.
-    pick_if P _ _ _ (end Stderr) (λ _.
-    pick_if P _ _ _ (end Notes) (λ _.
-    pick_if P _ _ _ (output _) (λ _.
-    pick_if P _ _ _ (output _) (λ _.
-    pick_if P _ _ _ (output _) (λ _.
-    pick_if P _ _ _ (λ _. tt) (λ _.
-    pick_if P _ _ _ (λ _. tt) (λ _. tt)))))))))))))
 
 -- of an outcome: nothing was lost of a stream that is not open
 uncut : (r : Runner) (x : Stream) → has r.limits x ≡ false → is_truncated (outcome_of r) x ≡ false
@@ -76,7 +35,7 @@ Said r (Ok (Some (Message.Output x n))) = has r.limits x ≡ true
 Said r (Ok (Some (Message.Terminal o))) = (x : Stream) → has r.limits x ≡ false → is_truncated o x ≡ false
 Said r _ = Unit
 
-said_for_lem : (r : Runner) (c : Choice) → Chosen r c → Said r (said_for c r)
+said_for_lem : (r : Runner) (c : Choice) → NamesOpen r c → Said r (said_for c r)
 unfolding said_for
 said_for_lem r (Choice.End x) h = h
 said_for_lem r (Choice.Output x n) h = h
@@ -88,7 +47,7 @@ unfolding Calls.next_message
 said r store buffer = by (stop r (bytes_do r.limits store))
   where
     by : (met : Result (Unit {0}) Refusal) → Said r (message_by met r store buffer).saying.answer
-    by (Ok tt) = said_for_lem r (choose r (length buffer)) (chosen r (length buffer))
+    by (Ok tt) = said_for_lem r (choose r (length buffer)) (names_open r (length buffer) (choose r (length buffer)) refl)
     by (Err z) = tt
 
 -- ---- a request to discard is of a stream that is open
