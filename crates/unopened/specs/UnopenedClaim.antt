@@ -59,7 +59,7 @@ pub record Unopened (r : Runner) (x : Stream) : Type 0 where
       → is_truncated o x ≡ false
   -- no request is to discard it
   pub no_discard : (Calls.next_request r).answer ≡ Ok (Some (Request.Discard x)) → ⊥
-  -- ---- the calls that name it: none is ever Ok
+  -- ---- the calls that name it, credit under the own key of the execution: none is ever Ok
   -- how many bytes may be read of it is refused
   pub read_allowance : Calls.read_allowance r x ≡ Err (refusal (stop r true))
   -- bytes of it are refused, behind a short store, and the store is as it was
