@@ -1,5 +1,5 @@
 -- The numbers of 01's table 'Stops', and of 02's requests.
-use Rattle.std.specs.Prelude.{ℕ, ◌≡◌, refl, Bool, true, false, cond, List, [], ◌∷◌, eqb, Option, Some, None}
+use Rattle.std.specs.Prelude.{ℕ, ◌≡◌, refl, Bool, true, false, cond, List, [], ◌∷◌, eqb, Option, Some, None, codes}
 use Rattle.std.proofs.Common.{arith, eqb-true}
 use Rattle.exec.specs.declared.Refusal.{Refusal}
 use Rattle.exec.specs.declared.Refusal.TheVariants.{Key, Pool, Credit, Chunk, Window, Ended, NoLimits, StoreShort, StateOutOfRange, NotAChannel, BadLength, UnknownKind, OtherChannel, BadType, NotInbound, BufferShort, BadLine, UntoldStatus, BadRequest, NotFramed, BadFrame, PaddedFrame, OutOfOrder, SmallestGrant}
@@ -29,6 +29,33 @@ number BadFrame = 43
 number PaddedFrame = 44
 number OutOfOrder = 45
 number SmallestGrant = 46
+
+-- what a refusal prints
+abbrev pub text : Refusal → List ℕ
+text Key = codes "the key is another execution's"
+text Pool = codes "the limits have no such pool"
+text Credit = codes "no units are granted, or more than are in flight"
+text Chunk = codes "the message is empty or longer than a chunk"
+text Window = codes "the message costs more than is granted"
+text Ended = codes "the input has ended"
+text NoLimits = codes "a chunk or a window is 0"
+text StoreShort = codes "a store is too short"
+text StateOutOfRange = codes "the state is none that the calls reach"
+text NotAChannel = codes "the limits are not a channel's"
+text BadLength = codes "the bytes are not as long as their record"
+text UnknownKind = codes "the kind of the record is unknown"
+text OtherChannel = codes "the record is for another channel"
+text BadType = codes "the type of the extended data is unknown"
+text NotInbound = codes "the record is none that a peer sends"
+text BufferShort = codes "the buffer is too short"
+text BadLine = codes "the line is no call"
+text UntoldStatus = codes "no request tells the status"
+text BadRequest = codes "the request tells no status"
+text NotFramed = codes "the limits or the stream are not those of frames"
+text BadFrame = codes "the frame is none that a peer sends on these streams"
+text PaddedFrame = codes "the frame is padded"
+text OutOfOrder = codes "the message is out of order"
+text SmallestGrant = codes "the smallest grant is 0 or above the input's window"
 
 -- every refusal, in the order of the table
 abbrev pub stops : List Refusal

@@ -3,7 +3,7 @@
 // answers an Err with its Refusal.
 #![tactic(auto)]
 
-ghost use Rattle.std.specs.Prelude.{◌≡◌};
+ghost use Rattle.std.specs.Prelude.{◌≡◌, Some};
 ghost use Rattle.exec.specs.Key.{new_key, admits};
 ghost use Rattle.exec.specs.Stream.{index, is_stdout, is_stderr, is_notes, pick, following, turn_after};
 ghost use Rattle.exec.specs.Limits.{
@@ -32,7 +32,7 @@ ghost use Rattle.exec.specs.Outcome.{
   with_reusable,
   is_truncated,
 };
-ghost use Rattle.exec.specs.Refusal.{number};
+ghost use Rattle.exec.specs.Refusal.{number, text};
 
 use std::error::Error;
 use std::fmt;
@@ -513,6 +513,8 @@ impl Refusal {
 }
 
 impl fmt::Display for Refusal {
+    ghost output = { λ x. Some (text x) };
+
     fn fmt<W: fmt::Write>(&self, f: &mut fmt::Formatter<W>) -> fmt::Result {
         f.write_str(match self {
             Refusal::Key => "the key is another execution's",
