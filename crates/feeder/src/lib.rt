@@ -30,7 +30,8 @@ pub struct Feeder {
 impl Feeder {
     // Before the first line of a card.
     pub fn new() -> Self
-        ensures { result.card ≡ new_card }
+        ensures card { result.card ≡ new_card }
+        ensures sized { (length result.line ≡ 65536) × (length result.store ≡ 65536) × (length result.lengths ≡ 1024) × (length result.out ≡ 262144) }
     {
         Feeder {
             card: Card::new(),
