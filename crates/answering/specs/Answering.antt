@@ -1,6 +1,5 @@
 -- What an answer of the code stands for.
 use Rattle.std.specs.Prelude.{List, ◌≡◌, ℕ, take, false, refl}
-use Rattle.exec.specs.Refusal.{number}
 use Rattle.calls.specs.Call as Call
 use Rattle.account.specs.Step.{message_of, request_of}
 use Rattle.answering.specs.declared.Answer.{Answer}
@@ -14,7 +13,7 @@ answer_is Answer.Ok work = Call.Ok
 answer_is Answer.Applied work = Call.Applied
 answer_is Answer.Stale work = Call.Stale
 answer_is Answer.Late work = Call.Late
-answer_is (Answer.Refused x) work = Call.Refused (number x)
+answer_is (Answer.Refused n) work = Call.Refused n
 answer_is (Answer.Taken n) work = Call.Taken n
 answer_is (Answer.Came n) work = Call.Came n
 answer_is (Answer.Pending n) work = Call.Pending (take n work)

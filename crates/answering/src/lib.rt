@@ -29,8 +29,8 @@ pub enum Answer {
     Applied,
     Stale,
     Late,
-    // (No Err: a refused line is answered as any other, and the session goes on.)
-    Refused(Refusal),
+    // The refusal's number. (No Err: a refused line is answered as any other, and the session goes on.)
+    Refused(u32),
     Taken(usize),
     Came(usize),
     Pending(usize),
@@ -126,7 +126,7 @@ impl<T: IntoAnswer> From<Result<T, Refusal>> for Answer {
     fn from(given: Result<T, Refusal>) -> Self {
         match given {
             Ok(x) => x.into_answer(),
-            Err(x) => Answer::Refused(x),
+            Err(x) => Answer::Refused(x.number()),
         }
     }
 }
@@ -135,13 +135,13 @@ impl<T: IntoAnswer> From<Result<T, Refusal>> for Answer {
 pub fn taken(taken: Result<usize, Refusal>) -> Answer
     ensures { AnswerIs result (λ w. took taken) }
 {
-    taken.map_or_else(Answer::Refused, Answer::Taken)
+    taken.map_or_else(|x| Answer::Refused(x.number()), Answer::Taken)
 }
 
 pub fn came(frames: Result<usize, Refusal>) -> Answer
     ensures { AnswerIs result (λ w. came frames) }
 {
-    frames.map_or_else(Answer::Refused, Answer::Came)
+    frames.map_or_else(|x| Answer::Refused(x.number()), Answer::Came)
 }
 
 // ---- an answer
@@ -184,7 +184,7 @@ fn put_answer(answer: Answer, work: &[u8], out: &mut Text<'_>)
         Answer::Applied => out.alone(b"Applied"),
         Answer::Stale => out.alone(b"Stale"),
         Answer::Late => out.alone(b"Late"),
-        Answer::Refused(x) => out.with(b"refused", x.number()),
+        Answer::Refused(n) => out.with(b"refused", n),
         Answer::Taken(n) => out.with(b"taken", n),
         Answer::Came(n) => out.with(b"ok", n),
         Answer::Pending(n) => out.with_bytes(b"pending", first(work, n)),

@@ -129,7 +129,7 @@ fn pending_input(runner: Runner, store: &[u8], work: &mut [u8]) -> Answer
             copy_in(work, 0, pending, 0, n);
             Answer::Pending(n)
         }
-        Err(refusal) => Answer::Refused(refusal),
+        Err(refusal) => Answer::Refused(refusal.number()),
     }
 }
 

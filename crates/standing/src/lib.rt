@@ -59,7 +59,7 @@ impl Standing {
         ensures { AnswersAny (bad_at stage) self.old self.new result }
     {
         self.stage = stage;
-        Answer::Refused(Refusal::BadLine)
+        Answer::Refused(Refusal::BadLine.number())
     }
 
     // ---- the first line
@@ -80,7 +80,7 @@ impl Standing {
             }
             Err(refusal) => {
                 self.stage = Stage::Over;
-                Answer::Refused(refusal)
+                Answer::Refused(refusal.number())
             }
         }
     }
