@@ -3,6 +3,7 @@
 #![tactic(auto)]
 
 ghost use Rattle.std.specs.Prelude.{◌≤◌, ◌<◌, IfOk, length};
+ghost use Rattle.std.specs.Option.{ForSome};
 
 use feeder::Feeder;
 use std::io;
@@ -21,21 +22,36 @@ fn cut(text: &[u8]) -> (&[u8], &[u8])
     }
 }
 
-// The cards of a text, one after the other. What stands behind the last line of dashes is a card too.
-fn answer_all<W: Write>(text: &[u8], feeder: &mut Feeder, to: &mut W) -> io::Result<()> {
+// The first card of a text, and what stands behind the line of dashes that ends it, if one does.
+fn first_card(text: &[u8]) -> (&[u8], Option<&[u8]>)
+    ensures { ForSome result.1 (λ behind. length behind.now < length text.now) }
+{
     let mut rest = text;
     // (No `for`: a turn takes a line off the text, with its end.)
     while !rest.is_empty() {
         let (next, behind) = cut(rest);
         if next == END {
-            feeder.end(to)?;
-            to.write_all(END)?;
-        } else {
-            feeder.feed(next, to)?;
+            return (&text[..text.len() - rest.len()], Some(behind));
         }
         rest = behind;
     }
-    feeder.end(to)
+    (text, None)
+}
+
+// The cards of a text, one after the other. What stands behind the last line of dashes is a card too. (A card is fed in one piece, as each
+// piece clears an area and is a write at least; and at one place, as `feed` is then a part of this and has no stack of its own.)
+fn answer_all<W: Write>(text: &[u8], feeder: &mut Feeder, to: &mut W) -> io::Result<()> {
+    let mut rest = text;
+    loop {
+        let (card, behind) = first_card(rest);
+        feeder.feed(card, to)?;
+        feeder.end(to)?;
+        let Some(behind) = behind else {
+            return Ok(());
+        };
+        to.write_all(END)?;
+        rest = behind;
+    }
 }
 
 // Reads up to the end of the input or of the area, and says how many bytes came.
