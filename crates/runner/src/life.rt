@@ -1,6 +1,8 @@
 // The runner in time: terminations, the timers and what they do, launch, exit and settlement. A step that is taken only at times
 // tests that by an `if` of its own: it is the plainest form, and each step has a definition to stand beside.
-ghost use Rattle.std.specs.Prelude.{◌≡◌};
+ghost use Rattle.std.specs.Prelude.{◌≡◌, true};
+ghost use Rattle.runner.specs.Calls.{noting};
+ghost use Rattle.runner.specs.Range.{stop};
 ghost use Rattle.runner.specs.Life.{
   awaits_launch,
   is_cleaned_up,
@@ -401,6 +403,24 @@ impl Runner {
     {
         let r = self.ticked(now);
         r.cut_off_once(now, cause)
+    }
+
+    // The same as a call. (No closure is told it: `detach` stands alone, and the runner would be copied once more on the way there and back.)
+    #[tactic(auto, using(crate::proofs::Guards::tested_stop))]
+    #[inline(always)]
+    pub(crate) fn detached(self, now: u64, cause: Cause) -> After<()>
+        ensures { result ≡ noting (stop self true) (detach_next self now cause) self }
+    {
+        if self.agrees(true) & self.stands() {
+            return After {
+                runner: self.detach(now, cause),
+                answer: Ok(()),
+            };
+        }
+        After {
+            runner: self,
+            answer: Err(self.stopped()),
+        }
     }
 
     #[tactic(auto, unfolding(crate::specs::Life::cut_off_once))]
